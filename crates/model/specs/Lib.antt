@@ -1,0 +1,11 @@
+pub mod Answer
+pub mod Card
+pub mod Writer
+pub mod Strips
+pub mod Transitions
+pub mod Spaces
+pub mod Extension
+pub mod Lines
+pub mod Text
+pub mod Calls
+pub mod Truth

@@ -1,0 +1,180 @@
+-- Document 01, "Listing": the lines of each section.
+use Prim.Native.Nat.{ℕ, zero, suc, _+_, _*_, max}
+use mathlib.Core.Bool.{Bool, true, false, cond, not, _&&_, _||_}
+use mathlib.Core.List.{List, [], _∷_, _++_, map, flatMap, foldl}
+use lib.Dec.{leb, ltb, eqb}
+use lib.ListN.{length, getD, take}
+use Rattle.laws.specs.Lists.{any, all, keep, count, upTo, sum, member}
+use Rattle.laws.specs.Bags.{Bag, contains, strictlyContains, restrict, support}
+use Rattle.model.specs.Card.{Atom, Schema, Task}
+use Rattle.model.specs.Transitions
+use Rattle.model.specs.Transitions.{Property, Transition, bagOf}
+use Rattle.model.specs.Spaces.{Space, Kind, static, attribute, property, mixed, wide, condition, kindOf, hasMember, spaces}
+use Rattle.model.specs.Extension
+use Rattle.model.specs.Extension.{Move, Outcome, adjoin, extend, joined}
+
+-- A line of the listing; its letter in document 01 stands behind it.
+pub data Line : Type 0 where
+  space : ℕ → Kind → List ℕ → List ℕ → Line  -- S: number, kind, properties, members
+  state : Bag → Line  -- T: counts of one condition by property
+  limit : ℕ → ℕ → Line  -- M: property, most
+  membership : ℕ → Line  -- D: index of a condition
+  exclusion : ℕ → ℕ → Line  -- X: two D indices
+  total : ℕ → ℕ → Line  -- F: predicate, total
+  ceiling : ℕ → ℕ → Line  -- C: predicate, most facts
+  types : ℕ → ℕ → List ℕ → Line  -- R: schema, parameter, objects
+
+-- the rules of a space over its own properties
+unfoldable pub movesOf : Space → List Move
+movesOf s =
+    map
+    (λ r. record { start = restrict (s .properties) (r .start); finish = restrict (s .properties) (r .finish) })
+    (s .rules)
+
+-- the distinct initial conditions of the members, in object order
+unfoldable pub initialConditions : Task → Space → List Bag
+initialConditions t s = foldl adjoin [] (map (condition t (s .properties) (t .facts)) (s .members))
+
+-- how a property space is listed: P if its extension ends neither way, with the own lists joined
+unfoldable pub kindFor : Outcome → Kind
+kindFor Outcome.neither = property
+kindFor Outcome.mixed = mixed
+kindFor Outcome.wide = wide
+
+-- A space with its kind and the conditions that are listed for it.
+pub record Analysis : Type 0 where
+  pub space : Space
+  pub kind : Kind
+  pub conditions : List Bag
+
+unfoldable pub conditionsFor : Outcome → List (List Bag) → List Bag
+conditionsFor Outcome.neither lists = joined lists
+conditionsFor Outcome.mixed lists = []
+conditionsFor Outcome.wide lists = []
+
+unfoldable pub analysePropertySpace : Task → Space → Analysis
+analysePropertySpace t s =
+    let e = extend (movesOf s) (initialConditions t s) in
+    record { space = s; kind = kindFor (e .outcome); conditions = conditionsFor (e .outcome) (e .lists) }
+
+unfoldable pub analyseAs : Kind → Task → Space → Analysis
+analyseAs static t s = record { space = s; kind = static; conditions = [] }
+analyseAs attribute t s = record { space = s; kind = attribute; conditions = [] }
+analyseAs property t s = analysePropertySpace t s
+analyseAs mixed t s = analysePropertySpace t s
+analyseAs wide t s = analysePropertySpace t s
+
+unfoldable pub analyse : Task → Space → Analysis
+analyse t s = analyseAs (kindOf (s .rules)) t s
+
+unfoldable pub analysis : Task → List Analysis
+analysis t = map (analyse t) (spaces t)
+
+-- the count of property c in a condition over these properties
+unfoldable pub countOf : List ℕ → ℕ → Bag → ℕ
+countOf [] c b = 0
+countOf (d ∷ ds) c [] = 0
+countOf (d ∷ ds) c (n ∷ b) = cond (eqb c d) n (countOf ds c b)
+
+-- the largest number of a list, 0 for none
+unfoldable pub largest : List ℕ → ℕ
+largest [] = 0
+largest (n ∷ ns) = max n (largest ns)
+
+-- the arity of the predicate of property c
+unfoldable pub arityOf : Task → ℕ → ℕ
+arityOf t c = getD (t .arities) (getD (Transitions.properties t) c (record { predicate = 0; position = 0 }) .predicate) 0
+
+-- M: for each property of arity 2 or 3, the largest count over the conditions. A space without a condition has no such line
+unfoldable pub limits : Task → List ℕ → List Bag → List Line
+limits t properties [] = []
+limits t properties (b ∷ bags) =
+    map
+    (λ c. limit c (largest (map (countOf properties c) (b ∷ bags))))
+    (keep (λ c. leb 2 (arityOf t c)) properties)
+
+-- the indices of the conditions that strictly contain no other
+unfoldable pub minimal : List Bag → List ℕ
+minimal bags = keep (λ i. not (any (strictlyContains (getD bags i [])) bags)) (upTo (length bags))
+
+-- no condition contains both
+unfoldable pub excluded : List Bag → ℕ → ℕ → Bool
+excluded bags i j = not (any (λ b. contains b (getD bags i []) && contains b (getD bags j [])) bags)
+
+-- X: two D indices, ascending
+unfoldable pub exclusions : List Bag → List ℕ → List Line
+exclusions bags [] = []
+exclusions bags (i ∷ later) = map (exclusion i) (keep (excluded bags i) later) ++ exclusions bags later
+
+-- the section of a space: S and, for P, all T, all M, all D, all X
+unfoldable pub spaceLines : Task → ℕ → Analysis → List Line
+spaceLines t n a =
+    space n (a .kind) (a .space .properties) (a .space .members)
+    ∷ (map state (a .conditions) ++ limits t (a .space .properties) (a .conditions)
+    ++ map membership (minimal (a .conditions)) ++ exclusions (a .conditions) (minimal (a .conditions)))
+
+unfoldable pub spaceSections : Task → ℕ → List Analysis → List (List Line)
+spaceSections t n [] = []
+spaceSections t n (a ∷ analyses) = spaceLines t n a ∷ spaceSections t (suc n) analyses
+
+-- the number of the property of predicate p at position i
+unfoldable pub propertyNumber : Task → ℕ → ℕ → ℕ
+propertyNumber t p i = sum (take p (t .arities)) + i
+
+-- the one number that a list consists of, if it has one
+unfoldable pub oneNumber : List ℕ → List ℕ
+oneNumber [] = []
+oneNumber (n ∷ ns) = cond (all (eqb n) ns) (n ∷ []) []
+
+-- the totals that property c gives: where all conditions of its space have one count n, n times the number of members
+unfoldable pub totalsBy : List Analysis → ℕ → List ℕ
+totalsBy analyses c =
+    flatMap
+    (λ a. map (λ n. n * length (a .space .members)) (oneNumber (map (countOf (a .space .properties) c) (a .conditions))))
+    (keep (λ a. member c (a .space .properties)) analyses)
+
+-- F: predicate, total, from the lowest position that gives one
+unfoldable pub totals : Task → List Analysis → ℕ → List Line
+totals t analyses p =
+    map (total p) (take 1 (flatMap (λ i. totalsBy analyses (propertyNumber t p i)) (upTo (getD (t .arities) p 0))))
+
+-- the number of atoms of a predicate
+unfoldable pub ofPredicate : ℕ → List Atom → ℕ
+ofPredicate p atoms = count (λ a. eqb p (a .predicate)) atoms
+
+-- C: predicate, initial number of facts, if in every schema adds of it are at most deletes
+unfoldable pub ceilings : Task → ℕ → List Line
+ceilings t p =
+    cond
+    (all (λ s. leb (ofPredicate p (s .adds)) (ofPredicate p (s .deletes))) (t .schemas))
+    (ceiling p (ofPredicate p (t .facts)) ∷ [])
+    []
+
+-- R: the objects in every space of the parameter's precondition properties
+unfoldable pub typesOf : Task → List Space → ℕ → Schema → ℕ → Line
+typesOf t spaces n s k =
+    types n k
+    (keep (λ o. all (hasMember spaces o) (support (bagOf (Transitions.properties t) (s .preconditions) k))) (upTo (t .objects)))
+
+unfoldable pub typeLines : Task → List Space → ℕ → List Schema → List Line
+typeLines t spaces n [] = []
+typeLines t spaces n (s ∷ schemas) =
+    map (typesOf t spaces n s) (upTo (s .parameters)) ++ typeLines t spaces (suc n) schemas
+
+-- the closing section: all F, all C, all R
+unfoldable pub closingLines : Task → List Analysis → List Line
+closingLines t analyses =
+    flatMap (totals t analyses) (upTo (length (t .arities))) ++ flatMap (ceilings t) (upTo (length (t .arities)))
+    ++ typeLines t (map (λ a. a .space) analyses) 0 (t .schemas)
+
+-- one section per space, in order, then the closing section
+unfoldable pub sections : Task → List (List Line)
+sections t = let analyses = analysis t in spaceSections t 0 analyses ++ (closingLines t analyses ∷ [])
+
+-- opens every definition of this module, for what is proved by computation
+unfoldable pub lines-open : Unit {0}
+unfolding
+    movesOf initialConditions kindFor conditionsFor analysePropertySpace analyseAs analyse analysis countOf largest arityOf
+    limits minimal excluded exclusions spaceLines spaceSections propertyNumber oneNumber totalsBy totals ofPredicate ceilings
+    typesOf typeLines closingLines sections
+lines-open = tt

@@ -1,0 +1,95 @@
+-- Demand 3, in document 01's words: what "listed" and "true of a state" mean.
+--
+-- Let C be an accepted card and S the state after any history of presses on C. Each member of a property space listed as P has in S
+-- a condition that the listing gives for that space. An object outside a space has none of that space's properties. Every limit,
+-- membership, exclusion, fixed total and ceiling listed for C is true of S. A press that S allows puts into each role an object
+-- listed for that role.
+--
+-- `Holds t S` says this of a task t and a state S, over the lines of the sections whose text the listing call writes
+-- (`Calls.section`). That it is so after every history is the theorem `listing-holds` of proofs/ListingHolds.antt.
+use Prim.Native.Nat.{ℕ, suc, _≤_, _<_}
+use mathlib.Core.Path.{_≡_}
+use mathlib.Core.Bool.{Bool, true, false, _&&_}
+use mathlib.Core.List.{List, [], _∷_, List·Memᴰ}
+use lib.ListN.{length, getD}
+use Rattle.laws.specs.Lists.{member}
+use Rattle.laws.specs.Bags.{Bag, contains, isEmpty}
+use Rattle.model.specs.Answer.{Answer, accepted}
+use Rattle.model.specs.Card.{Task}
+use Rattle.model.specs.Strips.{State, Action, schemaAt, checkAction, applicable}
+use Rattle.model.specs.Transitions
+use Rattle.model.specs.Transitions.{bagOf}
+use Rattle.model.specs.Spaces.{Kind, property, condition}
+use Rattle.model.specs.Lines.{Line, space, state, limit, membership, exclusion, total, ceiling, types, ofPredicate, sections}
+
+-- a line stands in a section, a section in the listing of a task
+infix 5 _isOn_
+abbrev pub _isOn_ : Line → List Line → Type 0
+line isOn lines = List·Memᴰ line lines
+
+infix 5 _isSectionOf_
+abbrev pub _isSectionOf_ : List Line → Task → Type 0
+lines isSectionOf t = List·Memᴰ lines (sections t)
+
+-- the conditions that a section gives: the counts of its T lines, in order
+unfoldable pub statesOf : List Line → List Bag
+statesOf [] = []
+statesOf (space n kind properties members ∷ lines) = statesOf lines
+statesOf (state counts ∷ lines) = counts ∷ statesOf lines
+statesOf (limit c most ∷ lines) = statesOf lines
+statesOf (membership i ∷ lines) = statesOf lines
+statesOf (exclusion i j ∷ lines) = statesOf lines
+statesOf (total p n ∷ lines) = statesOf lines
+statesOf (ceiling p n ∷ lines) = statesOf lines
+statesOf (types n k objects ∷ lines) = statesOf lines
+
+-- an object's count for property c in a state
+unfoldable pub countIn : Task → State → ℕ → ℕ → ℕ
+countIn t s o c = getD (bagOf (Transitions.properties t) s o) c 0
+
+-- the state allows an action: it names a schema and as many different known objects as roles, and every precondition holds.
+-- It counts whether or not 20 then refuses it
+pub record Allowed (t : Task) (s : State) (a : Action) : Type 0 where
+  pub named : checkAction t a ≡ accepted tt
+  pub holds : applicable (schemaAt t (a .schema)) (a .objects) s ≡ true
+
+pub record Holds (t : Task) (s : State) : Type 0 where
+  -- each member of a space listed as P has a condition that the listing gives for that space
+  pub state-listed :
+      (lines : List Line) (n : ℕ) (properties members : List ℕ) (o : ℕ) → lines isSectionOf t
+      → space n property properties members isOn lines → member o members ≡ true
+      → state (condition t properties s o) isOn lines
+  -- an object outside a space, of whatever kind, has none of that space's properties
+  pub outside :
+      (lines : List Line) (n : ℕ) (kind : Kind) (properties members : List ℕ) (o c : ℕ) → lines isSectionOf t
+      → space n kind properties members isOn lines → member o members ≡ false → member c properties ≡ true
+      → countIn t s o c ≡ 0
+  -- no object's count for an M property is above its most
+  pub limit-true :
+      (lines : List Line) (c most o : ℕ) → lines isSectionOf t → limit c most isOn lines → countIn t s o c ≤ most
+  -- the condition of each member of a P space contains one of that space's D conditions
+  pub membership-true :
+      (lines : List Line) (n : ℕ) (properties members : List ℕ) (o : ℕ) → lines isSectionOf t
+      → space n property properties members isOn lines → member o members ≡ true
+      → (i : ℕ) × (membership i isOn lines)
+      × (contains (condition t properties s o) (getD (statesOf lines) i []) ≡ true)
+  -- no member's condition contains both of an X
+  pub exclusion-true :
+      (lines : List Line) (n : ℕ) (kind : Kind) (properties members : List ℕ) (o i j : ℕ) → lines isSectionOf t
+      → space n kind properties members isOn lines → member o members ≡ true → exclusion i j isOn lines
+      → (contains (condition t properties s o) (getD (statesOf lines) i [])
+      && contains (condition t properties s o) (getD (statesOf lines) j []))
+      ≡ false
+  -- an F total is the predicate's number of facts
+  pub total-true : (lines : List Line) (p n : ℕ) → lines isSectionOf t → total p n isOn lines → ofPredicate p s ≡ n
+  -- a C number is at least that
+  pub ceiling-true :
+      (lines : List Line) (p n : ℕ) → lines isSectionOf t → ceiling p n isOn lines → ofPredicate p s ≤ n
+  -- an allowed action has in each role an object on that role's R line
+  pub types-true :
+      (lines : List Line) (n k : ℕ) (objects : List ℕ) (a : Action) → lines isSectionOf t → types n k objects isOn lines
+      → Allowed t s a → a .schema ≡ n → member (getD (a .objects) k 0) objects ≡ true
+  -- and each role has an R line
+  pub types-listed :
+      (a : Action) (k : ℕ) → Allowed t s a → k < length (a .objects)
+      → (lines : List Line) × (objects : List ℕ) × (lines isSectionOf t) × (types (a .schema) k objects isOn lines)
