@@ -1,0 +1,75 @@
+// A planning task as a card describes it, and the reader's refusals. What each stands for is in specs/Represents.antt.
+
+// A predicate with up to three arguments; those past the predicate's arity are no part of it.
+pub struct Atom {
+    pub predicate: u8,
+    pub first: u8,
+    pub second: u8,
+    pub third: u8,
+}
+
+// Each list has its count beside it; entries past the count are no part of the list.
+pub struct AtomList {
+    pub count: usize,
+    pub atoms: [Atom; 8],
+}
+
+pub struct ArityList {
+    pub count: usize,
+    pub arities: [u8; 20],
+}
+
+pub struct SchemaList {
+    pub count: usize,
+    pub schemas: [Schema; 32],
+}
+
+pub struct FactList {
+    pub count: usize,
+    pub facts: [Atom; 512],
+}
+
+// An action schema.
+pub struct Schema {
+    pub parameters: usize,
+    pub preconditions: AtomList,
+    pub deletes: AtomList,
+    pub adds: AtomList,
+}
+
+// A task (document 01: a table).
+pub struct Task {
+    pub predicates: ArityList,
+    pub objects: usize,
+    pub schemas: SchemaList,
+    pub facts: FactList,
+}
+
+// Why a card or a table is refused: document 01's 1 to 14, in order.
+pub enum Refusal {
+    CardEnds,
+    PredicateRange,
+    ObjectRange,
+    SchemaRange,
+    HeaderRange,
+    ListRange,
+    AtomUnknown,
+    AtomOrder,
+    DeleteNotPrecondition,
+    AddIsPrecondition,
+    FactRange,
+    FactUnknown,
+    FactOrder,
+    BytesFollow,
+}
+
+// What reading a card answers: the verdict, and the task beside it, since an enum holds no array. Beside a refusal the task is blank.
+pub enum Verdict {
+    Accepted,
+    Refused(Refusal),
+}
+
+pub struct Decoded {
+    pub verdict: Verdict,
+    pub task: Task,
+}
