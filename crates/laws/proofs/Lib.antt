@@ -1,0 +1,7 @@
+pub mod Tests
+pub mod Lists
+pub mod Bags
+pub mod Counting
+pub mod Groups
+pub mod Orders
+pub mod Reading

@@ -1,0 +1,15 @@
+pub mod Vectors
+pub mod Valid
+pub mod Order
+pub mod Window
+pub mod Buffer
+pub mod RoundTrip
+pub mod Grouping
+pub mod Closing
+pub mod SpaceFacts
+pub mod Effect
+pub mod Choices
+pub mod OwnLists
+pub mod Chain
+pub mod Invariant
+pub mod ListingHolds
