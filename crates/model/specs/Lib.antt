@@ -9,3 +9,4 @@ pub mod Lines
 pub mod Text
 pub mod Calls
 pub mod Truth
+pub mod Vectors
