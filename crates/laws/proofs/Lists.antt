@@ -7,7 +7,7 @@ use mathlib.Core.Bool.{Bool, true, false, cond, not, _&&_, _||_}
 use mathlib.Core.Logic.{_⊎_, inl, inr, ⊎-elim}
 use mathlib.Core.List.{List, [], _∷_, _++_, map, flatMap, foldl, List·Memᴰ, List·Memᴰ·head, List·Memᴰ·tail, List·Memᴰ·cases-cons, List·Memᴰ·not-nil, List·Memᴰ·append-cases, Memᴰ·append-left, Memᴰ·append-right, append-assoc}
 use lib.Dec.{eqb, ltb, leb}
-use lib.ListN.{length, getD}
+use lib.ListN.{length, getD, take}
 use borrow.Author.Tests.{eqb-true, eqb-false, eq-eqb, ne-eqb, ltb-true, ltb-false, lt-ltb, le-ltb}
 use Rattle.laws.specs.Lists.{any, all, keep, count, from, upTo, sum, member, distinct, same, before, standsAt}
 use Rattle.laws.proofs.Tests.{never, and-left, and-right, and-intro, or-cases, or-left, or-right, by-test}
@@ -139,6 +139,13 @@ module _ {A : Type 0} where
       ⊎-elim (λ p. (0, suc-le-suc zero-le, sym p))
       (λ k. let r = place-of ys x d k in (suc (r .0), suc-le-suc (r .1), r .2))
       (List·Memᴰ·cases-cons m)
+
+  -- a member of a front part is a member
+  pub mem-take : (n : ℕ) (xs : List A) (x : A) → List·Memᴰ x (take n xs) → List·Memᴰ x xs
+  mem-take zero xs x m = absurd (List·Memᴰ·not-nil m)
+  mem-take (suc n) [] x m = absurd (List·Memᴰ·not-nil m)
+  mem-take (suc n) (y ∷ ys) x m =
+      ⊎-elim List·Memᴰ·head (λ k. List·Memᴰ·tail (mem-take n ys x k)) (List·Memᴰ·cases-cons m)
 
 module _ {A B : Type 0} where
   -- members of a list made element by element

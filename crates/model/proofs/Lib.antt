@@ -11,5 +11,7 @@ pub mod Effect
 pub mod Choices
 pub mod OwnLists
 pub mod Chain
+pub mod Sections
+pub mod Totals
 pub mod Invariant
 pub mod ListingHolds

@@ -1,0 +1,545 @@
+-- The lines of a section: which lines stand in the section of a space, and which in the closing section.
+use Prim.Native.Nat.{ℕ, zero, suc, _+_, _*_, _≤_, _<_, zero-le, suc-le-suc}
+use native.Mathlib.Nat.{zero-add, add-zero, not-suc-le-zero, le-of-suc-le-suc}
+use native.Mathlib.Omega.{arith}
+use mathlib.Core.Path.{_≡_, refl, sym, ap, _∙_, subst}
+use mathlib.Core.Bool.{Bool, true, false, cond, not}
+use mathlib.Core.Logic.{_⊎_, inl, inr, ⊎-elim}
+use mathlib.Core.List.{List, [], _∷_, _++_, map, flatMap, List·Memᴰ, List·Memᴰ·head, List·Memᴰ·tail, List·Memᴰ·cases-cons, List·Memᴰ·not-nil, List·Memᴰ·append-cases, List·Memᴰ·eq-of-singleton, Memᴰ·append-left, Memᴰ·append-right, Memᴰ·map, Memᴰ·of-map, append-nil}
+use lib.Dec.{leb, eqb}
+use lib.ListN.{length, getD, take}
+use borrow.Author.Tests.{eq-eqb}
+use Rattle.laws.specs.Lists.{all, keep, upTo, member}
+use Rattle.laws.specs.Bags.{Bag, support}
+use Rattle.laws.proofs.Tests.{never, by-test}
+use Rattle.laws.proofs.Lists.{keep-at, flatMap-at, upTo-at, upTo-intro, mem-take}
+use Rattle.model.specs.Card.{Task, Schema}
+use Rattle.model.specs.Strips.{schemaAt}
+use Rattle.model.specs.Transitions
+use Rattle.model.specs.Transitions.{bagOf}
+use Rattle.model.specs.Spaces.{Space, Kind, property, hasMember, spaces}
+use Rattle.model.specs.Lines.{Line, space, state, limit, membership, exclusion, total, ceiling, types, Analysis, analysis, countOf, largest, arityOf, limits, minimal, excluded, exclusions, spaceLines, spaceSections, propertyNumber, oneNumber, totalsBy, totals, ofPredicate, ceilings, typesOf, typeLines, closingLines, sections}
+use Rattle.model.specs.Truth.{_isOn_, _isSectionOf_, statesOf}
+
+-- a line of the section of a space
+data SpaceLine (t : Task) (n : ℕ) (a : Analysis) (line : Line) : Type 0 where
+  is-space : line ≡ space n (a .kind) (a .space .properties) (a .space .members) → SpaceLine t n a line
+  is-state : (b : Bag) → List·Memᴰ b (a .conditions) → line ≡ state b → SpaceLine t n a line
+  is-limit : List·Memᴰ line (limits t (a .space .properties) (a .conditions)) → SpaceLine t n a line
+  is-membership : (i : ℕ) → List·Memᴰ i (minimal (a .conditions)) → line ≡ membership i → SpaceLine t n a line
+  is-exclusion : List·Memᴰ line (exclusions (a .conditions) (minimal (a .conditions))) → SpaceLine t n a line
+
+space-line : (t : Task) (n : ℕ) (a : Analysis) (line : Line) → List·Memᴰ line (spaceLines t n a) → SpaceLine t n a line
+unfolding spaceLines
+space-line t n a line m =
+    ⊎-elim is-space
+    (λ rest.
+    ⊎-elim
+    (λ front.
+    ⊎-elim
+    (λ first.
+    ⊎-elim
+    (λ states. let r = Memᴰ·of-map state (a .conditions) states in is-state (r .0) (r .1) (sym (r .2)))
+    is-limit
+    (List·Memᴰ·append-cases (map state (a .conditions)) first))
+    (λ last. let r = Memᴰ·of-map membership (minimal (a .conditions)) last in is-membership (r .0) (r .1) (sym (r .2)))
+    (List·Memᴰ·append-cases (map state (a .conditions) ++ limits t (a .space .properties) (a .conditions)) front))
+    is-exclusion
+    (List·Memᴰ·append-cases
+    (map state (a .conditions) ++ limits t (a .space .properties) (a .conditions) ++ map membership (minimal (a .conditions)))
+    rest))
+    (List·Memᴰ·cases-cons m)
+
+-- an M line gives a property of the space and the largest of its counts
+pub limit-line : (t : Task) (properties : List ℕ) (bags : List Bag) (line : Line) → List·Memᴰ line (limits t properties bags)
+    → (c : ℕ) × List·Memᴰ c properties × (line ≡ limit c (largest (map (countOf properties c) bags)))
+unfolding limits
+limit-line t properties [] line m = absurd (List·Memᴰ·not-nil m)
+limit-line t properties (b ∷ bags) line m =
+    let r =
+    Memᴰ·of-map (λ c. limit c (largest (map (countOf properties c) (b ∷ bags))))
+    (keep _ properties)
+    m in
+    (r .0, keep-at _ properties (r .0) (r .1) .0, sym (r .2))
+
+-- and it stands only where a condition is listed
+limit-needs : (t : Task) (properties : List ℕ) (bags : List Bag) (line : Line) → List·Memᴰ line (limits t properties bags)
+    → (b : Bag) × List·Memᴰ b bags
+unfolding limits
+limit-needs t properties [] line m = absurd (List·Memᴰ·not-nil m)
+limit-needs t properties (b ∷ bags) line m = (b, List·Memᴰ·head refl)
+
+-- an X line gives two conditions that no condition contains both of
+pub exclusion-line : (bags : List Bag) (indices : List ℕ) (line : Line) → List·Memᴰ line (exclusions bags indices)
+    → (i : ℕ) × (j : ℕ) × (excluded bags i j ≡ true) × (line ≡ exclusion i j)
+unfolding exclusions
+exclusion-line bags [] line m = absurd (List·Memᴰ·not-nil m)
+exclusion-line bags (i ∷ later) line m =
+    ⊎-elim
+    (λ now.
+    let r = Memᴰ·of-map (exclusion i) (keep (excluded bags i) later) now in
+    (i, r .0, keep-at (excluded bags i) later (r .0) (r .1) .1, sym (r .2)))
+    (λ rest. exclusion-line bags later line rest)
+    (List·Memᴰ·append-cases (map (exclusion i) (keep (excluded bags i) later)) m)
+
+-- how an F line comes about: at a position of the predicate, all conditions of the property's space have one count
+pub record TotalLine (t : Task) (p n : ℕ) : Type 0 where
+  pub predicate-known : p < length (t .arities)
+  pub position : ℕ
+  pub position-known : position < getD (t .arities) p 0
+  pub of : Analysis
+  pub of-listed : List·Memᴰ of (analysis t)
+  pub in-space : member (propertyNumber t p position) (of .space .properties) ≡ true
+  pub each : ℕ
+  pub one-number :
+      List·Memᴰ each (oneNumber (map (countOf (of .space .properties) (propertyNumber t p position)) (of .conditions)))
+  pub amount : n ≡ each * length (of .space .members)
+
+total-by : (t : Task) (p n i : ℕ) → p < length (t .arities) → i < getD (t .arities) p 0
+    → List·Memᴰ n (totalsBy (analysis t) (propertyNumber t p i)) → TotalLine t p n
+unfolding totalsBy
+total-by t p n i hp hi m =
+    let r = flatMap-at _ (keep (λ a. member (propertyNumber t p i) (a .space .properties)) (analysis t)) n m in
+    let k = keep-at (λ a. member (propertyNumber t p i) (a .space .properties)) (analysis t) (r .0) (r .1) in
+    let e = Memᴰ·of-map (λ each. each * length (r .0 .space .members)) _ (r .2) in
+    record {
+      predicate-known = hp;
+      position = i;
+      position-known = hi;
+      of = r .0;
+      of-listed = k .0;
+      in-space = k .1;
+      each = e .0;
+      one-number = e .1;
+      amount = sym (e .2);
+    }
+
+total-line : (t : Task) (p : ℕ) (line : Line) → p < length (t .arities) → List·Memᴰ line (totals t (analysis t) p)
+    → (n : ℕ) × TotalLine t p n × (line ≡ total p n)
+unfolding totals
+total-line t p line h m =
+    let r = Memᴰ·of-map (total p) (take 1 (flatMap (λ i. totalsBy (analysis t) (propertyNumber t p i)) (upTo (getD (t .arities) p 0)))) m in
+    let k = mem-take 1 (flatMap (λ i. totalsBy (analysis t) (propertyNumber t p i)) (upTo (getD (t .arities) p 0))) (r .0) (r .1) in
+    let f = flatMap-at (λ i. totalsBy (analysis t) (propertyNumber t p i)) (upTo (getD (t .arities) p 0)) (r .0) k in
+    (r .0, total-by t p (r .0) (f .0) h (upTo-at (getD (t .arities) p 0) (f .0) (f .1)) (f .2), sym (r .2))
+
+-- how a C line comes about: in every schema adds are at most deletes
+abbrev pub Capped : Task → ℕ → Type 0
+Capped t p = all (λ s. leb (ofPredicate p (s .adds)) (ofPredicate p (s .deletes))) (t .schemas) ≡ true
+
+ceiling-line : (t : Task) (p : ℕ) (line : Line) → List·Memᴰ line (ceilings t p)
+    → Capped t p × (line ≡ ceiling p (ofPredicate p (t .facts)))
+unfolding ceilings
+ceiling-line t p line m =
+    go (all (λ s. leb (ofPredicate p (s .adds)) (ofPredicate p (s .deletes))) (t .schemas)) refl m
+  where
+    go : (b : Bool) → all (λ s. leb (ofPredicate p (s .adds)) (ofPredicate p (s .deletes))) (t .schemas) ≡ b
+        → List·Memᴰ line (cond b (ceiling p (ofPredicate p (t .facts)) ∷ []) [])
+        → Capped t p × (line ≡ ceiling p (ofPredicate p (t .facts)))
+    go true e k = (e, List·Memᴰ·eq-of-singleton k)
+    go false e k = absurd (List·Memᴰ·not-nil k)
+
+-- how an R line comes about: the objects of a parameter of a schema
+types-line : (t : Task) (among : List Space) (from : ℕ) (schemas : List Schema) (d : Schema) (line : Line)
+    → List·Memᴰ line (typeLines t among from schemas)
+    → (i : ℕ) × (k : ℕ) × (i < length schemas) × (k < getD schemas i d .parameters)
+    × (line ≡ typesOf t among (from + i) (getD schemas i d) k)
+unfolding typeLines
+types-line t among from [] d line m = absurd (List·Memᴰ·not-nil m)
+types-line t among from (s ∷ schemas) d line m =
+    ⊎-elim
+    (λ here.
+    let r = Memᴰ·of-map (typesOf t among from s) (upTo (s .parameters)) here in
+    (0, r .0, suc-le-suc zero-le, upTo-at (s .parameters) (r .0) (r .1), sym (r .2) ∙ ap (λ (n : ℕ). typesOf t among n s (r .0)) (sym (add-zero from))))
+    (λ there.
+    let r = types-line t among (suc from) schemas d line there in
+    (suc (r .0), r .1, suc-le-suc (r .2), r .3, r .4 ∙ ap (λ (n : ℕ). typesOf t among n (getD schemas (r .0) d) (r .1)) (moved from (r .0))))
+    (List·Memᴰ·append-cases (map (typesOf t among from s) (upTo (s .parameters))) m)
+  where
+    moved : (m n : ℕ) → suc m + n ≡ m + suc n
+    moved m n = omega arith
+
+-- each parameter of each schema has its R line
+types-present : (t : Task) (among : List Space) (from : ℕ) (schemas : List Schema) (d : Schema) (i k : ℕ) → i < length schemas
+    → k < getD schemas i d .parameters
+    → List·Memᴰ (typesOf t among (from + i) (getD schemas i d) k) (typeLines t among from schemas)
+unfolding typeLines
+types-present t among from [] d i k h hk = absurd (not-suc-le-zero h)
+types-present t among from (s ∷ schemas) d zero k h hk =
+    Memᴰ·append-left (typeLines t among (suc from) schemas)
+    (subst (λ (n : ℕ). List·Memᴰ (typesOf t among n s k) (map (typesOf t among from s) (upTo (s .parameters)))) (sym (add-zero from))
+    (Memᴰ·map (typesOf t among from s) (upTo-intro (s .parameters) k hk)))
+types-present t among from (s ∷ schemas) d (suc i) k h hk =
+    Memᴰ·append-right (map (typesOf t among from s) (upTo (s .parameters)))
+    (subst (λ (n : ℕ). List·Memᴰ (typesOf t among n (getD schemas i d) k) (typeLines t among (suc from) schemas)) (moved from i)
+    (types-present t among (suc from) schemas d i k (le-of-suc-le-suc h) hk))
+  where
+    moved : (m n : ℕ) → suc m + n ≡ m + suc n
+    moved m n = omega arith
+
+-- a line of the closing section
+data ClosingLine (t : Task) (line : Line) : Type 0 where
+  is-total : (p n : ℕ) → TotalLine t p n → line ≡ total p n → ClosingLine t line
+  is-ceiling : (p : ℕ) → Capped t p → line ≡ ceiling p (ofPredicate p (t .facts)) → ClosingLine t line
+  is-types : List·Memᴰ line (typeLines t (map (λ a. a .space) (analysis t)) 0 (t .schemas)) → ClosingLine t line
+
+closing-line : (t : Task) (line : Line) → List·Memᴰ line (closingLines t (analysis t)) → ClosingLine t line
+unfolding closingLines
+closing-line t line m =
+    ⊎-elim
+    (λ front.
+    ⊎-elim
+    (λ first.
+    let r = flatMap-at (totals t (analysis t)) (upTo (length (t .arities))) line first in
+    let l = total-line t (r .0) line (upTo-at (length (t .arities)) (r .0) (r .1)) (r .2) in
+    is-total (r .0) (l .0) (l .1) (l .2))
+    (λ second.
+    let r = flatMap-at (ceilings t) (upTo (length (t .arities))) line second in
+    let l = ceiling-line t (r .0) line (r .2) in
+    is-ceiling (r .0) (l .0) (l .1))
+    (List·Memᴰ·append-cases (flatMap (totals t (analysis t)) (upTo (length (t .arities)))) front))
+    is-types
+    (List·Memᴰ·append-cases
+    (flatMap (totals t (analysis t)) (upTo (length (t .arities))) ++ flatMap (ceilings t) (upTo (length (t .arities))))
+    m)
+
+-- a section is that of a space, or the closing one
+pub data Section (t : Task) (lines : List Line) : Type 0 where
+  of-space : (n : ℕ) (a : Analysis) → List·Memᴰ a (analysis t) → lines ≡ spaceLines t n a → Section t lines
+  closing : lines ≡ closingLines t (analysis t) → Section t lines
+
+space-section : (t : Task) (n : ℕ) (analyses : List Analysis) (lines : List Line) → List·Memᴰ lines (spaceSections t n analyses)
+    → (i : ℕ) × (a : Analysis) × List·Memᴰ a analyses × (lines ≡ spaceLines t i a)
+unfolding spaceSections
+space-section t n [] lines m = absurd (List·Memᴰ·not-nil m)
+space-section t n (a ∷ analyses) lines m =
+    ⊎-elim (λ e. (n, a, List·Memᴰ·head refl, e))
+    (λ k. let r = space-section t (suc n) analyses lines k in (r .0, r .1, List·Memᴰ·tail (r .2), r .3))
+    (List·Memᴰ·cases-cons m)
+
+pub section-of : (t : Task) (lines : List Line) → lines isSectionOf t → Section t lines
+unfolding sections
+section-of t lines m =
+    ⊎-elim (λ k. let r = space-section t 0 (analysis t) lines k in of-space (r .0) (r .1) (r .2) (r .3))
+    (λ k. closing (List·Memᴰ·eq-of-singleton k))
+    (List·Memᴰ·append-cases (spaceSections t 0 (analysis t)) m)
+
+-- lines of different letters are different
+letter : Line → ℕ
+letter (space n kind properties members) = 0
+letter (state counts) = 1
+letter (limit c most) = 2
+letter (membership i) = 3
+letter (exclusion i j) = 4
+letter (total p n) = 5
+letter (ceiling p n) = 6
+letter (types n k objects) = 7
+
+clash : {A : Type 0} (x y : Line) → x ≡ y → eqb (letter x) (letter y) ≡ false → A
+clash x y e f = never (sym (eq-eqb (letter x) (letter y) (ap letter e)) ∙ f)
+
+limit-only : {A : Type 0} (t : Task) (properties : List ℕ) (bags : List Bag) (line : Line)
+    → List·Memᴰ line (limits t properties bags) → eqb (letter line) 2 ≡ false → A
+unfolding letter
+limit-only t properties bags line m e =
+    let r = limit-line t properties bags line m in clash line (limit (r .0) _) (r .2) e
+
+exclusion-only : {A : Type 0} (bags : List Bag) (indices : List ℕ) (line : Line) → List·Memᴰ line (exclusions bags indices)
+    → eqb (letter line) 4 ≡ false → A
+unfolding letter
+exclusion-only bags indices line m e =
+    let r = exclusion-line bags indices line m in clash line (exclusion (r .0) (r .1)) (r .3) e
+
+types-only : {A : Type 0} (t : Task) (line : Line)
+    → List·Memᴰ line (typeLines t (map (λ a. a .space) (analysis t)) 0 (t .schemas)) → eqb (letter line) 7 ≡ false → A
+unfolding letter typesOf
+types-only t line m e =
+    let r = types-line t (map (λ a. a .space) (analysis t)) 0 (t .schemas) (record { parameters = 0; preconditions = []; deletes = []; adds = [] }) line m in
+    clash line (types _ _ _) (r .4) e
+
+-- the lines of a space have the letters S, T, M, D, X, and those of the closing section F, C, R
+space-letter : (t : Task) (n : ℕ) (a : Analysis) (line : Line) → SpaceLine t n a line → leb (letter line) 4 ≡ true
+unfolding letter
+space-letter t n a line (is-space e) = ap (λ (l : Line). leb (letter l) 4) e
+space-letter t n a line (is-state b m e) = ap (λ (l : Line). leb (letter l) 4) e
+space-letter t n a line (is-limit m) =
+    ap (λ (l : Line). leb (letter l) 4) (limit-line t (a .space .properties) (a .conditions) line m .2)
+space-letter t n a line (is-membership i m e) = ap (λ (l : Line). leb (letter l) 4) e
+space-letter t n a line (is-exclusion m) =
+    ap (λ (l : Line). leb (letter l) 4) (exclusion-line (a .conditions) (minimal (a .conditions)) line m .3)
+
+blank : Schema
+blank = record { parameters = 0; preconditions = []; deletes = []; adds = [] }
+
+closing-letter : (t : Task) (line : Line) → ClosingLine t line → leb (letter line) 4 ≡ false
+unfolding letter typesOf
+closing-letter t line (is-total p n l e) = ap (λ (l : Line). leb (letter l) 4) e
+closing-letter t line (is-ceiling p l e) = ap (λ (l : Line). leb (letter l) 4) e
+closing-letter t line (is-types m) =
+    ap (λ (l : Line). leb (letter l) 4) (types-line t (map (λ a. a .space) (analysis t)) 0 (t .schemas) blank line m .4)
+
+-- a line of a space, in the section that it stands in
+record OfSpace (t : Task) (lines : List Line) (line : Line) : Type 0 where
+  pub number : ℕ
+  pub of : Analysis
+  pub of-listed : List·Memᴰ of (analysis t)
+  pub section-is : lines ≡ spaceLines t number of
+  pub stands : SpaceLine t number of line
+
+of-a-space : (t : Task) (lines : List Line) (line : Line) → lines isSectionOf t → line isOn lines → leb (letter line) 4 ≡ true
+    → OfSpace t lines line
+of-a-space t lines line s m h = go (section-of t lines s)
+  where
+    go : Section t lines → OfSpace t lines line
+    go (of-space i a l e) =
+        record {
+          number = i;
+          of = a;
+          of-listed = l;
+          section-is = e;
+          stands = space-line t i a line (subst (λ (x : List Line). List·Memᴰ line x) e m);
+        }
+    go (closing e) =
+        never (sym h ∙ closing-letter t line (closing-line t line (subst (λ (x : List Line). List·Memᴰ line x) e m)))
+
+of-the-closing : (t : Task) (lines : List Line) (line : Line) → lines isSectionOf t → line isOn lines
+    → leb (letter line) 4 ≡ false → ClosingLine t line
+of-the-closing t lines line s m h = go (section-of t lines s)
+  where
+    go : Section t lines → ClosingLine t line
+    go (of-space i a l e) =
+        never
+        (sym (space-letter t i a line (space-line t i a line (subst (λ (x : List Line). List·Memᴰ line x) e m))) ∙ h)
+    go (closing e) = closing-line t line (subst (λ (x : List Line). List·Memᴰ line x) e m)
+
+-- an S line stands in the section of its space
+pub record OnSpace (t : Task) (lines : List Line) (n : ℕ) (kind : Kind) (properties members : List ℕ) : Type 0 where
+  pub of : Analysis
+  pub of-listed : List·Memᴰ of (analysis t)
+  pub section-is : lines ≡ spaceLines t n of
+  pub kind-is : kind ≡ of .kind
+  pub properties-are : properties ≡ of .space .properties
+  pub members-are : members ≡ of .space .members
+
+pub on-space : (t : Task) (lines : List Line) (n : ℕ) (kind : Kind) (properties members : List ℕ) → lines isSectionOf t
+    → space n kind properties members isOn lines → OnSpace t lines n kind properties members
+unfolding letter
+on-space t lines n kind properties members s m = go (of-a-space t lines (space n kind properties members) s m refl)
+  where
+    found : (i : ℕ) (a : Analysis) → List·Memᴰ a (analysis t) → lines ≡ spaceLines t i a
+        → SpaceLine t i a (space n kind properties members) → OnSpace t lines n kind properties members
+    found i a h e (is-space p) =
+        record {
+          of = a;
+          of-listed = h;
+          section-is = e ∙ ap (λ (k : ℕ). spaceLines t k a) (cc);
+          kind-is = cc;
+          properties-are = cc;
+          members-are = cc;
+        }
+    found i a h e (is-state b k p) = clash (space n kind properties members) (state b) p refl
+    found i a h e (is-limit k) = limit-only t _ _ (space n kind properties members) k refl
+    found i a h e (is-membership j k p) = clash (space n kind properties members) (membership j) p refl
+    found i a h e (is-exclusion k) = exclusion-only _ _ (space n kind properties members) k refl
+
+    go : OfSpace t lines (space n kind properties members) → OnSpace t lines n kind properties members
+    go r = found (r .number) (r .of) (r .of-listed) (r .section-is) (r .stands)
+
+-- an M line stands in the section of a space with its property; its most is the largest count over the conditions
+pub record OnLimit (t : Task) (c most : ℕ) : Type 0 where
+  pub of : Analysis
+  pub of-listed : List·Memᴰ of (analysis t)
+  pub in-space : List·Memᴰ c (of .space .properties)
+  pub largest-is : most ≡ largest (map (countOf (of .space .properties) c) (of .conditions))
+  pub some-condition : (b : Bag) × List·Memᴰ b (of .conditions)
+
+pub on-limit : (t : Task) (lines : List Line) (c most : ℕ) → lines isSectionOf t → limit c most isOn lines → OnLimit t c most
+unfolding letter
+on-limit t lines c most s m = go (of-a-space t lines (limit c most) s m refl)
+  where
+    found : (i : ℕ) (a : Analysis) → List·Memᴰ a (analysis t) → SpaceLine t i a (limit c most) → OnLimit t c most
+    found i a h (is-space p) = clash (limit c most) (space _ _ _ _) p refl
+    found i a h (is-state b k p) = clash (limit c most) (state b) p refl
+    found i a h (is-limit k) =
+        let r = limit-line t (a .space .properties) (a .conditions) (limit c most) k in
+        let same-property : c ≡ r .0 = cc in
+        record {
+          of = a;
+          of-listed = h;
+          in-space = subst (λ (d : ℕ). List·Memᴰ d (a .space .properties)) (sym same-property) (r .1);
+          largest-is = most-is (r .0) (r .2);
+          some-condition = limit-needs t (a .space .properties) (a .conditions) (limit c most) k;
+        }
+      where
+        most-is : (d : ℕ) → limit c most ≡ limit d (largest (map (countOf (a .space .properties) d) (a .conditions)))
+            → most ≡ largest (map (countOf (a .space .properties) c) (a .conditions))
+        most-is d e =
+            let first : most ≡ largest (map (countOf (a .space .properties) d) (a .conditions)) = cc in
+            let second : d ≡ c = cc in
+            first ∙ ap (λ (x : ℕ). largest (map (countOf (a .space .properties) x) (a .conditions))) second
+    found i a h (is-membership j k p) = clash (limit c most) (membership j) p refl
+    found i a h (is-exclusion k) = exclusion-only _ _ (limit c most) k refl
+
+    go : OfSpace t lines (limit c most) → OnLimit t c most
+    go r = found (r .number) (r .of) (r .of-listed) (r .stands)
+
+-- an X line in the section of a space: no condition contains both
+pub on-exclusion : (t : Task) (n : ℕ) (a : Analysis) (i j : ℕ) → exclusion i j isOn spaceLines t n a
+    → excluded (a .conditions) i j ≡ true
+unfolding letter
+on-exclusion t n a i j m = found (space-line t n a (exclusion i j) m)
+  where
+    found : SpaceLine t n a (exclusion i j) → excluded (a .conditions) i j ≡ true
+    found (is-space p) = clash (exclusion i j) (space _ _ _ _) p refl
+    found (is-state b k p) = clash (exclusion i j) (state b) p refl
+    found (is-limit k) = limit-only t _ _ (exclusion i j) k refl
+    found (is-membership x k p) = clash (exclusion i j) (membership x) p refl
+    found (is-exclusion k) =
+        let r = exclusion-line (a .conditions) (minimal (a .conditions)) (exclusion i j) k in
+        let first : i ≡ r .0 = cc in
+        let second : j ≡ r .1 = cc in
+        ap (λ (x : ℕ). excluded (a .conditions) x j) first ∙ ap (excluded (a .conditions) (r .0)) second ∙ r .2
+
+pub on-total : (t : Task) (lines : List Line) (p n : ℕ) → lines isSectionOf t → total p n isOn lines → TotalLine t p n
+unfolding letter
+on-total t lines p n s m = found (of-the-closing t lines (total p n) s m refl)
+  where
+    found : ClosingLine t (total p n) → TotalLine t p n
+    found (is-total q k l e) =
+        let first : q ≡ p = cc in
+        let second : k ≡ n = cc in
+        subst (λ (x : ℕ). TotalLine t x n) first (subst (λ (y : ℕ). TotalLine t q y) second l)
+    found (is-ceiling q h e) = clash (total p n) (ceiling q _) e refl
+    found (is-types k) = types-only t (total p n) k refl
+
+pub on-ceiling : (t : Task) (lines : List Line) (p n : ℕ) → lines isSectionOf t → ceiling p n isOn lines
+    → Capped t p × (n ≡ ofPredicate p (t .facts))
+unfolding letter
+on-ceiling t lines p n s m = found (of-the-closing t lines (ceiling p n) s m refl)
+  where
+    found : ClosingLine t (ceiling p n) → Capped t p × (n ≡ ofPredicate p (t .facts))
+    found (is-total q k l e) = clash (ceiling p n) (total q k) e refl
+    found (is-ceiling q h e) =
+        let first : q ≡ p = cc in
+        let second : n ≡ ofPredicate q (t .facts) = cc in
+        (subst (λ (x : ℕ). Capped t x) first h, second ∙ ap (λ (x : ℕ). ofPredicate x (t .facts)) first)
+    found (is-types k) = types-only t (ceiling p n) k refl
+
+-- an R line: the objects in every space of the parameter's precondition properties
+pub typed : Task → ℕ → ℕ → List ℕ
+typed t n k =
+    keep
+    (λ o.
+    all (hasMember (map (λ a. a .space) (analysis t)) o)
+    (support (bagOf (Transitions.properties t) (schemaAt t n .preconditions) k)))
+    (upTo (t .objects))
+
+pub on-types : (t : Task) (lines : List Line) (n k : ℕ) (objects : List ℕ) → lines isSectionOf t → types n k objects isOn lines
+    → objects ≡ typed t n k
+unfolding letter typed typesOf schemaAt blank
+on-types t lines n k objects s m = found (of-the-closing t lines (types n k objects) s m refl)
+  where
+    found : ClosingLine t (types n k objects) → objects ≡ typed t n k
+    found (is-total q x l e) = clash (types n k objects) (total q x) e refl
+    found (is-ceiling q h e) = clash (types n k objects) (ceiling q _) e refl
+    found (is-types x) =
+        let r = types-line t (map (λ a. a .space) (analysis t)) 0 (t .schemas) blank (types n k objects) x in
+        inverted (r .0) (r .1) (r .4)
+      where
+        inverted : (i j : ℕ) → types n k objects ≡ typesOf t (map (λ a. a .space) (analysis t)) (0 + i) (getD (t .schemas) i blank) j
+            → objects ≡ typed t n k
+        inverted i j e =
+            let schema-is : 0 + i ≡ n = cc in
+            let parameter-is : j ≡ k = cc in
+            let objects-are : objects ≡ typed t i j = cc in
+            objects-are ∙ ap (λ (x : ℕ). typed t x j) (sym (zero-add i) ∙ schema-is) ∙ ap (typed t n) parameter-is
+
+-- each parameter of each schema has an R line
+pub types-on : (t : Task) (n k : ℕ) → n < length (t .schemas) → k < schemaAt t n .parameters
+    → (lines : List Line) × (objects : List ℕ) × (lines isSectionOf t) × (types n k objects isOn lines)
+unfolding schemaAt typesOf sections closingLines typed blank
+types-on t n k hn hk = (
+  closingLines t (analysis t),
+  typed t n k,
+  Memᴰ·append-right (spaceSections t 0 (analysis t)) (List·Memᴰ·head refl),
+  Memᴰ·append-right
+      (flatMap (totals t (analysis t)) (upTo (length (t .arities))) ++ flatMap (ceilings t) (upTo (length (t .arities))))
+      (subst
+      (λ (x : ℕ).
+      List·Memᴰ (typesOf t (map (λ a. a .space) (analysis t)) x (getD (t .schemas) n blank) k)
+      (typeLines t (map (λ a. a .space) (analysis t)) 0 (t .schemas)))
+      (zero-add n)
+      (types-present t (map (λ a. a .space) (analysis t)) 0 (t .schemas) blank n k hn hk)),
+)
+
+states-append : (xs ys : List Line) → statesOf (xs ++ ys) ≡ statesOf xs ++ statesOf ys
+unfolding statesOf
+states-append [] ys = refl
+states-append (space n kind properties members ∷ xs) ys = states-append xs ys
+states-append (state counts ∷ xs) ys = ap {B = List Bag} (λ l. counts ∷ l) (states-append xs ys)
+states-append (limit c most ∷ xs) ys = states-append xs ys
+states-append (membership i ∷ xs) ys = states-append xs ys
+states-append (exclusion i j ∷ xs) ys = states-append xs ys
+states-append (total p n ∷ xs) ys = states-append xs ys
+states-append (ceiling p n ∷ xs) ys = states-append xs ys
+states-append (types n k objects ∷ xs) ys = states-append xs ys
+
+states-of-states : (bags : List Bag) → statesOf (map state bags) ≡ bags
+unfolding statesOf
+states-of-states [] = refl
+states-of-states (b ∷ bags) = ap {B = List Bag} (λ l. b ∷ l) (states-of-states bags)
+
+-- a list of lines of another letter gives no conditions
+no-states : (f : ℕ → Line) → ((i : ℕ) (lines : List Line) → statesOf (f i ∷ lines) ≡ statesOf lines) → (ns : List ℕ)
+    → statesOf (map f ns) ≡ []
+unfolding statesOf
+no-states f h [] = refl
+no-states f h (n ∷ ns) = h n (map f ns) ∙ no-states f h ns
+
+no-limit-states : (t : Task) (properties : List ℕ) (bags : List Bag) → statesOf (limits t properties bags) ≡ []
+unfolding statesOf limits
+no-limit-states t properties [] = refl
+no-limit-states t properties (b ∷ bags) =
+    no-states (λ c. limit c (largest (map (countOf properties c) (b ∷ bags)))) (λ i lines. refl)
+    (keep (λ c. leb 2 (arityOf t c)) properties)
+
+no-exclusion-states : (bags : List Bag) (indices : List ℕ) → statesOf (exclusions bags indices) ≡ []
+unfolding statesOf exclusions
+no-exclusion-states bags [] = refl
+no-exclusion-states bags (i ∷ later) =
+    states-append (map (exclusion i) (keep (excluded bags i) later)) (exclusions bags later)
+    ∙ ap (λ (l : List Bag). l ++ statesOf (exclusions bags later)) (no-states (exclusion i) (λ j lines. refl) (keep (excluded bags i) later))
+    ∙ no-exclusion-states bags later
+
+-- the conditions of the section of a space are its T lines
+pub states-of-space : (t : Task) (n : ℕ) (a : Analysis) → statesOf (spaceLines t n a) ≡ a .conditions
+unfolding spaceLines statesOf
+states-of-space t n a =
+    states-append
+    (map state (a .conditions) ++ limits t (a .space .properties) (a .conditions) ++ map membership (minimal (a .conditions)))
+    (exclusions (a .conditions) (minimal (a .conditions)))
+    ∙ ap
+    (λ (l : List Bag). l ++ statesOf (exclusions (a .conditions) (minimal (a .conditions))))
+    (states-append
+    (map state (a .conditions) ++ limits t (a .space .properties) (a .conditions))
+    (map membership (minimal (a .conditions)))
+    ∙ ap
+    (λ (l : List Bag). l ++ statesOf (map membership (minimal (a .conditions))))
+    (states-append (map state (a .conditions)) (limits t (a .space .properties) (a .conditions))))
+    ∙ simp (states-of-states, no-limit-states, no-states membership (λ i lines. refl), no-exclusion-states, append-nil)
+
+pub state-on : (t : Task) (n : ℕ) (a : Analysis) (b : Bag) → List·Memᴰ b (a .conditions) → state b isOn spaceLines t n a
+unfolding spaceLines
+state-on t n a b m =
+    List·Memᴰ·tail
+    (Memᴰ·append-left (exclusions (a .conditions) (minimal (a .conditions)))
+    (Memᴰ·append-left (map membership (minimal (a .conditions)))
+    (Memᴰ·append-left (limits t (a .space .properties) (a .conditions)) (Memᴰ·map state m))))
+
+pub membership-on : (t : Task) (n : ℕ) (a : Analysis) (i : ℕ) → List·Memᴰ i (minimal (a .conditions))
+    → membership i isOn spaceLines t n a
+unfolding spaceLines
+membership-on t n a i m =
+    List·Memᴰ·tail
+    (Memᴰ·append-left (exclusions (a .conditions) (minimal (a .conditions)))
+    (Memᴰ·append-right (map state (a .conditions) ++ limits t (a .space .properties) (a .conditions)) (Memᴰ·map membership m)))
