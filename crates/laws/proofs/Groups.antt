@@ -15,6 +15,11 @@ use Rattle.laws.specs.Bags.{Bag, plus, less, meet, single, support}
 use Rattle.laws.proofs.Tests.{never, and-left, and-right, and-intro, or-cases, or-left, or-right, same-test, by-test, not-true, to-not-true}
 use Rattle.laws.proofs.Lists.{any-at, any-intro, keep-at, keep-intro, count-ext, from-at, length-upTo, upTo-at, upTo-intro, member-at, member-intro, member-not, not-member}
 
+-- an alternative that fails adds nothing
+pub or-neutral : (a b : Bool) → b ≡ false → (a || b) ≡ a
+or-neutral true b e = refl
+or-neutral false b e = e
+
 module _ {A B : Type 0} where
   -- what every step of a fold keeps holds at its end
   pub foldl-keeps : (Holds : B → Type 0) (f : B → A → B) (xs : List A)
@@ -145,6 +150,12 @@ module _ {A : Type 0} (xs : List A) (step : (A → Bool) → A → Bool) where
   -- a further step adds nothing
   abbrev pub Stable : (A → Bool) → Type 0
   Stable f = (x : A) → List·Memᴰ x xs → step f x ≡ f x
+
+  -- an element that no step adds stays as it was
+  pub repeat-leaves : (x : A) → ((f : A → Bool) → step f x ≡ f x) → (n : ℕ) (f : A → Bool) → repeat n f x ≡ f x
+  unfolding repeat
+  repeat-leaves x leaves zero f = refl
+  repeat-leaves x leaves (suc n) f = repeat-leaves x leaves n (step f) ∙ leaves f
 
   module _ (adds : (f : A → Bool) (x : A) → f x ≡ true → step f x ≡ true) where
     -- what was there stays

@@ -62,7 +62,7 @@ admitted t f r = isEmpty (r .start) && all (λ c. any (λ l. member c (propertie
 unfoldable pub step : Task → (ℕ → Bool) → ℕ → Bool
 step t f l = f l || any (admitted t f) (rulesAt t l)
 
-step-adds : (t : Task) (f : ℕ → Bool) (l : ℕ) → f l ≡ true → step t f l ≡ true
+pub step-adds : (t : Task) (f : ℕ → Bool) (l : ℕ) → f l ≡ true → step t f l ≡ true
 unfolding step
 step-adds t f l = or-left (f l) (any (admitted t f) (rulesAt t l))
 
