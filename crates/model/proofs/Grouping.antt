@@ -1,0 +1,311 @@
+-- Document 01, "Spaces": "All start and finish properties of one rule share a space; spaces are the smallest such grouping,
+-- numbered by lowest property." A grouping gives each property the label of its group, which is the group's lowest property.
+use Prim.Native.Nat.{ℕ, zero, suc, _≤_, _<_, min}
+use native.Mathlib.Nat.{le-refl, le-trans, min-eq-left}
+use native.Mathlib.Omega.{arith}
+use mathlib.Core.Path.{_≡_, refl, sym, ap, _∙_, subst}
+use mathlib.Core.Bool.{Bool, true, false, cond, _||_}
+use mathlib.Core.Logic.{_⊎_, inl, inr, ⊎-elim}
+use mathlib.Core.List.{List, [], _∷_, _++_, map, foldl, flatMap, List·Memᴰ, List·Memᴰ·head, List·Memᴰ·tail, List·Memᴰ·cases-cons, List·Memᴰ·not-nil, List·Memᴰ·append-cases, List·Memᴰ·eq-of-singleton, Memᴰ·of-map}
+use lib.Dec.{eqb, leb}
+use lib.ListN.{length, getD, length-map}
+use borrow.Author.Tests.{eqb-true, eq-eqb, leb-true, leb-false}
+use Rattle.laws.specs.Lists.{upTo}
+use Rattle.laws.specs.Bags.{Bag, plus, less, meet, isEmpty, single, support}
+use Rattle.laws.proofs.Tests.{or-cases, or-left, or-right, cond-true, cond-false, by-test}
+use Rattle.laws.proofs.Lists.{length-upTo, getD-upTo, flatMap-at}
+use Rattle.laws.proofs.Groups.{foldl-keeps, foldl-reaches, getD-map, length-plus, length-less, length-meet, length-single, support-below}
+use Rattle.model.specs.Card.{Atom, Schema, Task}
+use Rattle.model.specs.Transitions.{Property, Transition, properties, bagOf, exchanges, remaining, rulesOf, parameterRules, transitions}
+use Rattle.model.specs.Spaces.{moved, unite, uniteAll, grouping}
+
+-- the label of a property's group
+abbrev pub label : List ℕ → ℕ → ℕ
+label groups c = getD groups c 0
+
+-- the label that replaces l when the groups of g and h become one
+merged : ℕ → ℕ → ℕ → ℕ
+merged g h l = cond (eqb l g || eqb l h) (min g h) l
+
+-- a label of the two is replaced by the lower of them, and any other stays
+merged-joined : (g h l : ℕ) → (l ≡ g) ⊎ (l ≡ h) → merged g h l ≡ min g h
+unfolding merged
+merged-joined g h l e =
+    cond-true (eqb l g || eqb l h) (min g h) l
+    (⊎-elim (λ p. or-left (eqb l g) (eqb l h) (eq-eqb l g p)) (λ p. or-right (eqb l g) (eqb l h) (eq-eqb l h p)) e)
+
+merged-cases : (g h l : ℕ) → ((l ≡ g) ⊎ (l ≡ h)) ⊎ (merged g h l ≡ l)
+unfolding merged
+merged-cases g h l =
+    by-test (eqb l g || eqb l h)
+    (λ e. inl (⊎-elim (λ p. inl (eqb-true l g p)) (λ p. inr (eqb-true l h p)) (or-cases (eqb l g) (eqb l h) e)))
+    (λ e. inr (cond-false (eqb l g || eqb l h) (min g h) l e))
+
+-- the lower of two numbers is one of them
+min-cases : (g h : ℕ) → (min g h ≡ g) ⊎ (min g h ≡ h)
+min-cases g h =
+    by-test (leb g h) (λ e. inl (min-eq-left (leb-true g h e))) (λ e. let more = leb-false g h e in inr (omega arith))
+
+-- what holds of the two labels and of the one at hand holds of the new one
+merged-holds : (Holds : ℕ → Type 0) (g h l : ℕ) → Holds g → Holds h → Holds l → Holds (merged g h l)
+merged-holds Holds g h l pg ph pl =
+    ⊎-elim
+    (λ e.
+      subst Holds (sym (merged-joined g h l e))
+      (⊎-elim (λ q. subst Holds (sym q) pg) (λ q. subst Holds (sym q) ph) (min-cases g h)))
+    (λ e. subst Holds (sym e) pl)
+    (merged-cases g h l)
+
+-- a function that does not tell the two labels apart does not tell the new label from the old
+merged-same : (f : ℕ → ℕ) (g h l : ℕ) → f g ≡ f h → f (merged g h l) ≡ f l
+merged-same f g h l e =
+    ⊎-elim
+    (λ p. ap f (merged-joined g h l p) ∙ ⊎-elim (λ q. ap f q) (λ q. ap f q ∙ sym e) (min-cases g h) ∙ ⊎-elim (λ q. ap f (sym q)) (λ q. e ∙ ap f (sym q)) p)
+    (λ p. ap f p)
+    (merged-cases g h l)
+
+-- no label rises, and a new label stays
+merged-at-most : (g h l : ℕ) → merged g h l ≤ l
+merged-at-most g h l =
+    ⊎-elim
+    (λ e. subst (λ (n : ℕ). n ≤ l) (sym (merged-joined g h l e)) (⊎-elim (λ q. omega arith) (λ q. omega arith) e))
+    (λ e. omega arith)
+    (merged-cases g h l)
+
+merged-again : (g h l : ℕ) → merged g h (merged g h l) ≡ merged g h l
+merged-again g h l =
+    ⊎-elim (λ e. ap (merged g h) (merged-joined g h l e) ∙ merged-joined g h (min g h) (min-cases g h) ∙ sym (merged-joined g h l e))
+    (λ e. ap (merged g h) e)
+    (merged-cases g h l)
+
+-- the labels after two properties are brought together
+label-unite : (c : ℕ) (groups : List ℕ) (d x : ℕ) → x < length groups
+    → label (unite c groups d) x ≡ merged (label groups c) (label groups d) (label groups x)
+unfolding unite merged
+label-unite c groups d x h = getD-map _ groups x 0 0 h
+
+length-unite : (c : ℕ) (groups : List ℕ) (d : ℕ) → length (unite c groups d) ≡ length groups
+unfolding unite
+length-unite c groups d = length-map groups _
+
+-- what bringing any two properties of a list together keeps, bringing all of them together keeps
+uniteAll-keeps : (Holds : List ℕ → Type 0) (cs : List ℕ)
+    → ((groups : List ℕ) (c d : ℕ) → List·Memᴰ c cs → List·Memᴰ d cs → Holds groups → Holds (unite c groups d))
+    → (groups : List ℕ) → Holds groups → Holds (uniteAll groups cs)
+unfolding uniteAll
+uniteAll-keeps Holds [] keeps groups h = h
+uniteAll-keeps Holds (c ∷ cs) keeps groups h =
+    foldl-keeps Holds (unite c) cs (λ now d m. keeps now c d (List·Memᴰ·head refl) (List·Memᴰ·tail m)) groups h
+
+-- what bringing any two properties of one rule together keeps, the grouping keeps
+grouping-keeps : (Holds : List ℕ → Type 0) (size : ℕ) (rules : List Transition)
+    → ((groups : List ℕ) (r : Transition) → List·Memᴰ r rules → (c d : ℕ) → List·Memᴰ c (moved r) → List·Memᴰ d (moved r)
+      → Holds groups → Holds (unite c groups d))
+    → Holds (upTo size) → Holds (grouping size rules)
+unfolding grouping
+grouping-keeps Holds size rules keeps =
+    foldl-keeps Holds (λ groups r. uniteAll groups (moved r)) rules
+    (λ groups r m. uniteAll-keeps Holds (moved r) (λ now c d. keeps now r m c d) groups) (upTo size)
+
+-- groups are labelled for as many properties as there are
+pub length-grouping : (size : ℕ) (rules : List Transition) → length (grouping size rules) ≡ size
+length-grouping size rules =
+    grouping-keeps (λ groups. length groups ≡ size) size rules (λ groups r m c d j k e. length-unite c groups d ∙ e) (length-upTo size)
+
+-- Each property's label is in one group with it, in another grouping g.
+record Within (g : ℕ → ℕ) (size : ℕ) (groups : List ℕ) : Type 0 where
+  sized : length groups ≡ size
+  within : (x : ℕ) → x < size → g (label groups x) ≡ g x
+
+unite-within : (g : ℕ → ℕ) (size : ℕ) (groups : List ℕ) (a b : ℕ) → a < size → b < size → g a ≡ g b → Within g size groups
+    → Within g size (unite a groups b)
+unite-within g size groups a b ha hb e h = record { sized = length-unite a groups b ∙ h .sized; within = within }
+  where
+    within : (x : ℕ) → x < size → g (label (unite a groups b) x) ≡ g x
+    within x hx =
+        ap g (label-unite a groups b x (subst (λ (n : ℕ). x < n) (sym (h .sized)) hx))
+        ∙ merged-same g (label groups a) (label groups b) (label groups x) (h .within a ha ∙ e ∙ sym (h .within b hb))
+        ∙ h .within x hx
+
+-- Each label is the lowest property of its group: no property of the group is below it, and it is one of them.
+pub record Lowest (size : ℕ) (groups : List ℕ) : Type 0 where
+  pub sized : length groups ≡ size
+  pub at-most : (x : ℕ) → x < size → label groups x ≤ x
+  pub own : (x : ℕ) → x < size → label groups (label groups x) ≡ label groups x
+
+pub label-known : (size : ℕ) (groups : List ℕ) → Lowest size groups → (x : ℕ) → x < size → label groups x < size
+label-known size groups h x hx = let low = h .at-most x hx in omega arith
+
+unite-lowest : (size : ℕ) (groups : List ℕ) (a b : ℕ) → a < size → b < size → Lowest size groups → Lowest size (unite a groups b)
+unite-lowest size groups a b ha hb h =
+    record {
+      sized = length-unite a groups b ∙ h .sized;
+      at-most = λ x hx. subst (λ (n : ℕ). n ≤ x) (sym (now x hx)) (low x hx);
+      own = own;
+    }
+  where
+    new : ℕ → ℕ
+    new x = merged (label groups a) (label groups b) (label groups x)
+    now : (x : ℕ) → x < size → label (unite a groups b) x ≡ new x
+    now x hx = label-unite a groups b x (subst (λ (n : ℕ). x < n) (sym (h .sized)) hx)
+    low : (x : ℕ) → x < size → new x ≤ x
+    low x hx = le-trans (merged-at-most (label groups a) (label groups b) (label groups x)) (h .at-most x hx)
+    own : (x : ℕ) → x < size → label (unite a groups b) (label (unite a groups b) x) ≡ label (unite a groups b) x
+    own x hx =
+        let below : new x ≤ x = low x hx in
+        ap (label (unite a groups b)) (now x hx)
+        ∙ now (new x) (omega arith)
+        ∙ ap (merged (label groups a) (label groups b))
+          (merged-holds (λ l. label groups l ≡ l) (label groups a) (label groups b) (label groups x) (h .own a ha) (h .own b hb) (h .own x hx))
+        ∙ merged-again (label groups a) (label groups b) (label groups x)
+        ∙ sym (now x hx)
+
+module _ (size : ℕ) (rules : List Transition)
+    (known : (r : Transition) → List·Memᴰ r rules → (c : ℕ) → List·Memᴰ c (moved r) → c < size) where
+  -- properties with one label keep one
+  stays-joined : (groups : List ℕ) → length groups ≡ size → (a b x y : ℕ) → x < size → y < size
+      → label groups x ≡ label groups y → label (unite a groups b) x ≡ label (unite a groups b) y
+  stays-joined groups sized a b x y hx hy e =
+      label-unite a groups b x (subst (λ (n : ℕ). x < n) (sym sized) hx)
+      ∙ ap (merged (label groups a) (label groups b)) e
+      ∙ sym (label-unite a groups b y (subst (λ (n : ℕ). y < n) (sym sized) hy))
+
+  -- two properties that are brought together have one label
+  now-joined : (groups : List ℕ) → length groups ≡ size → (a b : ℕ) → a < size → b < size
+      → label (unite a groups b) a ≡ label (unite a groups b) b
+  now-joined groups sized a b ha hb =
+      label-unite a groups b a (subst (λ (n : ℕ). a < n) (sym sized) ha)
+      ∙ merged-joined (label groups a) (label groups b) (label groups a) (inl refl)
+      ∙ sym (merged-joined (label groups a) (label groups b) (label groups b) (inr refl))
+      ∙ sym (label-unite a groups b b (subst (λ (n : ℕ). b < n) (sym sized) hb))
+
+  uniteAll-joins : (cs : List ℕ) → ((c : ℕ) → List·Memᴰ c cs → c < size) → (groups : List ℕ) → length groups ≡ size
+      → (c d : ℕ) → List·Memᴰ c cs → List·Memᴰ d cs → label (uniteAll groups cs) c ≡ label (uniteAll groups cs) d
+  unfolding uniteAll
+  uniteAll-joins [] below groups sized c d j k = absurd (List·Memᴰ·not-nil j)
+  uniteAll-joins (a ∷ cs) below groups sized c d j k = sym (first c j) ∙ first d k
+    where
+      first : (x : ℕ) → List·Memᴰ x (a ∷ cs) → label (foldl (unite a) groups cs) a ≡ label (foldl (unite a) groups cs) x
+      first x m =
+          ⊎-elim (λ p. ap (label (foldl (unite a) groups cs)) (sym p))
+          (λ i.
+            foldl-reaches (λ now. length now ≡ size) (λ now. label now a ≡ label now x) (unite a) cs
+            (λ now y l e. length-unite a now y ∙ e)
+            (λ now y l e. stays-joined now e a y a x (below a (List·Memᴰ·head refl)) (below x m))
+            x i
+            (λ now e. now-joined now e a x (below a (List·Memᴰ·head refl)) (below x m))
+            groups sized)
+          (List·Memᴰ·cases-cons m)
+
+  -- "All start and finish properties of one rule share a space"
+  pub grouping-joins : (r : Transition) → List·Memᴰ r rules → (c d : ℕ) → List·Memᴰ c (moved r) → List·Memᴰ d (moved r)
+      → label (grouping size rules) c ≡ label (grouping size rules) d
+  unfolding grouping
+  grouping-joins r m c d j k =
+      foldl-reaches (λ groups. length groups ≡ size) (λ groups. label groups c ≡ label groups d)
+      (λ groups q. uniteAll groups (moved q)) rules
+      (λ groups q l. uniteAll-keeps (λ now. length now ≡ size) (moved q) (λ now a b i₁ i₂ e. length-unite a now b ∙ e) groups)
+      (λ groups q l e same.
+        uniteAll-keeps (λ now. (length now ≡ size) × (label now c ≡ label now d)) (moved q)
+        (λ now a b i₁ i₂ h.
+          (length-unite a now b ∙ h .0, stays-joined now (h .0) a b c d (known r m c j) (known r m d k) (h .1)))
+        groups (e, same)
+        .1)
+      r m
+      (λ groups e. uniteAll-joins (moved r) (known r m) groups e c d j k)
+      (upTo size) (length-upTo size)
+
+  -- "spaces are the smallest such grouping": whatever puts the start and finish properties of each rule into one group
+  -- puts any two properties of one label into one group
+  pub grouping-smallest : (g : ℕ → ℕ)
+      → ((r : Transition) → List·Memᴰ r rules → (c d : ℕ) → List·Memᴰ c (moved r) → List·Memᴰ d (moved r) → g c ≡ g d)
+      → (c d : ℕ) → c < size → d < size → label (grouping size rules) c ≡ label (grouping size rules) d → g c ≡ g d
+  grouping-smallest g same c d hc hd e =
+      sym (labelled .within c hc) ∙ ap g e ∙ labelled .within d hd
+    where
+      labelled : Within g size (grouping size rules)
+      labelled =
+          grouping-keeps (Within g size) size rules
+          (λ groups r m a b j k h. unite-within g size groups a b (known r m a j) (known r m b k) (same r m a b j k) h)
+          (record { sized = length-upTo size; within = λ x h. ap g (getD-upTo size x 0 h) })
+
+  -- "numbered by lowest property": a label is the lowest property of its group
+  pub grouping-lowest : Lowest size (grouping size rules)
+  grouping-lowest =
+      grouping-keeps (Lowest size) size rules
+      (λ groups r m a b j k. unite-lowest size groups a b (known r m a j) (known r m b k))
+      (record {
+        sized = length-upTo size;
+        at-most = λ x h. subst (λ (n : ℕ). n ≤ x) (sym (getD-upTo size x 0 h)) (le-refl x);
+        own = λ x h. ap (label (upTo size)) (getD-upTo size x 0 h);
+      })
+
+-- The bags of a rule are over n properties.
+pub record Sized (n : ℕ) (r : Transition) : Type 0 where
+  pub enablers : length (r .enablers) ≡ n
+  pub start : length (r .start) ≡ n
+  pub finish : length (r .finish) ≡ n
+
+exchanges-sized : (p x : Bag) (r : Transition) → List·Memᴰ r (exchanges p x) → Sized (length p) r
+unfolding exchanges
+exchanges-sized p x r m =
+    let q = Memᴰ·of-map _ (support x) m in
+    subst (Sized (length p)) (q .2)
+    (record {
+      enablers = length-less p (single (length p) (q .0)) (sym (length-single (length p) (q .0)));
+      start = length-single (length p) (q .0);
+      finish = length-single (length p) (q .0);
+    })
+
+remaining-sized : (p start finish : Bag) → length start ≡ length p → length finish ≡ length p
+    → (r : Transition) → List·Memᴰ r (remaining p start finish) → Sized (length p) r
+unfolding remaining
+remaining-sized p start finish es ef r = go (isEmpty start)
+  where
+    go : (b : Bool)
+        → List·Memᴰ r
+          (cond b (map (λ c. record { enablers = less p start; start = start; finish = single (length p) c }) (support finish))
+          (record { enablers = less p start; start = start; finish = finish } ∷ []))
+        → Sized (length p) r
+    go true m =
+        let q = Memᴰ·of-map _ (support finish) m in
+        subst (Sized (length p)) (q .2)
+        (record { enablers = length-less p start (sym es); start = es; finish = length-single (length p) (q .0) })
+    go false m =
+        subst (Sized (length p)) (sym (List·Memᴰ·eq-of-singleton m))
+        (record { enablers = length-less p start (sym es); start = es; finish = ef })
+
+rulesOf-sized : (p d a : Bag) → length d ≡ length p → length a ≡ length p
+    → (r : Transition) → List·Memᴰ r (rulesOf p d a) → Sized (length p) r
+unfolding rulesOf
+rulesOf-sized p d a ed ea r m =
+    let common : length (meet d a) ≡ length p = length-meet d a (ed ∙ sym ea) ∙ ed in
+    ⊎-elim (exchanges-sized p (meet d a) r)
+    (remaining-sized p (less d (meet d a)) (less a (meet d a))
+      (length-less d (meet d a) (ed ∙ sym common) ∙ ed) (length-less a (meet d a) (ea ∙ sym common) ∙ ea) r)
+    (List·Memᴰ·append-cases (exchanges p (meet d a)) m)
+
+length-bagOf : (cs : List Property) (atoms : List Atom) (x : ℕ) → length (bagOf cs atoms x) ≡ length cs
+unfolding bagOf
+length-bagOf cs atoms x = length-map cs _
+
+-- every bag of a rule is over all properties
+pub transitions-sized : (t : Task) (r : Transition) → List·Memᴰ r (transitions t) → Sized (length (properties t)) r
+unfolding transitions parameterRules
+transitions-sized t r m =
+    let q = flatMap-at (λ s. flatMap (parameterRules t s) (upTo (s .parameters))) (t .schemas) r m in
+    let s = q .0 in
+    let k = flatMap-at (parameterRules t s) (upTo (s .parameters)) r (q .2) in
+    let bag : List Atom → Bag = λ atoms. bagOf (properties t) atoms (k .0) in
+    let size : (atoms : List Atom) → length (bag atoms) ≡ length (properties t) = λ atoms. length-bagOf (properties t) atoms (k .0) in
+    subst (λ (n : ℕ). Sized n r) (size (s .preconditions))
+    (rulesOf-sized (bag (s .preconditions)) (bag (s .deletes)) (bag (s .adds))
+      (size (s .deletes) ∙ sym (size (s .preconditions))) (size (s .adds) ∙ sym (size (s .preconditions))) r (k .2))
+
+-- the start and finish properties of a rule are properties of the task
+pub moved-known : (t : Task) (r : Transition) → List·Memᴰ r (transitions t) → (c : ℕ) → List·Memᴰ c (moved r) → c < length (properties t)
+unfolding moved
+moved-known t r m c k =
+    let sized = transitions-sized t r m in
+    subst (λ (n : ℕ). c < n) (length-plus (r .start) (r .finish) (sized .start ∙ sym (sized .finish)) ∙ sized .start)
+    (support-below (plus (r .start) (r .finish)) c k)
