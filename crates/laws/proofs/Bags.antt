@@ -5,7 +5,7 @@ use native.Mathlib.Omega.{arith}
 use mathlib.Core.Path.{_≡_, refl, sym, ap, _∙_, subst}
 use mathlib.Core.Bool.{Bool, true, false, cond, not, _&&_}
 use mathlib.Core.Logic.{_⊎_, inl, inr, ⊎-elim}
-use mathlib.Core.List.{List, [], _∷_, map, zipWith, List·Memᴰ, Memᴰ·cast}
+use mathlib.Core.List.{List, [], _∷_, _++_, map, zipWith, foldl, List·Memᴰ, List·Memᴰ·head, List·Memᴰ·tail, List·Memᴰ·cases-cons, List·Memᴰ·not-nil, List·Memᴰ·append-cases, List·Memᴰ·eq-of-singleton, Memᴰ·cast}
 use lib.Dec.{leb, eqb, ltb}
 use lib.ListN.{length, getD, length-map, List·getD-eq-default}
 use lib.Seq.{ext-getD}
@@ -284,3 +284,90 @@ restrict-contains cs b a e =
     (λ i h.
     let k : i < length cs = subst (λ (n : ℕ). i < n) (length-restrict cs b) h in
     omega (arith, contains-at b a e (getD cs i 0), getD-restrict cs b i k, getD-restrict cs a i k))
+
+-- ---- lists of bags, or of anything else
+
+module _ {A : Type 0} where
+  -- each element is related to every later one
+  abbrev pub Pairwise : (A → A → Type 0) → List A → Type 0
+  Pairwise R [] = Unit {0}
+  Pairwise R (x ∷ xs) = ((y : A) → List·Memᴰ y xs → R x y) × Pairwise R xs
+
+  pub pairwise-append : (R : A → A → Type 0) (xs ys : List A) → Pairwise R xs → Pairwise R ys
+      → ((x y : A) → List·Memᴰ x xs → List·Memᴰ y ys → R x y) → Pairwise R (xs ++ ys)
+  pairwise-append R [] ys p q h = q
+  pairwise-append R (x ∷ xs) ys p q h =
+      (λ y k. ⊎-elim (p .0 y) (h x y (List·Memᴰ·head refl)) (List·Memᴰ·append-cases xs k),
+      pairwise-append R xs ys (p .1) q (λ z y k. h z y (List·Memᴰ·tail k)))
+
+  -- no element stands twice
+  abbrev pub NoRepeat : List A → Type 0
+  NoRepeat xs = Pairwise (λ x y. x ≡ y → ⊥) xs
+
+  pub no-repeat-append : (xs : List A) (x : A) → NoRepeat xs → (List·Memᴰ x xs → ⊥) → NoRepeat (xs ++ (x ∷ []))
+  no-repeat-append xs x p d =
+      pairwise-append (λ x y. x ≡ y → ⊥) xs (x ∷ []) p (λ y k. absurd (List·Memᴰ·not-nil k), tt)
+      (λ y z k j e. d (Memᴰ·cast (sym (e ∙ List·Memᴰ·eq-of-singleton j)) k))
+
+  -- a list without repeats is at most as long as a list that has all its elements
+  pub no-repeat-length : (xs ys : List A) → NoRepeat xs → ((x : A) → List·Memᴰ x xs → List·Memᴰ x ys) → length xs ≤ length ys
+  no-repeat-length [] ys p h = zero-le
+  no-repeat-length (x ∷ xs) ys p h =
+      let c = around ys (h x (List·Memᴰ·head refl)) in
+      let rest = no-repeat-length xs (c .0 ++ c .1) (p .1) (λ y k. c .3 y (h y (List·Memᴰ·tail k)) (p .0 y k)) in
+      omega arith
+    where
+      -- an element of a list, and the list without it
+      around : (l : List A) → List·Memᴰ x l
+          → (us : List A) × (vs : List A) × (length l ≡ suc (length (us ++ vs)))
+          × ((y : A) → List·Memᴰ y l → (x ≡ y → ⊥) → List·Memᴰ y (us ++ vs))
+      around [] k = absurd (List·Memᴰ·not-nil k)
+      around (z ∷ l) k =
+          ⊎-elim (λ e. ([], l, refl, λ y j d. ⊎-elim (λ q. absurd (d (e ∙ sym q))) (λ i. i) (List·Memᴰ·cases-cons j)))
+          (λ j.
+          let r = around l j in
+          (z ∷ r .0, r .1, ap suc (r .2), λ y i d. ⊎-elim List·Memᴰ·head (λ o. List·Memᴰ·tail (r .3 y o d)) (List·Memᴰ·cases-cons i)))
+          (List·Memᴰ·cases-cons k)
+
+module _ {A B : Type 0} where
+  -- two lists of one length whose elements are related place by place
+  abbrev pub Each : (A → B → Type 0) → List A → List B → Type 0
+  Each R [] [] = Unit {0}
+  Each R [] (y ∷ ys) = ⊥
+  Each R (x ∷ xs) [] = ⊥
+  Each R (x ∷ xs) (y ∷ ys) = R x y × Each R xs ys
+
+  pub each-length : (R : A → B → Type 0) (xs : List A) (ys : List B) → Each R xs ys → length ys ≡ length xs
+  each-length R [] [] e = refl
+  each-length R [] (y ∷ ys) e = absurd e
+  each-length R (x ∷ xs) [] e = absurd e
+  each-length R (x ∷ xs) (y ∷ ys) e = ap suc (each-length R xs ys (e .1))
+
+  pub each-at : (R : A → B → Type 0) (xs : List A) (ys : List B) → Each R xs ys
+      → (i : ℕ) (d : A) (c : B) → i < length xs → R (getD xs i d) (getD ys i c)
+  each-at R [] [] e i d c h = absurd (not-suc-le-zero h)
+  each-at R [] (y ∷ ys) e i d c h = absurd e
+  each-at R (x ∷ xs) [] e i d c h = absurd e
+  each-at R (x ∷ xs) (y ∷ ys) e zero d c h = e .0
+  each-at R (x ∷ xs) (y ∷ ys) e (suc i) d c h = each-at R xs ys (e .1) i d c (le-of-suc-le-suc h)
+
+  -- what every step keeps, a fold keeps
+  pub fold-keeps : (Q : B → Type 0) (f : B → A → B) (xs : List A) → ((b : B) (x : A) → List·Memᴰ x xs → Q b → Q (f b x))
+      → (b : B) → Q b → Q (foldl f b xs)
+  fold-keeps Q f [] h b q = q
+  fold-keeps Q f (x ∷ xs) h b q =
+      fold-keeps Q f xs (λ c y k. h c y (List·Memᴰ·tail k)) (f b x) (h b x (List·Memᴰ·head refl) q)
+
+  -- a fold whose every step leads on, by a relation that is reflexive and transitive: it leads on as a whole, and for each
+  -- element on from some stage to its step, and from there to the end
+  module _ (R : B → B → Type 0) (same : (b : B) → R b b) (then : (b c d : B) → R b c → R c d → R b d) (f : B → A → B)
+      (step : (b : B) (x : A) → R b (f b x)) where
+    pub fold-leads : (b : B) (xs : List A) → R b (foldl f b xs)
+    fold-leads b xs = fold-keeps (R b) f xs (λ c x k r. then b c (f c x) r (step c x)) b (same b)
+
+    pub fold-at : (b : B) (xs : List A) (x : A) → List·Memᴰ x xs → (c : B) × R b c × R (f c x) (foldl f b xs)
+    fold-at b [] x k = absurd (List·Memᴰ·not-nil k)
+    fold-at b (y ∷ xs) x k =
+        ⊎-elim (λ e. (b, same b, subst (λ (z : A). R (f b z) (foldl f (f b y) xs)) (sym e) (fold-leads (f b y) xs)))
+        (λ j. let r = fold-at (f b y) xs x j in (r .0, then b (f b y) (r .0) (step b y) (r .1), r .2))
+        (List·Memᴰ·cases-cons k)
