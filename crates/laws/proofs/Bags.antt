@@ -1,0 +1,373 @@
+-- Bags: their operations read property by property, containment as an order, and the least bags of a list; for any number of properties.
+use Prim.Native.Nat.{ℕ, zero, suc, _+_, _-_, _≤_, _<_, min, zero-le, suc-le-suc}
+use native.Mathlib.Nat.{le-of-suc-le-suc, not-suc-le-zero, suc-inj, suc-ne-zero, le-refl}
+use native.Mathlib.Omega.{arith}
+use mathlib.Core.Path.{_≡_, refl, sym, ap, _∙_, subst}
+use mathlib.Core.Bool.{Bool, true, false, cond, not, _&&_}
+use mathlib.Core.Logic.{_⊎_, inl, inr, ⊎-elim}
+use mathlib.Core.List.{List, [], _∷_, _++_, map, zipWith, foldl, List·Memᴰ, List·Memᴰ·head, List·Memᴰ·tail, List·Memᴰ·cases-cons, List·Memᴰ·not-nil, List·Memᴰ·append-cases, List·Memᴰ·eq-of-singleton, Memᴰ·cast}
+use lib.Dec.{leb, eqb, ltb}
+use lib.ListN.{length, getD, length-map, List·getD-eq-default}
+use lib.Seq.{ext-getD}
+use borrow.Author.Tests.{eqb-true, eqb-false, eq-eqb, ne-eqb, leb-true, le-leb, ltb-true, ltb-false, lt-ltb}
+use Rattle.laws.specs.Lists.{any, all, keep, upTo, sum, same}
+use Rattle.laws.specs.Bags.{Bag, plus, less, meet, contains, strictlyContains, isEmpty, single, support, restrict, listed}
+use Rattle.laws.proofs.Tests.{never, and-left, and-right, and-intro, not-true, to-not-true, by-test, cond-true, cond-false}
+use Rattle.laws.proofs.Lists.{all-at, all-intro, any-at, any-intro, any-none, keep-at, keep-intro, mem-getD, place-of, length-upTo, upTo-at, upTo-intro, getD-upTo, same-eq, same-refl}
+
+-- ---- an operation that goes property by property
+
+pub length-zipWith : (f : ℕ → ℕ → ℕ) (n : ℕ) (a b : Bag) → length a ≡ n → length b ≡ n → length (zipWith f a b) ≡ n
+unfolding zipWith
+length-zipWith f n [] b p q = p
+length-zipWith f n (x ∷ a) [] p q = q
+length-zipWith f zero (x ∷ a) (y ∷ b) p q = absurd (suc-ne-zero (length a) p)
+length-zipWith f (suc n) (x ∷ a) (y ∷ b) p q = ap suc (length-zipWith f n a b (suc-inj p) (suc-inj q))
+
+pub getD-zipWith : (f : ℕ → ℕ → ℕ) → f 0 0 ≡ 0 → (a b : Bag) → length a ≡ length b → (i : ℕ)
+    → getD (zipWith f a b) i 0 ≡ f (getD a i 0) (getD b i 0)
+unfolding zipWith
+getD-zipWith f z [] [] p i = sym z
+getD-zipWith f z [] (y ∷ b) p i = absurd (suc-ne-zero (length b) (sym p))
+getD-zipWith f z (x ∷ a) [] p i = absurd (suc-ne-zero (length a) p)
+getD-zipWith f z (x ∷ a) (y ∷ b) p zero = refl
+getD-zipWith f z (x ∷ a) (y ∷ b) p (suc i) = getD-zipWith f z a b (suc-inj p) i
+
+-- sum, difference and intersection are such operations
+plus-zip : (a b : Bag) → plus a b ≡ zipWith _+_ a b
+unfolding plus zipWith
+plus-zip [] b = refl
+plus-zip (x ∷ a) [] = refl
+plus-zip (x ∷ a) (y ∷ b) = ap (λ (l : Bag). (x + y) ∷ l) (plus-zip a b)
+
+less-zip : (a b : Bag) → less a b ≡ zipWith _-_ a b
+unfolding less zipWith
+less-zip [] b = refl
+less-zip (x ∷ a) [] = refl
+less-zip (x ∷ a) (y ∷ b) = ap (λ (l : Bag). (x - y) ∷ l) (less-zip a b)
+
+meet-zip : (a b : Bag) → meet a b ≡ zipWith min a b
+unfolding meet zipWith
+meet-zip [] b = refl
+meet-zip (x ∷ a) [] = refl
+meet-zip (x ∷ a) (y ∷ b) = ap (λ (l : Bag). min x y ∷ l) (meet-zip a b)
+
+-- they keep the length
+pub length-plus : (n : ℕ) (a b : Bag) → length a ≡ n → length b ≡ n → length (plus a b) ≡ n
+length-plus n a b p q = ap length (plus-zip a b) ∙ length-zipWith _+_ n a b p q
+
+pub length-less : (n : ℕ) (a b : Bag) → length a ≡ n → length b ≡ n → length (less a b) ≡ n
+length-less n a b p q = ap length (less-zip a b) ∙ length-zipWith _-_ n a b p q
+
+pub length-meet : (n : ℕ) (a b : Bag) → length a ≡ n → length b ≡ n → length (meet a b) ≡ n
+length-meet n a b p q = ap length (meet-zip a b) ∙ length-zipWith min n a b p q
+
+-- their counts
+pub getD-plus : (a b : Bag) → length a ≡ length b → (i : ℕ) → getD (plus a b) i 0 ≡ getD a i 0 + getD b i 0
+getD-plus a b p i = ap (λ (l : Bag). getD l i 0) (plus-zip a b) ∙ getD-zipWith _+_ refl a b p i
+
+pub getD-less : (a b : Bag) → length a ≡ length b → (i : ℕ) → getD (less a b) i 0 ≡ getD a i 0 - getD b i 0
+getD-less a b p i = ap (λ (l : Bag). getD l i 0) (less-zip a b) ∙ getD-zipWith _-_ refl a b p i
+
+pub getD-meet : (a b : Bag) → length a ≡ length b → (i : ℕ) → getD (meet a b) i 0 ≡ min (getD a i 0) (getD b i 0)
+getD-meet a b p i = ap (λ (l : Bag). getD l i 0) (meet-zip a b) ∙ getD-zipWith min refl a b p i
+
+-- bags of one length with the same counts are the same
+pub bag-ext : (n : ℕ) (a b : Bag) → length a ≡ n → length b ≡ n → ((i : ℕ) → i < n → getD a i 0 ≡ getD b i 0) → a ≡ b
+bag-ext n a b p q h = ext-getD 0 a b (p ∙ sym q) (λ i k. h i (subst (λ (m : ℕ). i < m) p k))
+
+-- ---- containment
+
+-- a bag contains only bags of its own length, and has no smaller count
+pub contains-length : (b a : Bag) → contains b a ≡ true → length b ≡ length a
+unfolding contains
+contains-length [] [] e = refl
+contains-length [] (y ∷ a) e = never (sym e)
+contains-length (x ∷ b) [] e = never (sym e)
+contains-length (x ∷ b) (y ∷ a) e = ap suc (contains-length b a (and-right (leb y x) (contains b a) e))
+
+pub contains-at : (b a : Bag) → contains b a ≡ true → (i : ℕ) → getD a i 0 ≤ getD b i 0
+unfolding contains
+contains-at [] [] e i = le-refl 0
+contains-at [] (y ∷ a) e i = never (sym e)
+contains-at (x ∷ b) [] e i = never (sym e)
+contains-at (x ∷ b) (y ∷ a) e zero = leb-true y x (and-left (leb y x) (contains b a) e)
+contains-at (x ∷ b) (y ∷ a) e (suc i) = contains-at b a (and-right (leb y x) (contains b a) e) i
+
+pub contains-intro : (b a : Bag) → length b ≡ length a → ((i : ℕ) → i < length b → getD a i 0 ≤ getD b i 0) → contains b a ≡ true
+unfolding contains
+contains-intro [] [] p h = refl
+contains-intro [] (y ∷ a) p h = absurd (suc-ne-zero (length a) (sym p))
+contains-intro (x ∷ b) [] p h = absurd (suc-ne-zero (length b) p)
+contains-intro (x ∷ b) (y ∷ a) p h =
+    and-intro (leb y x) (contains b a) (le-leb y x (h 0 (suc-le-suc zero-le)))
+    (contains-intro b a (suc-inj p) (λ i k. h (suc i) (suc-le-suc k)))
+
+-- containment is an order
+pub contains-refl : (a : Bag) → contains a a ≡ true
+contains-refl a = contains-intro a a refl (λ i h. le-refl (getD a i 0))
+
+pub contains-trans : (c b a : Bag) → contains c b ≡ true → contains b a ≡ true → contains c a ≡ true
+contains-trans c b a p q =
+    contains-intro c a (contains-length c b p ∙ contains-length b a q)
+    (λ i h. omega (arith, contains-at c b p i, contains-at b a q i))
+
+pub contains-antisym : (a b : Bag) → contains a b ≡ true → contains b a ≡ true → a ≡ b
+contains-antisym a b p q =
+    bag-ext (length a) a b refl (contains-length b a q) (λ i h. omega (arith, contains-at a b p i, contains-at b a q i))
+
+-- strict containment: contained, and another bag
+pub strictly-at : (a b : Bag) → strictlyContains a b ≡ true → (contains a b ≡ true) × (a ≡ b → ⊥)
+unfolding strictlyContains
+strictly-at a b e =
+    (and-left (contains a b) (not (same a b)) e, λ p.
+    never (sym (subst (λ (c : Bag). same a c ≡ true) p (same-refl a)) ∙ not-true (same a b) (and-right (contains a b) (not (same a b)) e)))
+
+pub strictly-intro : (a b : Bag) → contains a b ≡ true → (a ≡ b → ⊥) → strictlyContains a b ≡ true
+unfolding strictlyContains
+strictly-intro a b p d =
+    and-intro (contains a b) (not (same a b)) p
+    (to-not-true (same a b) (by-test (same a b) (λ e. absurd (d (same-eq a b e))) (λ e. e)))
+
+-- no bag strictly contains itself, and what a bag strictly contains contains strictly less
+pub strictly-irrefl : (a : Bag) → strictlyContains a a ≡ false
+strictly-irrefl a = by-test (strictlyContains a a) (λ e. absurd (strictly-at a a e .1 refl)) (λ e. e)
+
+pub strictly-trans : (c b a : Bag) → contains c b ≡ true → strictlyContains b a ≡ true → strictlyContains c a ≡ true
+strictly-trans c b a p q =
+    let s = strictly-at b a q in
+    strictly-intro c a (contains-trans c b a p (s .0))
+    (λ e. s .1 (contains-antisym b a (s .0) (subst (λ (x : Bag). contains x b ≡ true) e p)))
+
+-- a bag has at least as many occurrences in all as one that it contains, and more than one that it strictly contains
+pub contains-sum : (b a : Bag) → contains b a ≡ true → sum a ≤ sum b
+unfolding contains sum
+contains-sum [] [] e = le-refl 0
+contains-sum [] (y ∷ a) e = never (sym e)
+contains-sum (x ∷ b) [] e = never (sym e)
+contains-sum (x ∷ b) (y ∷ a) e =
+    omega (arith, leb-true y x (and-left (leb y x) (contains b a) e), contains-sum b a (and-right (leb y x) (contains b a) e))
+
+pub contains-same-sum : (b a : Bag) → contains b a ≡ true → sum b ≤ sum a → b ≡ a
+unfolding contains sum
+contains-same-sum [] [] e h = refl
+contains-same-sum [] (y ∷ a) e h = never (sym e)
+contains-same-sum (x ∷ b) [] e h = never (sym e)
+contains-same-sum (x ∷ b) (y ∷ a) e h =
+    let p = leb-true y x (and-left (leb y x) (contains b a) e) in
+    let q = contains-sum b a (and-right (leb y x) (contains b a) e) in
+    ap (λ (n : ℕ). n ∷ b) (first p q) ∙ ap (λ (l : Bag). y ∷ l) (contains-same-sum b a (and-right (leb y x) (contains b a) e) (rest p q))
+  where
+    first : y ≤ x → sum a ≤ sum b → x ≡ y
+    first p q = omega arith
+    rest : y ≤ x → sum a ≤ sum b → sum b ≤ sum a
+    rest p q = omega arith
+
+pub strictly-sum : (b a : Bag) → strictlyContains b a ≡ true → sum a < sum b
+strictly-sum b a e =
+    let s = strictly-at b a e in
+    by-test (ltb (sum a) (sum b)) (ltb-true (sum a) (sum b))
+    (λ f. absurd (s .1 (contains-same-sum b a (s .0) (ltb-false (sum a) (sum b) f))))
+
+-- below each bag of a list there is one of the list that strictly contains none of the list
+pub least-below : (bags : List Bag) (b : Bag) → List·Memᴰ b bags
+    → (m : Bag) × List·Memᴰ m bags × (contains b m ≡ true) × (any (strictlyContains m) bags ≡ false)
+least-below bags b k = descend (suc (sum b)) b k (le-refl (suc (sum b)))
+  where
+    descend : (fuel : ℕ) (b : Bag) → List·Memᴰ b bags → sum b < fuel
+        → (m : Bag) × List·Memᴰ m bags × (contains b m ≡ true) × (any (strictlyContains m) bags ≡ false)
+    descend zero b k h = absurd (not-suc-le-zero h)
+    descend (suc fuel) b k h =
+        by-test (any (strictlyContains b) bags)
+        (λ e.
+        let r = any-at (strictlyContains b) bags e in
+        let c = r .0 in
+        let s = strictly-sum b c (r .2) in
+        let m = descend fuel c (r .1) (omega arith) in
+        (m .0, m .1, contains-trans b c (m .0) (strictly-at b c (r .2) .0) (m .2), m .3))
+        (λ e. (b, k, contains-refl b, e))
+
+-- ---- a bag on a list
+
+pub listed-at : (bags : List Bag) (b : Bag) → listed bags b ≡ true → List·Memᴰ b bags
+unfolding listed
+listed-at bags b e = let r = any-at (same b) bags e in Memᴰ·cast (same-eq b (r .0) (r .2)) (r .1)
+
+pub listed-intro : (bags : List Bag) (b : Bag) → List·Memᴰ b bags → listed bags b ≡ true
+unfolding listed
+listed-intro bags b k = any-intro (same b) bags b k (same-refl b)
+
+pub listed-not : (bags : List Bag) (b : Bag) → listed bags b ≡ false → List·Memᴰ b bags → ⊥
+listed-not bags b e k = never (sym (listed-intro bags b k) ∙ e)
+
+-- ---- an empty bag, a bag of one occurrence, the properties of a bag
+
+pub isEmpty-at : (b : Bag) → isEmpty b ≡ true → (i : ℕ) → getD b i 0 ≡ 0
+unfolding isEmpty
+isEmpty-at b e i =
+    by-test (ltb i (length b))
+    (λ p. sym (eqb-true 0 (getD b i 0) (all-at (eqb 0) b e (getD b i 0) (mem-getD b i 0 (ltb-true i (length b) p)))))
+    (λ q. List·getD-eq-default b 0 (ltb-false i (length b) q))
+
+pub isEmpty-intro : (b : Bag) → ((i : ℕ) → i < length b → getD b i 0 ≡ 0) → isEmpty b ≡ true
+unfolding isEmpty
+isEmpty-intro b h =
+    all-intro (eqb 0) b (λ x k. let r = place-of b x 0 k in eq-eqb 0 x (sym (sym (r .2) ∙ h (r .0) (r .1))))
+
+-- a bag that is not empty has a property
+pub isEmpty-not : (b : Bag) → isEmpty b ≡ false → (i : ℕ) × (i < length b) × (0 < getD b i 0)
+unfolding isEmpty all
+isEmpty-not [] e = never e
+isEmpty-not (zero ∷ b) e = let r = isEmpty-not b e in (suc (r .0), suc-le-suc (r .1), r .2)
+isEmpty-not (suc x ∷ b) e = (0, suc-le-suc zero-le, suc-le-suc zero-le)
+
+pub length-single : (n c : ℕ) → length (single n c) ≡ n
+unfolding single
+length-single n c = length-map (upTo n) (λ d. cond (eqb c d) 1 0) ∙ length-upTo n
+
+-- the count at a place of a mapped list
+getD-map-in : {A : Type 0} (f : A → ℕ) (l : List A) (i : ℕ) (d : A) → i < length l → getD (map f l) i 0 ≡ f (getD l i d)
+getD-map-in f [] i d h = absurd (not-suc-le-zero h)
+getD-map-in f (x ∷ l) zero d h = refl
+getD-map-in f (x ∷ l) (suc i) d h = getD-map-in f l i d (le-of-suc-le-suc h)
+
+pub getD-single : (n c i : ℕ) → i < n → getD (single n c) i 0 ≡ cond (eqb c i) 1 0
+unfolding single
+getD-single n c i h =
+    getD-map-in (λ d. cond (eqb c d) 1 0) (upTo n) i 0 (subst (λ (m : ℕ). i < m) (sym (length-upTo n)) h)
+    ∙ ap (λ (d : ℕ). cond (eqb c d) 1 0) (getD-upTo n i 0 h)
+
+pub single-here : (n c : ℕ) → c < n → getD (single n c) c 0 ≡ 1
+single-here n c h = getD-single n c c h ∙ cond-true (eqb c c) 1 0 (eq-eqb c c refl)
+
+pub single-elsewhere : (n c i : ℕ) → i < n → (c ≡ i → ⊥) → getD (single n c) i 0 ≡ 0
+single-elsewhere n c i h d = getD-single n c i h ∙ cond-false (eqb c i) 1 0 (ne-eqb c i d)
+
+pub support-at : (b : Bag) (c : ℕ) → List·Memᴰ c (support b) → (c < length b) × (0 < getD b c 0)
+unfolding support
+support-at b c k =
+    let r = keep-at (λ c. ltb 0 (getD b c 0)) (upTo (length b)) c k in (upTo-at (length b) c (r .0), ltb-true 0 (getD b c 0) (r .1))
+
+pub support-intro : (b : Bag) (c : ℕ) → c < length b → 0 < getD b c 0 → List·Memᴰ c (support b)
+unfolding support
+support-intro b c h k = keep-intro (λ c. ltb 0 (getD b c 0)) (upTo (length b)) c (upTo-intro (length b) c h) (lt-ltb 0 (getD b c 0) k)
+
+-- ---- the counts of some properties
+
+pub length-restrict : (cs : List ℕ) (b : Bag) → length (restrict cs b) ≡ length cs
+unfolding restrict
+length-restrict cs b = length-map cs (λ c. getD b c 0)
+
+pub getD-restrict : (cs : List ℕ) (b : Bag) (i : ℕ) → i < length cs → getD (restrict cs b) i 0 ≡ getD b (getD cs i 0) 0
+unfolding restrict
+getD-restrict cs b i h = getD-map-in (λ c. getD b c 0) cs i 0 h
+
+-- the operations on some of the properties
+pub restrict-plus : (cs : List ℕ) (a b : Bag) → length a ≡ length b → restrict cs (plus a b) ≡ plus (restrict cs a) (restrict cs b)
+unfolding restrict plus
+restrict-plus [] a b p = refl
+restrict-plus (c ∷ cs) a b p = λ i. getD-plus a b p c i ∷ restrict-plus cs a b p i
+
+pub restrict-less : (cs : List ℕ) (a b : Bag) → length a ≡ length b → restrict cs (less a b) ≡ less (restrict cs a) (restrict cs b)
+unfolding restrict less
+restrict-less [] a b p = refl
+restrict-less (c ∷ cs) a b p = λ i. getD-less a b p c i ∷ restrict-less cs a b p i
+
+pub restrict-meet : (cs : List ℕ) (a b : Bag) → length a ≡ length b → restrict cs (meet a b) ≡ meet (restrict cs a) (restrict cs b)
+unfolding restrict meet
+restrict-meet [] a b p = refl
+restrict-meet (c ∷ cs) a b p = λ i. getD-meet a b p c i ∷ restrict-meet cs a b p i
+
+pub restrict-contains : (cs : List ℕ) (b a : Bag) → contains b a ≡ true → contains (restrict cs b) (restrict cs a) ≡ true
+restrict-contains cs b a e =
+    contains-intro (restrict cs b) (restrict cs a) (length-restrict cs b ∙ sym (length-restrict cs a))
+    (λ i h.
+    let k : i < length cs = subst (λ (n : ℕ). i < n) (length-restrict cs b) h in
+    omega (arith, contains-at b a e (getD cs i 0), getD-restrict cs b i k, getD-restrict cs a i k))
+
+-- ---- lists of bags, or of anything else
+
+module _ {A : Type 0} where
+  -- each element is related to every later one
+  abbrev pub Pairwise : (A → A → Type 0) → List A → Type 0
+  Pairwise R [] = Unit {0}
+  Pairwise R (x ∷ xs) = ((y : A) → List·Memᴰ y xs → R x y) × Pairwise R xs
+
+  pub pairwise-append : (R : A → A → Type 0) (xs ys : List A) → Pairwise R xs → Pairwise R ys
+      → ((x y : A) → List·Memᴰ x xs → List·Memᴰ y ys → R x y) → Pairwise R (xs ++ ys)
+  pairwise-append R [] ys p q h = q
+  pairwise-append R (x ∷ xs) ys p q h =
+      (λ y k. ⊎-elim (p .0 y) (h x y (List·Memᴰ·head refl)) (List·Memᴰ·append-cases xs k),
+      pairwise-append R xs ys (p .1) q (λ z y k. h z y (List·Memᴰ·tail k)))
+
+  -- no element stands twice
+  abbrev pub NoRepeat : List A → Type 0
+  NoRepeat xs = Pairwise (λ x y. x ≡ y → ⊥) xs
+
+  pub no-repeat-append : (xs : List A) (x : A) → NoRepeat xs → (List·Memᴰ x xs → ⊥) → NoRepeat (xs ++ (x ∷ []))
+  no-repeat-append xs x p d =
+      pairwise-append (λ x y. x ≡ y → ⊥) xs (x ∷ []) p (λ y k. absurd (List·Memᴰ·not-nil k), tt)
+      (λ y z k j e. d (Memᴰ·cast (sym (e ∙ List·Memᴰ·eq-of-singleton j)) k))
+
+  -- a list without repeats is at most as long as a list that has all its elements
+  pub no-repeat-length : (xs ys : List A) → NoRepeat xs → ((x : A) → List·Memᴰ x xs → List·Memᴰ x ys) → length xs ≤ length ys
+  no-repeat-length [] ys p h = zero-le
+  no-repeat-length (x ∷ xs) ys p h =
+      let c = around ys (h x (List·Memᴰ·head refl)) in
+      let rest = no-repeat-length xs (c .0 ++ c .1) (p .1) (λ y k. c .3 y (h y (List·Memᴰ·tail k)) (p .0 y k)) in
+      omega arith
+    where
+      -- an element of a list, and the list without it
+      around : (l : List A) → List·Memᴰ x l
+          → (us : List A) × (vs : List A) × (length l ≡ suc (length (us ++ vs)))
+          × ((y : A) → List·Memᴰ y l → (x ≡ y → ⊥) → List·Memᴰ y (us ++ vs))
+      around [] k = absurd (List·Memᴰ·not-nil k)
+      around (z ∷ l) k =
+          ⊎-elim (λ e. ([], l, refl, λ y j d. ⊎-elim (λ q. absurd (d (e ∙ sym q))) (λ i. i) (List·Memᴰ·cases-cons j)))
+          (λ j.
+          let r = around l j in
+          (z ∷ r .0, r .1, ap suc (r .2), λ y i d. ⊎-elim List·Memᴰ·head (λ o. List·Memᴰ·tail (r .3 y o d)) (List·Memᴰ·cases-cons i)))
+          (List·Memᴰ·cases-cons k)
+
+module _ {A B : Type 0} where
+  -- two lists of one length whose elements are related place by place
+  abbrev pub Each : (A → B → Type 0) → List A → List B → Type 0
+  Each R [] [] = Unit {0}
+  Each R [] (y ∷ ys) = ⊥
+  Each R (x ∷ xs) [] = ⊥
+  Each R (x ∷ xs) (y ∷ ys) = R x y × Each R xs ys
+
+  pub each-length : (R : A → B → Type 0) (xs : List A) (ys : List B) → Each R xs ys → length ys ≡ length xs
+  each-length R [] [] e = refl
+  each-length R [] (y ∷ ys) e = absurd e
+  each-length R (x ∷ xs) [] e = absurd e
+  each-length R (x ∷ xs) (y ∷ ys) e = ap suc (each-length R xs ys (e .1))
+
+  pub each-at : (R : A → B → Type 0) (xs : List A) (ys : List B) → Each R xs ys
+      → (i : ℕ) (d : A) (c : B) → i < length xs → R (getD xs i d) (getD ys i c)
+  each-at R [] [] e i d c h = absurd (not-suc-le-zero h)
+  each-at R [] (y ∷ ys) e i d c h = absurd e
+  each-at R (x ∷ xs) [] e i d c h = absurd e
+  each-at R (x ∷ xs) (y ∷ ys) e zero d c h = e .0
+  each-at R (x ∷ xs) (y ∷ ys) e (suc i) d c h = each-at R xs ys (e .1) i d c (le-of-suc-le-suc h)
+
+  -- what every step keeps, a fold keeps
+  pub fold-keeps : (Q : B → Type 0) (f : B → A → B) (xs : List A) → ((b : B) (x : A) → List·Memᴰ x xs → Q b → Q (f b x))
+      → (b : B) → Q b → Q (foldl f b xs)
+  fold-keeps Q f [] h b q = q
+  fold-keeps Q f (x ∷ xs) h b q =
+      fold-keeps Q f xs (λ c y k. h c y (List·Memᴰ·tail k)) (f b x) (h b x (List·Memᴰ·head refl) q)
+
+  -- a fold whose every step leads on, by a relation that is reflexive and transitive: it leads on as a whole, and for each
+  -- element on from some stage to its step, and from there to the end
+  module _ (R : B → B → Type 0) (same : (b : B) → R b b) (then : (b c d : B) → R b c → R c d → R b d) (f : B → A → B)
+      (step : (b : B) (x : A) → R b (f b x)) where
+    pub fold-leads : (b : B) (xs : List A) → R b (foldl f b xs)
+    fold-leads b xs = fold-keeps (R b) f xs (λ c x k r. then b c (f c x) r (step c x)) b (same b)
+
+    pub fold-at : (b : B) (xs : List A) (x : A) → List·Memᴰ x xs → (c : B) × R b c × R (f c x) (foldl f b xs)
+    fold-at b [] x k = absurd (List·Memᴰ·not-nil k)
+    fold-at b (y ∷ xs) x k =
+        ⊎-elim (λ e. (b, same b, subst (λ (z : A). R (f b z) (foldl f (f b y) xs)) (sym e) (fold-leads (f b y) xs)))
+        (λ j. let r = fold-at (f b y) xs x j in (r .0, then b (f b y) (r .0) (step b y) (r .1), r .2))
+        (List·Memᴰ·cases-cons k)
