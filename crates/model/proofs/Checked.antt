@@ -48,6 +48,13 @@ each-at check previous (y ∷ ys) e x m =
     (each-at check (some y) ys (then-accepted (check previous y) (each check (some y) ys) e) x)
     (List·Memᴰ·cases-cons m)
 
+-- the arguments of a known atom are below the bound
+pub known-bound : (arities : List ℕ) (bound : ℕ) (a : Atom) → known arities bound a ≡ true → all (λ x. ltb x bound) (a .arguments) ≡ true
+unfolding known
+known-bound arities bound a e =
+    let arity = eqb (length (a .arguments)) (getD arities (a .predicate) 0) in
+    and-right (ltb (a .predicate) (length arities) && arity) (all (λ x. ltb x bound) (a .arguments)) e
+
 -- A list of atoms of a schema that passed: its atoms are known, ascending, and pass the test of their list.
 pub record CheckedList (arities : List ℕ) (parameters : ℕ) (test : Atom → Bool) (atoms : List Atom) : Type 0 where
   pub atoms-known : (a : Atom) → List·Memᴰ a atoms → known arities parameters a ≡ true
