@@ -1,0 +1,202 @@
+-- Counting: how many elements of a list pass a test, where no element stands twice; and bags that are made by counting.
+use Prim.Native.Nat.{ℕ, zero, suc, _+_, _-_, min, _≤_, _<_, zero-le, suc-le-suc}
+use native.Mathlib.Nat.{le-antisymm, zero-add, suc-add, add-suc}
+use native.Mathlib.Omega.{arith}
+use mathlib.Core.Path.{_≡_, refl, sym, ap, _∙_, subst}
+use mathlib.Core.Bool.{Bool, true, false, cond, not, _&&_}
+use mathlib.Core.Logic.{_⊎_, inl, inr, ⊎-elim}
+use mathlib.Core.List.{List, [], _∷_, _++_, map, List·Memᴰ, List·Memᴰ·head, List·Memᴰ·tail, List·Memᴰ·cases-cons, List·Memᴰ·not-nil, List·Memᴰ·append-cases, Memᴰ·append-left, Memᴰ·append-right, Memᴰ·of-map}
+use lib.Dec.{leb}
+use lib.ListN.{length}
+use borrow.Author.Tests.{le-leb}
+use Rattle.laws.specs.Lists.{keep, count}
+use Rattle.laws.specs.Bags.{plus, less, meet, contains}
+use Rattle.laws.proofs.Tests.{never, and-intro, by-test, not-true, to-not-true}
+use Rattle.laws.proofs.Lists.{keep-at, keep-intro, count-append}
+
+module _ {A : Type 0} where
+  -- no element stands twice
+  abbrev pub Apart : List A → Type 0
+  Apart [] = Unit {0}
+  Apart (x ∷ xs) = (List·Memᴰ x xs → ⊥) × Apart xs
+
+  -- the test picks the elements of the list
+  pub record Picks (test : A → Bool) (xs : List A) : Type 0 where
+    pub picked : (x : A) → test x ≡ true → List·Memᴰ x xs
+    pub picks : (x : A) → List·Memᴰ x xs → test x ≡ true
+
+  -- the rest of a list with one element taken out: every count is that of the element and the rest, every other element is in the rest
+  pub record Rest (x : A) (xs : List A) : Type 0 where
+    pub rest : List A
+    pub counts : (f : A → Bool) → count f xs ≡ count f (x ∷ rest)
+    pub members : (y : A) → List·Memᴰ y xs → (y ≡ x) ⊎ List·Memᴰ y rest
+
+  -- two elements change places
+  count-swap : (f : A → Bool) (x y : A) (zs : List A) → count f (x ∷ y ∷ zs) ≡ count f (y ∷ x ∷ zs)
+  unfolding count
+  count-swap f x y zs = go (f x) (f y)
+    where
+      go : (a b : Bool)
+          → cond a (suc (cond b (suc (count f zs)) (count f zs))) (cond b (suc (count f zs)) (count f zs))
+          ≡ cond b (suc (cond a (suc (count f zs)) (count f zs))) (cond a (suc (count f zs)) (count f zs))
+      go true true = refl
+      go true false = refl
+      go false true = refl
+      go false false = refl
+
+  -- counts that agree on two rests agree with one element in front
+  count-cons : (f : A → Bool) (x : A) (ys zs : List A) → count f ys ≡ count f zs → count f (x ∷ ys) ≡ count f (x ∷ zs)
+  unfolding count
+  count-cons f x ys zs e = ap (λ (n : ℕ). cond (f x) (suc n) n) e
+
+  -- a member can be taken out
+  taken-out : (x : A) (ys : List A) → List·Memᴰ x ys → Rest x ys
+  taken-out x [] m = absurd (List·Memᴰ·not-nil m)
+  taken-out x (y ∷ ys) m = ⊎-elim first (λ k. later (taken-out x ys k)) (List·Memᴰ·cases-cons m)
+    where
+      first : x ≡ y → Rest x (y ∷ ys)
+      first p = record {
+          rest = ys;
+          counts = λ f. ap (λ (z : A). count f (z ∷ ys)) (sym p);
+          members = λ z k. ⊎-elim (λ q. inl (q ∙ sym p)) (λ j. inr j) (List·Memᴰ·cases-cons k)
+        }
+      later : Rest x ys → Rest x (y ∷ ys)
+      later r = record {
+          rest = y ∷ r .rest;
+          counts = λ f. count-cons f y ys (x ∷ r .rest) (r .counts f) ∙ count-swap f y x (r .rest);
+          members = λ z k. ⊎-elim (λ q. inr (List·Memᴰ·head q))
+              (λ j. ⊎-elim (λ q. inl q) (λ i. inr (List·Memᴰ·tail i)) (r .members z j))
+              (List·Memᴰ·cases-cons k)
+        }
+
+  -- a list that repeats nothing and whose elements are all in another counts no more than that one
+  pub count-within : (f : A → Bool) (xs ys : List A) → Apart xs → ((x : A) → List·Memᴰ x xs → List·Memᴰ x ys) → count f xs ≤ count f ys
+  unfolding count
+  count-within f [] ys apart inside = zero-le
+  count-within f (x ∷ xs) ys apart inside =
+      let r = taken-out x ys (inside x (List·Memᴰ·head refl)) in
+      let others = count-within f xs (r .rest) (apart .1) (λ y m.
+          ⊎-elim (λ p. absurd (apart .0 (subst (λ (z : A). List·Memᴰ z xs) p m))) (λ k. k) (r .members y (inside y (List·Memᴰ·tail m)))) in
+      go (f x) (r .rest) (r .counts f) others
+    where
+      go : (b : Bool) (zs : List A) → count f ys ≡ cond b (suc (count f zs)) (count f zs) → count f xs ≤ count f zs
+          → cond b (suc (count f xs)) (count f xs) ≤ count f ys
+      go true zs e h = omega arith
+      go false zs e h = omega arith
+
+  -- two lists that repeat nothing and have the same elements count alike
+  pub count-alike : (f : A → Bool) (xs ys : List A) → Apart xs → Apart ys
+      → ((x : A) → List·Memᴰ x xs → List·Memᴰ x ys) → ((x : A) → List·Memᴰ x ys → List·Memᴰ x xs) → count f xs ≡ count f ys
+  count-alike f xs ys p q into back = le-antisymm (count-within f xs ys p into) (count-within f ys xs q back)
+
+  -- the first element counts 1 or 0
+  count-front : (f : A → Bool) (x : A) (xs : List A) → count f (x ∷ xs) ≡ cond (f x) 1 0 + count f xs
+  unfolding count
+  count-front f x xs = go (f x)
+    where
+      go : (b : Bool) → cond b (suc (count f xs)) (count f xs) ≡ cond b 1 0 + count f xs
+      go true = omega arith
+      go false = omega arith
+
+  -- the kept and the others make up the whole count
+  pub count-split : (f g : A → Bool) (xs : List A) → count f xs ≡ count f (keep g xs) + count f (keep (λ x. not (g x)) xs)
+  unfolding keep
+  count-split f g [] = unfold count in refl
+  count-split f g (x ∷ xs) = count-front f x xs ∙ go (g x) (count-split f g xs)
+    where
+      go : (b : Bool) → count f xs ≡ count f (keep g xs) + count f (keep (λ x. not (g x)) xs)
+          → cond (f x) 1 0 + count f xs
+          ≡ count f (cond b (x ∷ keep g xs) (keep g xs))
+          + count f (cond (not b) (x ∷ keep (λ x. not (g x)) xs) (keep (λ x. not (g x)) xs))
+      go true e = omega (arith, count-front f x (keep g xs))
+      go false e = omega (arith, count-front f x (keep (λ x. not (g x)) xs))
+
+  -- kept elements stand once, as before
+  pub apart-keep : (test : A → Bool) (xs : List A) → Apart xs → Apart (keep test xs)
+  unfolding keep
+  apart-keep test [] apart = tt
+  apart-keep test (x ∷ xs) apart = go (test x) (apart-keep test xs (apart .1))
+    where
+      go : (b : Bool) → Apart (keep test xs) → Apart (cond b (x ∷ keep test xs) (keep test xs))
+      go true later = (λ m. apart .0 (keep-at test xs x m .0), later)
+      go false later = later
+
+  -- two lists with no element in common
+  pub apart-append : (xs ys : List A) → Apart xs → Apart ys → ((x : A) → List·Memᴰ x xs → List·Memᴰ x ys → ⊥) → Apart (xs ++ ys)
+  apart-append [] ys p q differ = q
+  apart-append (x ∷ xs) ys p q differ =
+      (λ m. ⊎-elim (p .0) (differ x (List·Memᴰ·head refl)) (List·Memᴰ·append-cases xs m),
+      apart-append xs ys (p .1) q (λ y m. differ y (List·Memᴰ·tail m)))
+
+  -- elements taken out of a list: the count falls by theirs
+  pub count-removed : (f gone : A → Bool) (xs out : List A) → Picks gone out → Apart xs → Apart out
+      → ((x : A) → List·Memᴰ x out → List·Memᴰ x xs) → count f (keep (λ x. not (gone x)) xs) + count f out ≡ count f xs
+  count-removed f gone xs out p apart once inside =
+      let same = count-alike f (keep gone xs) out (apart-keep gone xs apart) once
+          (λ x m. p .picked x (keep-at gone xs x m .1)) (λ x m. keep-intro gone xs x (inside x m) (p .picks x m)) in
+      omega (arith, count-split f gone xs)
+
+  -- elements put into a list: the count rises by theirs, less those that were there
+  pub count-joined : (f there : A → Bool) (xs new all : List A) → Picks there xs → Apart xs → Apart new → Apart all
+      → ((x : A) → List·Memᴰ x all → List·Memᴰ x xs ⊎ List·Memᴰ x new)
+      → ((x : A) → List·Memᴰ x xs → List·Memᴰ x all) → ((x : A) → List·Memᴰ x new → List·Memᴰ x all)
+      → count f all + count f (keep there new) ≡ count f xs + count f new
+  count-joined f there xs new all p once apart whole from old more =
+      let fresh : List A = keep (λ x. not (there x)) new in
+      let same = count-alike f all (xs ++ fresh) whole (apart-append xs fresh once (apart-keep (λ x. not (there x)) new apart) differ) into back in
+      omega (arith, count-split f there new, count-append f xs fresh)
+    where
+      differ : (x : A) → List·Memᴰ x xs → List·Memᴰ x (keep (λ x. not (there x)) new) → ⊥
+      differ x m k = never (sym (p .picks x m) ∙ not-true (there x) (keep-at (λ x. not (there x)) new x k .1))
+      into : (x : A) → List·Memᴰ x all → List·Memᴰ x (xs ++ keep (λ x. not (there x)) new)
+      into x m = by-test (there x) (λ e. Memᴰ·append-left (keep (λ x. not (there x)) new) (p .picked x e))
+          (λ e. ⊎-elim (λ k. Memᴰ·append-left (keep (λ x. not (there x)) new) k)
+          (λ k. Memᴰ·append-right xs (keep-intro (λ x. not (there x)) new x k (to-not-true (there x) e))) (from x m))
+      back : (x : A) → List·Memᴰ x (xs ++ keep (λ x. not (there x)) new) → List·Memᴰ x all
+      back x m = ⊎-elim (old x) (λ k. more x (keep-at (λ x. not (there x)) new x k .0)) (List·Memᴰ·append-cases xs m)
+
+module _ {A B : Type 0} where
+  -- a function that tells the elements apart keeps them apart
+  pub apart-map : (f : A → B) (xs : List A) → ((x y : A) → List·Memᴰ x xs → List·Memᴰ y xs → f x ≡ f y → x ≡ y)
+      → Apart xs → Apart (map f xs)
+  apart-map f [] injective apart = tt
+  apart-map f (x ∷ xs) injective apart =
+      (λ m. let r = Memᴰ·of-map f xs m in
+      apart .0 (subst (λ (z : A). List·Memᴰ z xs) (injective (r .0) x (List·Memᴰ·tail (r .1)) (List·Memᴰ·head refl) (r .2)) (r .1)),
+      apart-map f xs (λ y z m k. injective y z (List·Memᴰ·tail m) (List·Memᴰ·tail k)) (apart .1))
+
+  -- counting what a function gives is counting by the test of what it gives
+  pub count-map : (f : B → Bool) (g : A → B) (xs : List A) → count f (map g xs) ≡ count (λ x. f (g x)) xs
+  unfolding count
+  count-map f g [] = refl
+  count-map f g (x ∷ xs) = ap (λ (n : ℕ). cond (f (g x)) (suc n) n) (count-map f g xs)
+
+  -- functions that agree give the same list
+  pub map-ext : (f g : A → B) (xs : List A) → ((x : A) → List·Memᴰ x xs → f x ≡ g x) → map f xs ≡ map g xs
+  map-ext f g [] e = refl
+  map-ext f g (x ∷ xs) e =
+      ap (λ (y : B). y ∷ map f xs) (e x (List·Memᴰ·head refl)) ∙ ap (λ (l : List B). g x ∷ l) (map-ext f g xs (λ y m. e y (List·Memᴰ·tail m)))
+
+-- operations on bags over one list of properties go property by property
+module _ {A : Type 0} where
+  pub plus-map : (f g : A → ℕ) (xs : List A) → plus (map f xs) (map g xs) ≡ map (λ x. f x + g x) xs
+  unfolding plus
+  plus-map f g [] = refl
+  plus-map f g (x ∷ xs) = ap (λ (l : List ℕ). (f x + g x) ∷ l) (plus-map f g xs)
+
+  pub less-map : (f g : A → ℕ) (xs : List A) → less (map f xs) (map g xs) ≡ map (λ x. f x - g x) xs
+  unfolding less
+  less-map f g [] = refl
+  less-map f g (x ∷ xs) = ap (λ (l : List ℕ). (f x - g x) ∷ l) (less-map f g xs)
+
+  pub meet-map : (f g : A → ℕ) (xs : List A) → meet (map f xs) (map g xs) ≡ map (λ x. min (f x) (g x)) xs
+  unfolding meet
+  meet-map f g [] = refl
+  meet-map f g (x ∷ xs) = ap (λ (l : List ℕ). min (f x) (g x) ∷ l) (meet-map f g xs)
+
+  pub contains-map : (f g : A → ℕ) (xs : List A) → ((x : A) → List·Memᴰ x xs → g x ≤ f x) → contains (map f xs) (map g xs) ≡ true
+  unfolding contains
+  contains-map f g [] h = refl
+  contains-map f g (x ∷ xs) h =
+      and-intro (leb (g x) (f x)) (contains (map f xs) (map g xs)) (le-leb (g x) (f x) (h x (List·Memᴰ·head refl)))
+      (contains-map f g xs (λ y m. h y (List·Memᴰ·tail m)))

@@ -7,6 +7,9 @@ pub mod RoundTrip
 pub mod Grouping
 pub mod Closing
 pub mod SpaceFacts
+pub mod Putting
+pub mod Binding
+pub mod Checked
 pub mod Effect
 pub mod Choices
 pub mod OwnLists
