@@ -14,6 +14,7 @@ pub mod Effect
 pub mod Choices
 pub mod OwnLists
 pub mod Chain
+pub mod ListedSpace
 pub mod Sections
 pub mod Totals
 pub mod Invariant
