@@ -1,19 +1,19 @@
 -- Groups: what grouping and closing take from lists: folds that keep a fact, tests that agree, kept numbers, the lengths of bags,
 -- and a step that only adds to a set.
-use Prim.Native.Nat.{ℕ, zero, suc, _+_, _-_, _≤_, _<_, min, zero-le, suc-le-suc}
-use native.Mathlib.Nat.{le-of-suc-le-suc, not-suc-le-zero, le-refl, suc-inj}
+use Prim.Native.Nat.{ℕ, zero, suc, _+_, _≤_, _<_, min, zero-le, suc-le-suc}
+use native.Mathlib.Nat.{le-of-suc-le-suc, not-suc-le-zero, suc-inj, min-eq-left}
 use native.Mathlib.Omega.{arith}
 use mathlib.Core.Path.{_≡_, refl, sym, ap, _∙_, subst}
 use mathlib.Core.Bool.{Bool, true, false, cond, not, _&&_, _||_}
 use mathlib.Core.Logic.{_⊎_, inl, inr, ⊎-elim}
 use mathlib.Core.List.{List, [], _∷_, map, foldl, List·Memᴰ, List·Memᴰ·head, List·Memᴰ·tail, List·Memᴰ·cases-cons, List·Memᴰ·not-nil}
-use lib.Dec.{eqb, ltb}
+use lib.Dec.{eqb, ltb, leb}
 use lib.ListN.{length, getD, length-map}
-use borrow.Author.Tests.{eqb-true, eq-eqb, ltb-true, ltb-false}
+use borrow.Author.Tests.{ltb-true, ltb-false, leb-true, leb-false}
 use Rattle.laws.specs.Lists.{any, all, keep, count, from, upTo, member, distinct}
 use Rattle.laws.specs.Bags.{Bag, plus, less, meet, single, support}
-use Rattle.laws.proofs.Tests.{never, and-left, and-right, and-intro, or-cases, or-left, or-right, same-test, by-test, not-true, to-not-true}
-use Rattle.laws.proofs.Lists.{any-at, any-intro, keep-at, keep-intro, count-ext, from-at, length-upTo, upTo-at, upTo-intro, member-at, member-intro, member-not, not-member}
+use Rattle.laws.proofs.Tests.{never, and-left, and-right, and-intro, same-test, by-test, not-true, to-not-true}
+use Rattle.laws.proofs.Lists.{keep-at, keep-intro, from-at, length-upTo, upTo-at, upTo-intro, member-at, member-intro, member-not, not-member}
 
 -- an alternative that fails adds nothing
 pub or-neutral : (a b : Bool) → b ≡ false → (a || b) ≡ a
@@ -35,20 +35,25 @@ module _ {A B : Type 0} where
       → (y : A) → List·Memᴰ y xs → ((b : B) → Holds b → Reached (f b y)) → (b : B) → Holds b → Reached (foldl f b xs)
   foldl-reaches Holds Reached f [] keeps stays y m reach b h = absurd (List·Memᴰ·not-nil m)
   foldl-reaches Holds Reached f (x ∷ xs) keeps stays y m reach b h =
-      ⊎-elim
-      (λ p.
-        foldl-keeps (λ c. Holds c × Reached c) f xs
-        (λ c z k both. (keeps c z (List·Memᴰ·tail k) (both .0), stays c z (List·Memᴰ·tail k) (both .0) (both .1)))
-        (f b x)
-        (keeps b x (List·Memᴰ·head refl) h, subst (λ (z : A). Reached (f b z)) p (reach b h))
-        .1)
-      (λ k.
-        foldl-reaches Holds Reached f xs
-        (λ c z j. keeps c z (List·Memᴰ·tail j))
-        (λ c z j. stays c z (List·Memᴰ·tail j))
-        y k reach (f b x)
-        (keeps b x (List·Memᴰ·head refl) h))
-      (List·Memᴰ·cases-cons m)
+      go (foldl-reaches Holds Reached f xs later laterStays y) (List·Memᴰ·cases-cons m)
+    where
+      later : (c : B) (z : A) → List·Memᴰ z xs → Holds c → Holds (f c z)
+      later c z k = keeps c z (List·Memᴰ·tail k)
+
+      laterStays : (c : B) (z : A) → List·Memᴰ z xs → Holds c → Reached c → Reached (f c z)
+      laterStays c z k = stays c z (List·Memᴰ·tail k)
+
+      both : (c : B) (z : A) → List·Memᴰ z xs → Holds c × Reached c → Holds (f c z) × Reached (f c z)
+      both c z k now = (later c z k (now .0), laterStays c z k (now .0) (now .1))
+
+      next : Holds (f b x)
+      next = keeps b x (List·Memᴰ·head refl) h
+
+      go : (List·Memᴰ y xs → ((c : B) → Holds c → Reached (f c y)) → (c : B) → Holds c → Reached (foldl f c xs))
+          → (y ≡ x) ⊎ List·Memᴰ y xs → Reached (foldl f (f b x) xs)
+      go further (inl p) =
+          foldl-keeps (λ c. Holds c × Reached c) f xs both (f b x) (next, subst (λ (z : A). Reached (f b z)) p (reach b h)) .1
+      go further (inr k) = further k reach (f b x) next
 
   -- an element of a mapped list
   pub getD-map : (f : A → B) (xs : List A) (i : ℕ) (d : A) (e : B) → i < length xs → getD (map f xs) i e ≡ f (getD xs i d)
@@ -93,8 +98,8 @@ module _ {A : Type 0} where
   keep-ext f g [] h = refl
   keep-ext f g (x ∷ xs) h =
       λ i.
-        let kept = keep-ext f g xs (λ y m. h y (List·Memᴰ·tail m)) i in
-        cond (h x (List·Memᴰ·head refl) i) (x ∷ kept) kept
+      let kept = keep-ext f g xs (λ y m. h y (List·Memᴰ·tail m)) i in
+      cond (h x (List·Memᴰ·head refl) i) (x ∷ kept) kept
 
   -- no more elements pass than there are
   pub count-most : (f : A → Bool) (xs : List A) → count f xs ≤ length xs
@@ -129,6 +134,7 @@ module _ {A : Type 0} where
     where
       later : (z : A) → List·Memᴰ z ys → f z ≡ true → g z ≡ true
       later z k = h z (List·Memᴰ·tail k)
+
       go : (b : Bool) → f y ≡ b → (c : Bool) → g y ≡ c → (b ≡ true → c ≡ true) → count f ys ≤ count g ys
           → (count g ys ≤ count f ys → List·Memᴰ x ys → g x ≡ f x)
           → cond c (suc (count g ys)) (count g ys) ≤ cond b (suc (count f ys)) (count f ys)
@@ -140,16 +146,12 @@ module _ {A : Type 0} where
       go false p false q k grows rest most (inl e) = cc
       go false p false q k grows rest most (inr j) = rest most j
 
--- A step on the subsets of a list, given as tests, that only adds, and whose result depends on the list's elements alone.
-module _ {A : Type 0} (xs : List A) (step : (A → Bool) → A → Bool) where
+-- A step that adds to a set, given as a test.
+module _ {A : Type 0} (step : (A → Bool) → A → Bool) where
   -- so many steps
   unfoldable pub repeat : ℕ → (A → Bool) → A → Bool
   repeat zero f = f
   repeat (suc n) f = repeat n (step f)
-
-  -- a further step adds nothing
-  abbrev pub Stable : (A → Bool) → Type 0
-  Stable f = (x : A) → List·Memᴰ x xs → step f x ≡ f x
 
   -- an element that no step adds stays as it was
   pub repeat-leaves : (x : A) → ((f : A → Bool) → step f x ≡ f x) → (n : ℕ) (f : A → Bool) → repeat n f x ≡ f x
@@ -157,45 +159,55 @@ module _ {A : Type 0} (xs : List A) (step : (A → Bool) → A → Bool) where
   repeat-leaves x leaves zero f = refl
   repeat-leaves x leaves (suc n) f = repeat-leaves x leaves n (step f) ∙ leaves f
 
-  module _ (adds : (f : A → Bool) (x : A) → f x ≡ true → step f x ≡ true) where
-    -- what was there stays
-    pub repeat-adds : (n : ℕ) (f : A → Bool) (x : A) → f x ≡ true → repeat n f x ≡ true
-    unfolding repeat
-    repeat-adds zero f x e = e
-    repeat-adds (suc n) f x e = repeat-adds n (step f) x (adds f x e)
+  -- what was there stays
+  pub repeat-adds : ((f : A → Bool) (x : A) → f x ≡ true → step f x ≡ true) → (n : ℕ) (f : A → Bool) (x : A)
+      → f x ≡ true → repeat n f x ≡ true
+  unfolding repeat
+  repeat-adds adds zero f x e = e
+  repeat-adds adds (suc n) f x e = repeat-adds adds n (step f) x (adds f x e)
 
-    module _
-        (own : (f g : A → Bool) → ((x : A) → List·Memᴰ x xs → f x ≡ g x) → (x : A) → List·Memᴰ x xs → step f x ≡ step g x)
-        where
-      -- a step adds an element or nothing changes any more
-      step-grows : (k : ℕ) (f : A → Bool) → (k ≤ count f xs) ⊎ Stable f → (suc k ≤ count (step f) xs) ⊎ Stable (step f)
-      step-grows k f (inr stable) = inr (own (step f) f stable)
-      step-grows k f (inl most) =
-          by-test (ltb (count f xs) (count (step f) xs))
-          (λ e. let more = ltb-true (count f xs) (count (step f) xs) e in inl (omega arith))
-          (λ e.
-            inr
-            (own (step f) f
-            (count-settles f (step f) xs (λ x m. adds f x) (ltb-false (count f xs) (count (step f) xs) e))))
+-- a further step adds no element of the list
+abbrev pub Stable : {A : Type 0} → List A → ((A → Bool) → A → Bool) → (A → Bool) → Type 0
+Stable {A} xs step f = (x : A) → List·Memᴰ x xs → step f x ≡ f x
 
-      repeat-grows : (n k : ℕ) (f : A → Bool) → (k ≤ count f xs) ⊎ Stable f → (k + n ≤ count (repeat n f) xs) ⊎ Stable (repeat n f)
-      unfolding repeat
-      repeat-grows zero k f (inl most) = inl (omega arith)
-      repeat-grows zero k f (inr stable) = inr stable
-      repeat-grows (suc n) k f h =
-          ⊎-elim (λ (most : suc k + n ≤ count (repeat n (step f)) xs). inl (omega arith)) (λ stable. inr stable)
-          (repeat-grows n (suc k) (step f) (step-grows k f h))
+-- A step on the subsets of a list that only adds, and whose result depends on the list's elements alone.
+module _ {A : Type 0} (xs : List A) (step : (A → Bool) → A → Bool)
+    (adds : (f : A → Bool) (x : A) → f x ≡ true → step f x ≡ true)
+    (own : (f g : A → Bool) → ((x : A) → List·Memᴰ x xs → f x ≡ g x) → (x : A) → List·Memᴰ x xs → step f x ≡ step g x) where
+  -- a step that adds no more than was there is the last
+  full-stable : (f : A → Bool) → count (step f) xs ≤ count f xs → Stable xs step f
+  full-stable f = count-settles f (step f) xs (λ x m. adds f x)
 
-      -- as many steps as the list has elements are enough
-      pub repeat-closes : (f : A → Bool) → Stable (repeat (length xs) f)
-      repeat-closes f =
-          ⊎-elim
-          (λ (most : 0 + length xs ≤ count (repeat (length xs) f) xs).
-            let last = repeat (length xs) f in
-            let fits = count-most (step last) xs in
-            count-settles last (step last) xs (λ x m. adds last x) (omega arith))
-          (λ stable. stable)
-          (repeat-grows (length xs) 0 f (inl zero-le))
+  -- a step adds an element, or nothing changes any more
+  step-grows : (k : ℕ) (f : A → Bool) → (k ≤ count f xs) ⊎ Stable xs step f → (suc k ≤ count (step f) xs) ⊎ Stable xs step (step f)
+  step-grows k f (inr stable) = inr (own (step f) f stable)
+  step-grows k f (inl most) =
+      by-test (ltb (count f xs) (count (step f) xs))
+      (λ e. let more = ltb-true (count f xs) (count (step f) xs) e in inl (omega arith))
+      (λ e. inr (own (step f) f (full-stable f (ltb-false (count f xs) (count (step f) xs) e))))
+
+  repeat-grows : (n k : ℕ) (f : A → Bool) → (k ≤ count f xs) ⊎ Stable xs step f
+      → (k + n ≤ count (repeat step n f) xs) ⊎ Stable xs step (repeat step n f)
+  unfolding repeat
+  repeat-grows zero k f (inl most) = inl (omega arith)
+  repeat-grows zero k f (inr stable) = inr stable
+  repeat-grows (suc n) k f h =
+      ⊎-elim (λ (most : suc k + n ≤ count (repeat step n (step f)) xs). inl (omega arith)) (λ stable. inr stable)
+      (repeat-grows n (suc k) (step f) (step-grows k f h))
+
+  -- as many steps as the list has elements are enough
+  pub repeat-closes : (f : A → Bool) → Stable xs step (repeat step (length xs) f)
+  repeat-closes f =
+      let last = repeat step (length xs) f in
+      ⊎-elim
+      (λ (most : 0 + length xs ≤ count last xs). let fits = count-most (step last) xs in full-stable last (omega arith))
+      (λ stable. stable)
+      (repeat-grows (length xs) 0 f (inl zero-le))
+
+-- the lower of two numbers is one of them
+pub min-cases : (g h : ℕ) → (min g h ≡ g) ⊎ (min g h ≡ h)
+min-cases g h =
+    by-test (leb g h) (λ e. inl (min-eq-left (leb-true g h e))) (λ e. let more = leb-false g h e in inr (omega arith))
 
 -- numbers in sequence are distinct, and so are those kept of distinct numbers
 pub distinct-keep : (test : ℕ → Bool) (ns : List ℕ) → distinct ns ≡ true → distinct (keep test ns) ≡ true
@@ -207,6 +219,7 @@ distinct-keep test (n ∷ ns) e = go (test n) (distinct-keep test ns (and-right 
     fresh =
         not-member n (keep test ns)
         (λ m. member-not n ns (not-true (member n ns) (and-left (not (member n ns)) (distinct ns) e)) (keep-at test ns n m .0))
+
     go : (b : Bool) → distinct (keep test ns) ≡ true → distinct (cond b (n ∷ keep test ns) (keep test ns)) ≡ true
     go true later =
         and-intro (not (member n (keep test ns))) (distinct (keep test ns)) (to-not-true (member n (keep test ns)) fresh) later

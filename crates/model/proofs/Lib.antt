@@ -7,6 +7,7 @@ pub mod RoundTrip
 pub mod Grouping
 pub mod Closing
 pub mod SpaceFacts
+pub mod Ordered
 pub mod Putting
 pub mod Binding
 pub mod Checked

@@ -1,22 +1,21 @@
 -- Document 01, "Spaces": what is known of each space of a task: its properties, its rules, its members.
-use Prim.Native.Nat.{ℕ, zero, suc, _<_}
+use Prim.Native.Nat.{ℕ, _<_}
 use mathlib.Core.Path.{_≡_, refl, sym, ap, _∙_, subst}
-use mathlib.Core.Bool.{Bool, true, false, cond, not, _&&_, _||_}
-use mathlib.Core.Logic.{_⊎_, inl, inr}
-use mathlib.Core.List.{List, [], _∷_, map, List·Memᴰ, List·Memᴰ·not-nil, Memᴰ·map, Memᴰ·of-map}
+use mathlib.Core.Bool.{Bool, true, false, cond, _&&_, _||_}
+use mathlib.Core.List.{List, [], _∷_, List·Memᴰ, List·Memᴰ·not-nil, Memᴰ·map, Memᴰ·of-map}
 use lib.Dec.{eqb}
 use lib.ListN.{length, getD}
 use native.Mathlib.Omega.{arith}
 use borrow.Author.Tests.{eqb-true, eq-eqb}
-use Rattle.laws.specs.Lists.{any, all, keep, upTo, member, distinct}
+use Rattle.laws.specs.Lists.{any, all, upTo, member, distinct}
 use Rattle.laws.specs.Bags.{isEmpty, support}
-use Rattle.laws.proofs.Tests.{cond-true, and-false-left, or-left, or-right, or-false-left, or-false-right, not-true, to-not-true, by-test}
-use Rattle.laws.proofs.Lists.{any-at, any-intro, any-none, any-false, keep-at, keep-intro, upTo-intro, member-at, member-intro}
-use Rattle.laws.proofs.Groups.{or-neutral, map-fixed, distinct-keep, distinct-upTo, member-keep-upTo, kept-below, repeat-adds, repeat-leaves}
+use Rattle.laws.proofs.Tests.{cond-true, and-intro, and-false-left, or-right, or-false-left, or-false-right, not-true, to-not-true, by-test}
+use Rattle.laws.proofs.Lists.{all-intro, any-at, any-intro, any-false, keep-at, keep-intro, upTo-intro}
+use Rattle.laws.proofs.Groups.{or-neutral, map-fixed, distinct-keep, distinct-upTo, member-keep-upTo, kept-below, repeat-adds, repeat-leaves, support-below}
 use Rattle.model.specs.Card.{Task}
 use Rattle.model.specs.Transitions.{Transition, properties, transitions}
-use Rattle.model.specs.Spaces.{Space, Kind, static, attribute, property, moved, moves, condition, admits, gain, round, spaces, kindOf}
-use Rattle.model.proofs.Grouping.{label, Lowest, label-known, grouping-joins, grouping-lowest, length-grouping, moved-known}
+use Rattle.model.specs.Spaces.{Space, static, attribute, property, moved, moves, condition, hasMember, admits, gain, round, spaces, kindOf}
+use Rattle.model.proofs.Grouping.{label, Lowest, label-known, grouping-joins, grouping-lowest, transitions-sized, moved-known}
 use Rattle.model.proofs.Closing.{groups, labels, propertiesAt, rulesAt, opens, spaceWith, spacesWith, admitted, step, step-adds, belongs, spaces-alone, closing-fixed}
 
 -- "Some rule with empty start or finish: attribute"
@@ -33,7 +32,7 @@ two-sided : (rules : List Transition) → (kindOf rules ≡ attribute → ⊥) �
     → (isEmpty (r .start) ≡ false) × (isEmpty (r .finish) ≡ false)
 two-sided rules other r m =
     let both : (isEmpty (r .start) || isEmpty (r .finish)) ≡ false =
-          by-test (isEmpty (r .start) || isEmpty (r .finish)) (λ e. absurd (other (one-sided-attribute rules r m e))) (λ e. e) in
+    by-test (isEmpty (r .start) || isEmpty (r .finish)) (λ e. absurd (other (one-sided-attribute rules r m e))) (λ e. e) in
     (or-false-left (isEmpty (r .start)) (isEmpty (r .finish)) both, or-false-right (isEmpty (r .start)) (isEmpty (r .finish)) both)
 
 pub property-rules : (rules : List Transition) → kindOf rules ≡ property → (r : Transition) → List·Memᴰ r rules
@@ -66,9 +65,10 @@ module _ (t : Task) where
   at-label : (l c : ℕ) → member c (propertiesAt t l) ≡ true → (c < length (properties t)) × (label (groups t) c ≡ l)
   unfolding propertiesAt
   at-label l c e =
-      let below = kept-below (λ d. eqb (getD (groups t) d 0) l) (length (groups t)) c e in
-      ( subst (λ (n : ℕ). c < n) (lowest .sized) below
-      , eqb-true (getD (groups t) c 0) l (sym (member-keep-upTo (λ d. eqb (getD (groups t) d 0) l) (length (groups t)) c below) ∙ e) )
+      let below = kept-below (λ d. eqb (getD (groups t) d 0) l) (length (groups t)) c e in (
+        subst (λ (n : ℕ). c < n) (lowest .sized) below,
+        eqb-true (getD (groups t) c 0) l (sym (member-keep-upTo (λ d. eqb (getD (groups t) d 0) l) (length (groups t)) c below) ∙ e),
+      )
 
   to-label : (l c : ℕ) → c < length (properties t) → label (groups t) c ≡ l → member c (propertiesAt t l) ≡ true
   unfolding propertiesAt
@@ -88,13 +88,14 @@ module _ (t : Task) where
   space-of c h =
       let l = label (groups t) c in
       let own : List·Memᴰ l (labels t) =
-            keep-intro (λ x. eqb (getD (groups t) x 0) x) (upTo (length (groups t))) l
-            (upTo-intro (length (groups t)) l
-              (subst (λ (n : ℕ). l < n) (sym (lowest .sized)) (label-known (length (properties t)) (groups t) lowest c h)))
-            (eq-eqb (label (groups t) l) l (lowest .own c h)) in
-      ( spaceWith t (belongs t) l
-      , subst (List·Memᴰ (spaceWith t (belongs t) l)) (sym (spaces-alone t)) (Memᴰ·map (spaceWith t (belongs t)) own)
-      , to-label l c h refl )
+      keep-intro (λ x. eqb (getD (groups t) x 0) x) (upTo (length (groups t))) l
+      (upTo-intro (length (groups t)) l
+      (subst (λ (n : ℕ). l < n) (sym (lowest .sized)) (label-known (length (properties t)) (groups t) lowest c h)))
+      (eq-eqb (label (groups t) l) l (lowest .own c h)) in (
+        spaceWith t (belongs t) l,
+        subst (List·Memᴰ (spaceWith t (belongs t) l)) (sym (spaces-alone t)) (Memᴰ·map (spaceWith t (belongs t)) own),
+        to-label l c h refl,
+      )
 
   -- and in no other
   pub space-unique : (s s′ : Space) → List·Memᴰ s (spaces t) → List·Memᴰ s′ (spaces t) → (c : ℕ)
@@ -103,9 +104,19 @@ module _ (t : Task) where
   space-unique s s′ m m′ c =
       of-labels (λ u. member c (u .properties) ≡ true → member c (s′ .properties) ≡ true → u ≡ s′)
       (λ l k.
-        of-labels (λ u′. member c (propertiesAt t l) ≡ true → member c (u′ .properties) ≡ true → spaceWith t (belongs t) l ≡ u′)
-        (λ l′ k′ e e′. ap (spaceWith t (belongs t)) (sym (at-label l c e .1) ∙ at-label l′ c e′ .1)) s′ m′)
+      of-labels (λ u′. member c (propertiesAt t l) ≡ true → member c (u′ .properties) ≡ true → spaceWith t (belongs t) l ≡ u′)
+      (λ l′ k′ e e′. ap (spaceWith t (belongs t)) (sym (at-label l c e .1) ∙ at-label l′ c e′ .1)) s′ m′)
       s m
+
+  -- an object is a member of the space of a property if it is one of each space with that property
+  has-member : (o c : ℕ) → c < length (properties t)
+      → ((s : Space) → List·Memᴰ s (spaces t) → member c (s .properties) ≡ true → member o (s .members) ≡ true)
+      → hasMember (spaces t) o c ≡ true
+  unfolding hasMember
+  has-member o c h inside =
+      let found = space-of c h in
+      any-intro (λ s. member c (s .properties) && member o (s .members)) (spaces t) (found .0) (found .1)
+      (and-intro (member c (found .0 .properties)) (member o (found .0 .members)) (found .2) (inside (found .0) (found .1) (found .2)))
 
   module _ (s : Space) (m : List·Memᴰ s (spaces t)) where
     -- the properties of a space are properties of the task, each once
@@ -125,10 +136,11 @@ module _ (t : Task) where
     rule-in-one-space r k c j =
         of-labels
         (λ u. member c (u .properties) ≡ true
-          → ((d : ℕ) → List·Memᴰ d (moved r) → member d (u .properties) ≡ true) × List·Memᴰ r (u .rules))
-        (λ l n e.
-          ( λ d i. to-label l d (moved-known t r k d i) (shared r k d c i j ∙ at-label l c e .1)
-          , keep-intro (moves (propertiesAt t l)) (transitions t) r k (any-intro (λ x. member x (propertiesAt t l)) (moved r) c j e) ))
+        → ((d : ℕ) → List·Memᴰ d (moved r) → member d (u .properties) ≡ true) × List·Memᴰ r (u .rules))
+        (λ l n e. (
+          λ d i. to-label l d (moved-known t r k d i) (shared r k d c i j ∙ at-label l c e .1),
+          keep-intro (moves (propertiesAt t l)) (transitions t) r k (any-intro (λ x. member x (propertiesAt t l)) (moved r) c j e),
+        ))
         s m
 
     -- the rules of a space are rules of the task that move one of its properties
@@ -138,10 +150,10 @@ module _ (t : Task) where
     rules-of-space r =
         of-labels
         (λ u. List·Memᴰ r (u .rules)
-          → List·Memᴰ r (transitions t) × ((c : ℕ) × List·Memᴰ c (moved r) × (member c (u .properties) ≡ true)))
+        → List·Memᴰ r (transitions t) × ((c : ℕ) × List·Memᴰ c (moved r) × (member c (u .properties) ≡ true)))
         (λ l n k.
-          let kept = keep-at (moves (propertiesAt t l)) (transitions t) r k in
-          (kept .0, any-at (λ c. member c (propertiesAt t l)) (moved r) (kept .1)))
+        let kept = keep-at (moves (propertiesAt t l)) (transitions t) r k in
+        (kept .0, any-at (λ c. member c (propertiesAt t l)) (moved r) (kept .1)))
         s m
 
     -- the rules of a space move its properties alone
@@ -149,6 +161,11 @@ module _ (t : Task) where
     moved-in-space r k c j =
         let known = rules-of-space r k in
         rule-in-one-space r (known .0) (known .1 .0) (known .1 .1) (known .1 .2) .0 c j
+
+    -- the enablers of its rules are properties of the task
+    enabler-known : (r : Transition) → List·Memᴰ r (s .rules) → (c : ℕ) → List·Memᴰ c (support (r .enablers)) → c < length (properties t)
+    enabler-known r k c j =
+        subst (λ (n : ℕ). c < n) (transitions-sized t r (rules-of-space r k .0) .enablers) (support-below (r .enablers) c j)
 
     -- an object that a rule of a space admits is a member
     pub closing-closed : (r : Transition) → List·Memᴰ r (s .rules) → (o : ℕ) → o < t .objects
@@ -160,6 +177,17 @@ module _ (t : Task) where
         ∙ member-keep-upTo (λ x. member x (s .members) || any (admits (spaces t) x) (s .rules)) (t .objects) o h
         ∙ or-right (member o (s .members)) (any (admits (spaces t) o) (s .rules)) (any-intro (admits (spaces t) o) (s .rules) r k e)
 
+    -- an object that is in the space of each enabler of an increasing rule of a space is a member
+    pub increasing-members : (r : Transition) → List·Memᴰ r (s .rules) → isEmpty (r .start) ≡ true → (o : ℕ) → o < t .objects
+        → ((c : ℕ) → List·Memᴰ c (support (r .enablers)) → (u : Space) → List·Memᴰ u (spaces t)
+        → member c (u .properties) ≡ true → member o (u .members) ≡ true)
+        → member o (s .members) ≡ true
+    unfolding admits
+    increasing-members r k e o h enabled =
+        closing-closed r k o h
+        (and-intro (isEmpty (r .start)) (all (hasMember (spaces t) o) (support (r .enablers))) e
+        (all-intro (hasMember (spaces t) o) (support (r .enablers)) (λ c j. has-member o c (enabler-known r k c j) (enabled c j))))
+
     -- an object with a nonempty initial condition is a member
     pub initial-members : (o : ℕ) → o < t .objects → isEmpty (condition t (s .properties) (t .facts) o) ≡ false
         → member o (s .members) ≡ true
@@ -167,9 +195,9 @@ module _ (t : Task) where
     initial-members o h =
         of-labels (λ u. isEmpty (condition t (u .properties) (t .facts) o) ≡ false → member o (u .members) ≡ true)
         (λ l k e.
-          member-keep-upTo (λ x. belongs t x l) (t .objects) o h
-          ∙ repeat-adds (labels t) (step t) (step-adds t) (length (labels t)) (opens t o) l
-            (to-not-true (isEmpty (condition t (propertiesAt t l) (t .facts) o)) e))
+        member-keep-upTo (λ x. belongs t x l) (t .objects) o h
+        ∙ repeat-adds (step t) (step-adds t) (length (labels t)) (opens t o) l
+        (to-not-true (isEmpty (condition t (propertiesAt t l) (t .facts) o)) e))
         s m
 
     -- members are objects of the task, each once
@@ -188,15 +216,15 @@ module _ (t : Task) where
     fixed-members started o =
         of-labels
         (λ u. ((r : Transition) → List·Memᴰ r (u .rules) → isEmpty (r .start) ≡ false) → member o (u .members) ≡ true
-          → isEmpty (condition t (u .properties) (t .facts) o) ≡ false)
+        → isEmpty (condition t (u .properties) (t .facts) o) ≡ false)
         (λ l k starts e.
-          let leaves : (f : ℕ → Bool) → step t f l ≡ f l =
-                λ f.
-                  or-neutral (f l) (any (admitted t f) (rulesAt t l))
-                  (any-false (admitted t f) (rulesAt t l) (λ r j. and-false-left (isEmpty (r .start)) _ (starts r j))) in
-          not-true (isEmpty (condition t (propertiesAt t l) (t .facts) o))
-          (sym (repeat-leaves (labels t) (step t) l leaves (length (labels t)) (opens t o))
-          ∙ sym (member-keep-upTo (λ x. belongs t x l) (t .objects) o (kept-below (λ x. belongs t x l) (t .objects) o e)) ∙ e))
+        let leaves : (f : ℕ → Bool) → step t f l ≡ f l =
+        λ f.
+        or-neutral (f l) (any (admitted t f) (rulesAt t l))
+        (any-false (admitted t f) (rulesAt t l) (λ r j. and-false-left (isEmpty (r .start)) _ (starts r j))) in
+        not-true (isEmpty (condition t (propertiesAt t l) (t .facts) o))
+        (sym (repeat-leaves (step t) l leaves (length (labels t)) (opens t o))
+        ∙ sym (member-keep-upTo (λ x. belongs t x l) (t .objects) o (kept-below (λ x. belongs t x l) (t .objects) o e)) ∙ e))
         s m started
 
     -- so have property spaces and static spaces
