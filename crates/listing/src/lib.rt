@@ -1,0 +1,1 @@
+// The lines of a listing written as text, one section per call.
