@@ -142,6 +142,7 @@ bytes-order arities bound a b p q =
   where
     filled : List ℕ → List ℕ
     filled xs = xs ++ replicate (3 - length xs) filler
+
     alike : length (a .arguments) ≡ length (b .arguments)
         → before (filled (a .arguments)) (filled (b .arguments)) ≡ before (a .arguments) (b .arguments)
     alike n = rw n (before-append (a .arguments) (b .arguments) (replicate (3 - length (b .arguments)) filler) n)
