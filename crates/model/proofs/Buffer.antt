@@ -15,7 +15,7 @@ use borrow.Author.Tests.{eqb-true, eq-eqb, ltb-true, lt-ltb, leb-true, le-leb}
 use Rattle.laws.specs.Lists.{all, keep, distinct}
 use Rattle.laws.proofs.Tests.{never, and-left, and-right, and-intro, by-test, not-true}
 use Rattle.laws.proofs.Lists.{all-at, all-intro, keep-at, mem-getD}
-use Rattle.laws.proofs.Orders.{NoRepeat}
+use Rattle.laws.proofs.Orders.{NoRepeat, all-map}
 use Rattle.model.specs.Answer.{Answer, refused, accepted, _>>=_, _>>_, need}
 use Rattle.model.specs.Card.{Atom, Schema, Task, below, sameAtom, has, above, between, decode}
 use Rattle.model.specs.Writer.{each, known, checkSchemaAtom, checkList, checkSchema, checkFact, checkTask}
@@ -25,7 +25,7 @@ use Rattle.model.specs.Calls.{Call, Standing, finish, store, initial, pr
 use Rattle.model.specs.Truth.{Allowed}
 use Rattle.model.proofs.Valid.{Valid}
 use Rattle.model.proofs.Order.{known-predicate, known-arity, known-arguments, known-intro}
-use Rattle.model.proofs.Order.{below-total, ascending-head, ascending-tail, ascending-cons, ascending-skip, ascending-no-repeat}
+use Rattle.model.proofs.Order.{sameAtom-eq, below-otherwise, ascending-head, ascending-tail, ascending-cons, ascending-skip, ascending-no-repeat}
 
 -- a refusal is no acceptance
 pub not-accepted : {A B : Type 0} (n : ℕ) (v : A) → refused n ≡ accepted v → B
@@ -175,3 +175,338 @@ checked t e₁ =
         in-order = each-ascending (checkFact (t .arities) (t .objects)) (λ previous f c. passed _ _ (need-then _ _ _ _ c)) none (t .facts) e₇
       }
     }
+
+-- the arity of a known predicate is 1 to 3
+pub arity-low : (t : Task) → Checked t → (p : ℕ) → p < length (t .arities) → 1 ≤ getD (t .arities) p 0
+arity-low t c p h =
+    between-low 1 3 _ (all-at (between 1 3) (t .arities) (c .arities-right) (getD (t .arities) p 0) (mem-getD (t .arities) p 0 h))
+
+pub arity-high : (t : Task) → Checked t → (p : ℕ) → p < length (t .arities) → getD (t .arities) p 0 ≤ 3
+arity-high t c p h =
+    between-high 1 3 _ (all-at (between 1 3) (t .arities) (c .arities-right) (getD (t .arities) p 0) (mem-getD (t .arities) p 0 h))
+
+-- the schema of a number in range is one of the task's
+pub schemaAt-right : (t : Task) → Checked t → (n : ℕ) → n < length (t .schemas) → CheckedSchema (t .arities) (schemaAt t n)
+unfolding schemaAt
+schemaAt-right t c n h = c .schemas-right (schemaAt t n) (mem-getD (t .schemas) n _ h)
+
+-- facts that are kept stay in order
+pub keep-ascending :
+    (test : Atom → Bool) (previous : Option Atom) (s : State) → ascending previous s ≡ true
+    → ascending previous (keep test s) ≡ true
+unfolding keep
+keep-ascending test previous [] e = e
+keep-ascending test previous (f ∷ fs) e = go (test f) (λ p q. keep-ascending test p fs q)
+  where
+    go : (b : Bool) → ((p : Option Atom) → ascending p fs ≡ true → ascending p (keep test fs) ≡ true)
+        → ascending previous (cond b (f ∷ keep test fs) (keep test fs)) ≡ true
+    go true later =
+        ascending-cons previous f (keep test fs) (ascending-head previous f fs e) (later (some f) (ascending-tail previous f fs e))
+    go false later =
+        later previous (ascending-skip previous f fs (ascending-head previous f fs e) (ascending-tail previous f fs e))
+
+-- a fact put into its place leaves the order
+pub put-ascending :
+    (f : Atom) (previous : Option Atom) (s : State) → above previous f ≡ true → ascending previous s ≡ true
+    → ascending previous (put f s) ≡ true
+unfolding put ascending above
+put-ascending f previous [] p e = ascending-cons previous f [] p refl
+put-ascending f previous (g ∷ gs) p e =
+    go (sameAtom f g) (below f g) refl refl (λ q. put-ascending f (some g) gs q (ascending-tail previous g gs e))
+  where
+    go : (same? below? : Bool) → sameAtom f g ≡ same? → below f g ≡ below?
+        → (below g f ≡ true → ascending (some g) (put f gs) ≡ true)
+        → ascending previous (cond same? (g ∷ gs) (cond below? (f ∷ g ∷ gs) (g ∷ put f gs))) ≡ true
+    go true below? h k later = e
+    go false true h k later =
+        ascending-cons previous f (g ∷ gs) p (ascending-cons (some f) g gs k (ascending-tail previous g gs e))
+    go false false h k later =
+        ascending-cons previous g (put f gs) (ascending-head previous g gs e) (later (below-otherwise f g h k))
+
+-- the facts after a fact was put in: that fact, and those before
+pub put-at : (f : Atom) (s : State) (g : Atom) → List·Memᴰ g (put f s) → (g ≡ f) ⊎ List·Memᴰ g s
+unfolding put
+put-at f [] g m = List·Memᴰ·cases-cons m
+put-at f (h ∷ hs) g m = go (sameAtom f h) (below f h) (put-at f hs g) m
+  where
+    go : (same? below? : Bool) → (List·Memᴰ g (put f hs) → (g ≡ f) ⊎ List·Memᴰ g hs)
+        → List·Memᴰ g (cond same? (h ∷ hs) (cond below? (f ∷ h ∷ hs) (h ∷ put f hs))) → (g ≡ f) ⊎ List·Memᴰ g (h ∷ hs)
+    go true below? later k = inr k
+    go false true later k = List·Memᴰ·cases-cons k
+    go false false later k =
+        ⊎-elim (λ p. inr (List·Memᴰ·head p)) (λ j. ⊎-elim (λ p. inl p) (λ i. inr (List·Memᴰ·tail i)) (later j))
+        (List·Memᴰ·cases-cons k)
+
+pub put-there : (f : Atom) (s : State) → List·Memᴰ f (put f s)
+unfolding put
+put-there f [] = List·Memᴰ·head refl
+put-there f (h ∷ hs) = go (sameAtom f h) (below f h) refl (put-there f hs)
+  where
+    go : (same? below? : Bool) → sameAtom f h ≡ same? → List·Memᴰ f (put f hs)
+        → List·Memᴰ f (cond same? (h ∷ hs) (cond below? (f ∷ h ∷ hs) (h ∷ put f hs)))
+    go true below? e later = List·Memᴰ·head (sameAtom-eq f h e)
+    go false true e later = List·Memᴰ·head refl
+    go false false e later = List·Memᴰ·tail later
+
+pub put-stays : (f : Atom) (s : State) (g : Atom) → List·Memᴰ g s → List·Memᴰ g (put f s)
+unfolding put
+put-stays f [] g m = absurd (List·Memᴰ·not-nil m)
+put-stays f (h ∷ hs) g m = go (sameAtom f h) (below f h) (put-stays f hs g) (List·Memᴰ·cases-cons m)
+  where
+    go : (same? below? : Bool) → (List·Memᴰ g hs → List·Memᴰ g (put f hs)) → (g ≡ h) ⊎ List·Memᴰ g hs
+        → List·Memᴰ g (cond same? (h ∷ hs) (cond below? (f ∷ h ∷ hs) (h ∷ put f hs)))
+    go true below? later k = m
+    go false true later k = List·Memᴰ·tail m
+    go false false later (inl p) = List·Memᴰ·head p
+    go false false later (inr k) = List·Memᴰ·tail (later k)
+
+module _ (t : Task) where
+  -- a state stays one when facts are taken out
+  pub keep-valid : (test : Atom → Bool) (s : State) → Valid t s → Valid t (keep test s)
+  keep-valid test s v =
+      record {
+        facts-known = all-intro _ (keep test s) (λ f m. all-at _ s (v .facts-known) f (keep-at test s f m .0));
+        in-order = keep-ascending test none s (v .in-order)
+      }
+
+  -- and when a known fact is put in
+  pub put-valid : (f : Atom) (s : State) → known (t .arities) (t .objects) f ≡ true → Valid t s → Valid t (put f s)
+  unfolding above
+  put-valid f s k v =
+      record {
+        facts-known = all-intro _ (put f s)
+            (λ g m. ⊎-elim (λ p. ap (known (t .arities) (t .objects)) p ∙ k) (λ j. all-at _ s (v .facts-known) g j) (put-at f s g m));
+        in-order = put-ascending f none s refl (v .in-order)
+      }
+
+  pub puts-valid :
+      (fs : List Atom) (s : State) → all (known (t .arities) (t .objects)) fs ≡ true → Valid t s
+      → Valid t (foldl (λ r f. put f r) s fs)
+  unfolding all
+  puts-valid [] s k v = v
+  puts-valid (f ∷ fs) s k v =
+      let right : Bool = known (t .arities) (t .objects) f in
+      puts-valid fs (put f s) (and-right right _ k) (put-valid f s (and-left right (all (known (t .arities) (t .objects)) fs) k) v)
+
+-- an atom known to a schema is known to the task, with known objects in place of its parameters
+pub ground-known :
+    (arities : List ℕ) (parameters bound : ℕ) (objects : List ℕ) (a : Atom) → length objects ≡ parameters
+    → all (λ o. ltb o bound) objects ≡ true → known arities parameters a ≡ true → known arities bound (ground objects a) ≡ true
+unfolding ground
+ground-known arities parameters bound objects a n o k =
+    known-intro arities bound (ground objects a) (known-predicate arities parameters a k)
+    (length-map (a .arguments) (λ i. getD objects i 0) ∙ known-arity arities parameters a k)
+    (each-bound (a .arguments) (known-arguments arities parameters a k))
+  where
+    each-bound : (ks : List ℕ) → all (λ x. ltb x parameters) ks ≡ true → all (λ x. ltb x bound) (map (λ i. getD objects i 0) ks) ≡ true
+    each-bound ks e =
+        all-map (λ i. getD objects i 0) (λ x. ltb x bound) ks
+        ∙ all-intro _ ks (λ i m. all-at _ objects o (getD objects i 0)
+        (mem-getD objects i 0 (subst (λ (l : ℕ). i < l) (sym n) (ltb-true i parameters (all-at _ ks e i m)))))
+
+-- What the check of an action says of it.
+pub record CheckedAction (t : Task) (a : Action) : Type 0 where
+  pub schema-known : a .schema < length (t .schemas)
+  pub one-for-each : length (a .objects) ≡ schemaAt t (a .schema) .parameters
+  pub objects-known : all (λ o. ltb o (t .objects)) (a .objects) ≡ true
+  pub all-different : distinct (a .objects) ≡ true
+
+pub checked-action : (t : Task) (a : Action) → checkAction t a ≡ accepted tt → CheckedAction t a
+unfolding checkAction
+checked-action t a e =
+    let e₂ = need-then _ 16 _ tt e in
+    let enough : Bool = eqb (length (a .objects)) (schemaAt t (a .schema) .parameters) in
+    let bound = need-passed _ 17 _ tt e₂ in
+    record {
+      schema-known = ltb-true _ _ (need-passed _ 16 _ tt e);
+      one-for-each = eqb-true _ _ (and-left enough _ bound);
+      objects-known = and-right enough _ bound;
+      all-different = passed _ 18 (need-then _ 17 _ tt e₂)
+    }
+
+module _ (t : Task) (ok : checkTask t ≡ accepted tt) where
+  -- the facts of a task are a state of it
+  pub initial-valid : Valid t (t .facts)
+  initial-valid = checked t ok .facts-right
+
+  pub initial-few : length (t .facts) ≤ 512
+  initial-few = checked t ok .few-facts
+
+  -- an action that names a schema and known objects leads from a state to a state
+  pub successor-valid :
+      (s : State) (a : Action) → Valid t s → checkAction t a ≡ accepted tt
+      → Valid t (successor (schemaAt t (a .schema)) (a .objects) s)
+  unfolding successor putIn
+  successor-valid s a v e =
+      let named = checked-action t a e in
+      let schema : Schema = schemaAt t (a .schema) in
+      let adds = schemaAt-right t (checked t ok) (a .schema) (named .schema-known) .adds-right in
+      puts-valid t (putIn schema (a .objects)) (keep (λ f. not (has (takenOut schema (a .objects)) f)) s)
+      (all-map (ground (a .objects)) (known (t .arities) (t .objects)) (schema .adds)
+      ∙ all-intro _ (schema .adds) (λ b m. ground-known (t .arities) (schema .parameters) (t .objects) (a .objects) b
+      (named .one-for-each) (named .objects-known) (all-at _ (schema .adds) (adds .atoms-known) b m)))
+      (keep-valid t (λ f. not (has (takenOut schema (a .objects)) f)) s v)
+
+-- the facts read from a buffer are as many as the count
+pub length-factsIn : (arities : List ℕ) (n : ℕ) (buffer : List ℕ) → length (factsIn arities n buffer) ≡ n
+unfolding factsIn
+length-factsIn arities zero buffer = refl
+length-factsIn arities (suc n) buffer = ap suc (length-factsIn arities n (drop 4 buffer))
+
+-- right rows hold known facts
+pub rows-known :
+    (t : Task) (n : ℕ) (buffer : List ℕ) → rowsRight t n buffer ≡ true
+    → all (known (t .arities) (t .objects)) (factsIn (t .arities) n buffer) ≡ true
+unfolding rowsRight rowRight factsIn all
+rows-known t zero buffer e = refl
+rows-known t (suc n) buffer e =
+    let right : Bool = rowRight t (take 4 buffer) in
+    and-intro (known (t .arities) (t .objects) (factAt (t .arities) (take 4 buffer))) _
+    (and-left (known (t .arities) (t .objects) (factAt (t .arities) (take 4 buffer))) _ (and-left right (rowsRight t n (drop 4 buffer)) e))
+    (rows-known t n (drop 4 buffer) (and-right right (rowsRight t n (drop 4 buffer)) e))
+
+-- What 15 asks of a buffer and a count.
+pub record WellFormed (t : Task) (buffer : List ℕ) (count : ℕ) : Type 0 where
+  pub room : 4096 ≤ length buffer
+  pub count-fits : count ≤ 1024
+  pub rows : rowsRight t count buffer ≡ true
+  pub order : ascending none (factsIn (t .arities) count buffer) ≡ true
+
+pub well-formed : (t : Task) (buffer : List ℕ) (count : ℕ) → wellFormed t buffer count ≡ true → WellFormed t buffer count
+unfolding wellFormed
+well-formed t buffer count e =
+    let large : Bool = leb 4096 (length buffer) in
+    let few : Bool = leb count 1024 in
+    let right : Bool = rowsRight t count buffer in
+    let three = and-left (large && few && right) _ e in
+    let two = and-left (large && few) right three in
+    record {
+      room = leb-true 4096 (length buffer) (and-left large few two);
+      count-fits = leb-true count 1024 (and-right large few two);
+      rows = and-right (large && few) right three;
+      order = and-right (large && few && right) _ e
+    }
+
+pub well-formed-intro : (t : Task) (buffer : List ℕ) (count : ℕ) → WellFormed t buffer count → wellFormed t buffer count ≡ true
+unfolding wellFormed
+well-formed-intro t buffer count w =
+    let large : Bool = leb 4096 (length buffer) in
+    let few : Bool = leb count 1024 in
+    let right : Bool = rowsRight t count buffer in
+    and-intro (large && few && right) _
+    (and-intro (large && few) right
+    (and-intro large few (le-leb 4096 (length buffer) (w .room)) (le-leb count 1024 (w .count-fits)))
+    (w .rows))
+    (w .order)
+
+-- a well-formed buffer holds a state of the task
+pub well-formed-valid :
+    (t : Task) (buffer : List ℕ) (count : ℕ) → wellFormed t buffer count ≡ true → Valid t (factsIn (t .arities) count buffer)
+well-formed-valid t buffer count e =
+    let w = well-formed t buffer count e in
+    record { facts-known = rows-known t count buffer (w .rows); in-order = w .order }
+
+-- a fact with at most three arguments has four bytes
+pub length-factBytes : (f : Atom) → length (f .arguments) ≤ 3 → length (factBytes f) ≡ 4
+unfolding factBytes
+length-factBytes f h =
+    ap suc (length-append (f .arguments) (replicate (3 - length (f .arguments)) filler))
+    ∙ ap (λ (n : ℕ). suc (length (f .arguments) + n)) (length-replicate (3 - length (f .arguments)) filler)
+    ∙ omega arith
+
+-- its bytes stand for the fact, as its arity says
+pub factAt-factBytes : (arities : List ℕ) (f : Atom) → length (f .arguments) ≡ getD arities (f .predicate) 0 → factAt arities (factBytes f) ≡ f
+unfolding factAt factBytes
+factAt-factBytes arities f n =
+    λ i. record { predicate = f .predicate; arguments = take-at (f .arguments) (replicate (3 - length (f .arguments)) filler) _ n i }
+
+pub all-replicate : {A : Type 0} (test : A → Bool) (n : ℕ) (a : A) → test a ≡ true → all test (replicate n a) ≡ true
+unfolding all
+all-replicate test zero a e = refl
+all-replicate test (suc n) a e = and-intro (test a) (all test (replicate n a)) e (all-replicate test n a e)
+
+-- and they are right
+pub row-written : (t : Task) (f : Atom) → known (t .arities) (t .objects) f ≡ true → rowRight t (factBytes f) ≡ true
+unfolding rowRight factBytes
+row-written t f k =
+    let n = known-arity (t .arities) (t .objects) f k in
+    and-intro (known (t .arities) (t .objects) (factAt (t .arities) (factBytes f))) _
+    (ap (known (t .arities) (t .objects)) (factAt-factBytes (t .arities) f n) ∙ k)
+    (ap (all (eqb filler)) (drop-at (f .arguments) (replicate (3 - length (f .arguments)) filler) _ n)
+    ∙ all-replicate (eqb filler) (3 - length (f .arguments)) filler refl)
+
+module _ (t : Task) (c : Checked t) where
+  -- a known fact has four bytes
+  pub length-known : (f : Atom) → known (t .arities) (t .objects) f ≡ true → length (factBytes f) ≡ 4
+  length-known f k =
+      let n = known-arity (t .arities) (t .objects) f k in
+      let h = arity-high t c (f .predicate) (ltb-true _ _ (known-predicate (t .arities) (t .objects) f k)) in
+      length-factBytes f (omega arith)
+
+  -- the bytes of known facts hold those facts, in right rows
+  pub facts-written :
+      (s : State) (rest : List ℕ) → all (known (t .arities) (t .objects)) s ≡ true
+      → (factsIn (t .arities) (length s) (flatMap factBytes s ++ rest) ≡ s)
+      × (rowsRight t (length s) (flatMap factBytes s ++ rest) ≡ true)
+  unfolding flatMap factsIn rowsRight all
+  facts-written [] rest k = (refl, refl)
+  facts-written (f ∷ fs) rest k =
+      let right : Bool = known (t .arities) (t .objects) f in
+      let later = facts-written fs rest (and-right right _ k) in
+      let here = and-left right (all (known (t .arities) (t .objects)) fs) k in
+      let bytes : List ℕ = flatMap factBytes fs ++ rest in
+      let joined = append-assoc (factBytes f) (flatMap factBytes fs) rest in
+      let front : take 4 (factBytes f ++ flatMap factBytes fs ++ rest) ≡ factBytes f =
+          ap (take 4) joined ∙ take-at (factBytes f) bytes 4 (length-known f here) in
+      let behind : drop 4 (factBytes f ++ flatMap factBytes fs ++ rest) ≡ bytes =
+          ap (drop 4) joined ∙ drop-at (factBytes f) bytes 4 (length-known f here) in
+      (rw (front, behind) (cc (factAt-factBytes (t .arities) f (known-arity (t .arities) (t .objects) f here), later .0)),
+      rw (front, behind) (and-intro (rowRight t (factBytes f)) _ (row-written t f here) (later .1)))
+
+  -- four bytes for each fact
+  pub length-facts : (s : State) → all (known (t .arities) (t .objects)) s ≡ true → length (flatMap factBytes s) ≡ 4 * length s
+  unfolding flatMap all
+  length-facts [] k = refl
+  length-facts (f ∷ fs) k =
+      let right : Bool = known (t .arities) (t .objects) f in
+      let later = length-facts fs (and-right right _ k) in
+      let here = length-known f (and-left right (all (known (t .arities) (t .objects)) fs) k) in
+      length-append (factBytes f) (flatMap factBytes fs) ∙ omega arith
+
+  -- a state of at most 1,024 facts, written to a buffer of at least 4,096 bytes: the buffer keeps its length
+  pub length-written :
+      (s : State) (buffer : List ℕ) → Valid t s → length s ≤ 1024 → 4096 ≤ length buffer
+      → length (written s buffer) ≡ length buffer
+  unfolding written
+  length-written s buffer v few large =
+      length-append (flatMap factBytes s ++ replicate (4096 - 4 * length s) 0) (drop 4096 buffer)
+      ∙ (let facts = length-facts s (v .facts-known) in
+      let zeros = length-replicate {A = ℕ} (4096 - 4 * length s) 0 in
+      let beyond = length-drop 4096 buffer in
+      let front = length-append (flatMap factBytes s) (replicate (4096 - 4 * length s) 0) in
+      omega arith)
+
+  -- the facts stand there as written
+  pub stored-facts :
+      (s : State) (buffer : List ℕ) → Valid t s → factsIn (t .arities) (length s) (written s buffer) ≡ s
+  unfolding written
+  stored-facts s buffer v =
+      rw append-assoc (facts-written s (replicate (4096 - 4 * length s) 0 ++ drop 4096 buffer) (v .facts-known) .0)
+
+  -- and 15 does not refuse them
+  pub stored-well-formed :
+      (s : State) (buffer : List ℕ) → Valid t s → length s ≤ 1024 → 4096 ≤ length buffer
+      → wellFormed t (written s buffer) (length s) ≡ true
+  stored-well-formed s buffer v few large =
+      well-formed-intro t (written s buffer) (length s)
+      (record {
+        room = let kept = length-written s buffer v few large in omega arith;
+        count-fits = few;
+        rows = stored-rows;
+        order = ap (ascending none) (stored-facts s buffer v) ∙ v .in-order
+      })
+    where
+      stored-rows : rowsRight t (length s) (written s buffer) ≡ true
+      stored-rows =
+          unfold written in
+          rw append-assoc (facts-written s (replicate (4096 - 4 * length s) 0 ++ drop 4096 buffer) (v .facts-known) .1)

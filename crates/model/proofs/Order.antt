@@ -75,6 +75,10 @@ below-total a b =
     (λ r. inr (⊎-elim (λ p. inl (eq-sameAtom a b (atom-eq a b p))) (λ p. inr (below-bytes b a ∙ p)) r))
     (before-total (atomBytes a) (atomBytes b))
 
+pub below-otherwise : (a b : Atom) → sameAtom a b ≡ false → below a b ≡ false → below b a ≡ true
+below-otherwise a b p q =
+    ⊎-elim (λ h. never (sym h ∙ q)) (λ r. ⊎-elim (λ h. never (sym h ∙ p)) (λ h. h) r) (below-total a b)
+
 -- an atom below another differs from it
 pub below-differs : (a b : Atom) → below a b ≡ true → sameAtom a b ≡ false
 below-differs a b e =
