@@ -1,16 +1,16 @@
--- Orders: lists of numbers in the order by elements, front to back, and lists in which nothing stands twice.
-use Prim.Native.Nat.{ℕ, zero, suc, _+_, _≤_, _<_, zero-le, suc-le-suc}
+-- Orders: lists of numbers in the order by elements, front to back; lists in which nothing stands twice; lists all of whose elements pass a test.
+use Prim.Native.Nat.{ℕ, zero, suc, _≤_, _<_, zero-le, suc-le-suc}
 use native.Mathlib.Nat.{le-of-suc-le-suc, not-suc-le-zero}
 use native.Mathlib.Omega.{arith}
-use mathlib.Core.Path.{_≡_, refl, sym, ap, _∙_, subst}
-use mathlib.Core.Bool.{Bool, true, false, cond, not, _&&_, _||_}
+use mathlib.Core.Path.{_≡_, refl, sym, ap, _∙_}
+use mathlib.Core.Bool.{Bool, true, false, _&&_, _||_}
 use mathlib.Core.Logic.{_⊎_, inl, inr, ⊎-elim}
-use mathlib.Core.List.{List, [], _∷_, _++_, map, List·Memᴰ, List·Memᴰ·head, List·Memᴰ·tail, List·Memᴰ·cases-cons, List·Memᴰ·not-nil, head-eq-of-cons-eq, tail-eq-of-cons-eq}
-use lib.Dec.{eqb, ltb, leb}
-use lib.ListN.{length, getD, take}
-use borrow.Author.Tests.{eqb-true, eqb-false, eq-eqb, ne-eqb, ltb-true, ltb-false, lt-ltb, le-ltb}
+use mathlib.Core.List.{List, [], _∷_, _++_, map, List·Memᴰ, head-eq-of-cons-eq, tail-eq-of-cons-eq}
+use lib.Dec.{eqb, ltb}
+use lib.ListN.{length, getD, take, replicate}
+use borrow.Author.Tests.{eqb-true, eqb-false, eq-eqb, ltb-true, ltb-false, lt-ltb}
 use Rattle.laws.specs.Lists.{all, before}
-use Rattle.laws.proofs.Tests.{never, and-left, and-right, and-intro, and-false-left, or-cases, or-left, or-right, or-false-intro, by-test, same-test}
+use Rattle.laws.proofs.Tests.{never, and-left, and-right, and-intro, or-cases, or-left, or-right, by-test}
 
 -- the first elements decide, or they are equal and the rest decides
 pub before-cases :
@@ -143,3 +143,9 @@ pub all-map : {A B : Type 0} (f : A → B) (test : B → Bool) (xs : List A) →
 unfolding all
 all-map f test [] = refl
 all-map f test (x ∷ xs) = ap (λ (b : Bool). test (f x) && b) (all-map f test xs)
+
+-- and of one element, repeated
+pub all-replicate : {A : Type 0} (test : A → Bool) (n : ℕ) (a : A) → test a ≡ true → all test (replicate n a) ≡ true
+unfolding all
+all-replicate test zero a e = refl
+all-replicate test (suc n) a e = and-intro (test a) (all test (replicate n a)) e (all-replicate test n a e)

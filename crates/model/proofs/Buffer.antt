@@ -11,21 +11,22 @@ use mathlib.Core.List.{List·Memᴰ, List·Memᴰ·head, List·Memᴰ·tail, Lis
 use lib.Dec.{eqb, ltb, leb}
 use lib.ListN.{length, getD, take, drop, replicate, length-append, length-drop, length-map, length-replicate}
 use lib.Seq.{take-at, drop-at}
-use borrow.Author.Tests.{eqb-true, eq-eqb, ltb-true, lt-ltb, leb-true, le-leb}
+use borrow.Author.Tests.{eqb-true, ltb-true, leb-true, le-leb}
 use Rattle.laws.specs.Lists.{all, keep, distinct}
-use Rattle.laws.proofs.Tests.{never, and-left, and-right, and-intro, by-test, not-true}
+use Rattle.laws.proofs.Tests.{and-left, and-right, and-intro}
 use Rattle.laws.proofs.Lists.{all-at, all-intro, keep-at, mem-getD}
-use Rattle.laws.proofs.Orders.{NoRepeat, all-map}
+use Rattle.laws.proofs.Orders.{NoRepeat, all-map, all-replicate}
 use Rattle.model.specs.Answer.{Answer, refused, accepted, _>>=_, _>>_, need}
 use Rattle.model.specs.Card.{Atom, Schema, Task, below, sameAtom, has, above, between, decode}
 use Rattle.model.specs.Writer.{each, known, checkSchemaAtom, checkList, checkSchema, checkFact, checkTask}
 use Rattle.model.specs.Strips.{State, Action, filler, factBytes, factAt, factsIn, rowRight, rowsRight, ascending, wellFormed, written}
-use Rattle.model.specs.Strips.{ground, applicable, put, takenOut, putIn, successor, schemaAt, checkAction, apply}
+use Rattle.model.specs.Strips.{ground, put, takenOut, putIn, successor, schemaAt, checkAction, apply}
 use Rattle.model.specs.Calls.{Call, Standing, finish, store, initial, press, counted, pressed, history, stateOf}
 use Rattle.model.specs.Truth.{Allowed}
 use Rattle.model.proofs.Valid.{Valid}
 use Rattle.model.proofs.Order.{known-predicate, known-arity, known-arguments, known-intro}
-use Rattle.model.proofs.Order.{sameAtom-eq, below-otherwise, ascending-head, ascending-tail, ascending-cons, ascending-skip, ascending-no-repeat}
+use Rattle.model.proofs.Order.{sameAtom-eq, below-otherwise, ascending-head, ascending-tail, ascending-cons, ascending-skip}
+use Rattle.model.proofs.Order.{ascending-no-repeat}
 
 -- a refusal is no acceptance
 pub not-accepted : {A B : Type 0} (n : ℕ) (v : A) → refused n ≡ accepted v → B
@@ -104,7 +105,7 @@ checked-list arities parameters test number atoms e =
       few = leb-true (length atoms) 8 (need-passed (leb (length atoms) 8) 6 (each check none atoms) tt e);
       atoms-known = each-all check (known arities parameters) (λ previous a c. need-passed _ _ _ _ c) none atoms rest;
       atoms-ascend = each-ascending check (λ previous a c. need-passed _ _ _ _ (need-then _ _ _ _ c)) none atoms rest;
-      atoms-pass = each-all check test (λ previous a c. passed _ _ (need-then _ _ _ _ (need-then _ _ _ _ c))) none atoms rest
+      atoms-pass = each-all check test (λ previous a c. passed _ _ (need-then _ _ _ _ (need-then _ _ _ _ c))) none atoms rest;
     }
 
 -- What the check of a schema says of it.
@@ -125,7 +126,7 @@ checked-schema arities s e =
       few-parameters = between-high 1 6 (s .parameters) parameters;
       preconditions-right = checked-list arities (s .parameters) _ 8 (s .preconditions) (first-passed _ _ _ lists);
       deletes-right = checked-list arities (s .parameters) _ 9 (s .deletes) (first-passed _ _ _ (then-passed _ _ _ lists));
-      adds-right = checked-list arities (s .parameters) _ 10 (s .adds) (then-passed _ _ _ (then-passed _ _ _ lists))
+      adds-right = checked-list arities (s .parameters) _ 10 (s .adds) (then-passed _ _ _ (then-passed _ _ _ lists));
     }
 
 -- What the check of a task says of it.
@@ -172,8 +173,8 @@ checked t e₁ =
       facts-right = record {
         facts-known = each-all (checkFact (t .arities) (t .objects)) (known (t .arities) (t .objects)) (λ previous f c. need-passed _ _ _ _ c)
             none (t .facts) e₇;
-        in-order = each-ascending (checkFact (t .arities) (t .objects)) (λ previous f c. passed _ _ (need-then _ _ _ _ c)) none (t .facts) e₇
-      }
+        in-order = each-ascending (checkFact (t .arities) (t .objects)) (λ previous f c. passed _ _ (need-then _ _ _ _ c)) none (t .facts) e₇;
+      };
     }
 
 -- the arity of a known predicate is 1 to 3
@@ -266,7 +267,7 @@ module _ (t : Task) where
   keep-valid test s v =
       record {
         facts-known = all-intro _ (keep test s) (λ f m. all-at _ s (v .facts-known) f (keep-at test s f m .0));
-        in-order = keep-ascending test none s (v .in-order)
+        in-order = keep-ascending test none s (v .in-order);
       }
 
   -- and when a known fact is put in
@@ -276,7 +277,7 @@ module _ (t : Task) where
       record {
         facts-known = all-intro _ (put f s)
             (λ g m. ⊎-elim (λ p. ap (known (t .arities) (t .objects)) p ∙ k) (λ j. all-at _ s (v .facts-known) g j) (put-at f s g m));
-        in-order = put-ascending f none s refl (v .in-order)
+        in-order = put-ascending f none s refl (v .in-order);
       }
 
   pub puts-valid :
@@ -321,7 +322,7 @@ checked-action t a e =
       schema-known = ltb-true _ _ (need-passed _ 16 _ tt e);
       one-for-each = eqb-true _ _ (and-left enough _ bound);
       objects-known = and-right enough _ bound;
-      all-different = passed _ 18 (need-then _ 17 _ tt e₂)
+      all-different = passed _ 18 (need-then _ 17 _ tt e₂);
     }
 
 module _ (t : Task) (ok : checkTask t ≡ accepted tt) where
@@ -384,7 +385,7 @@ well-formed t buffer count e =
       room = leb-true 4096 (length buffer) (and-left large few two);
       count-fits = leb-true count 1024 (and-right large few two);
       rows = and-right (large && few) right three;
-      order = and-right (large && few && right) _ e
+      order = and-right (large && few && right) _ e;
     }
 
 pub well-formed-intro : (t : Task) (buffer : List ℕ) (count : ℕ) → WellFormed t buffer count → wellFormed t buffer count ≡ true
@@ -406,6 +407,12 @@ well-formed-valid t buffer count e =
     let w = well-formed t buffer count e in
     record { facts-known = rows-known t count buffer (w .rows); in-order = w .order }
 
+-- it has as many facts as the count says, at most 1,024
+pub well-formed-count :
+    (t : Task) (buffer : List ℕ) (count : ℕ) → wellFormed t buffer count ≡ true
+    → (length (factsIn (t .arities) count buffer) ≡ count) × (count ≤ 1024)
+well-formed-count t buffer count e = (length-factsIn (t .arities) count buffer, well-formed t buffer count e .count-fits)
+
 -- a fact with at most three arguments has four bytes
 pub length-factBytes : (f : Atom) → length (f .arguments) ≤ 3 → length (factBytes f) ≡ 4
 unfolding factBytes
@@ -419,11 +426,6 @@ pub factAt-factBytes : (arities : List ℕ) (f : Atom) → length (f .arguments)
 unfolding factAt factBytes
 factAt-factBytes arities f n =
     λ i. record { predicate = f .predicate; arguments = take-at (f .arguments) (replicate (3 - length (f .arguments)) filler) _ n i }
-
-pub all-replicate : {A : Type 0} (test : A → Bool) (n : ℕ) (a : A) → test a ≡ true → all test (replicate n a) ≡ true
-unfolding all
-all-replicate test zero a e = refl
-all-replicate test (suc n) a e = and-intro (test a) (all test (replicate n a)) e (all-replicate test n a e)
 
 -- and they are right
 pub row-written : (t : Task) (f : Atom) → known (t .arities) (t .objects) f ≡ true → rowRight t (factBytes f) ≡ true
@@ -457,11 +459,12 @@ module _ (t : Task) (c : Checked t) where
       let bytes : List ℕ = flatMap factBytes fs ++ rest in
       let joined = append-assoc (factBytes f) (flatMap factBytes fs) rest in
       let front : take 4 (factBytes f ++ flatMap factBytes fs ++ rest) ≡ factBytes f =
-          ap (take 4) joined ∙ take-at (factBytes f) bytes 4 (length-known f here) in
+      ap (take 4) joined ∙ take-at (factBytes f) bytes 4 (length-known f here) in
       let behind : drop 4 (factBytes f ++ flatMap factBytes fs ++ rest) ≡ bytes =
-          ap (drop 4) joined ∙ drop-at (factBytes f) bytes 4 (length-known f here) in
-      (rw (front, behind) (cc (factAt-factBytes (t .arities) f (known-arity (t .arities) (t .objects) f here), later .0)),
-      rw (front, behind) (and-intro (rowRight t (factBytes f)) _ (row-written t f here) (later .1)))
+      ap (drop 4) joined ∙ drop-at (factBytes f) bytes 4 (length-known f here) in (
+        rw (front, behind) (cc (factAt-factBytes (t .arities) f (known-arity (t .arities) (t .objects) f here), later .0)),
+        rw (front, behind) (and-intro (rowRight t (factBytes f)) _ (row-written t f here) (later .1)),
+      )
 
   -- four bytes for each fact
   pub length-facts : (s : State) → all (known (t .arities) (t .objects)) s ≡ true → length (flatMap factBytes s) ≡ 4 * length s
@@ -503,7 +506,7 @@ module _ (t : Task) (c : Checked t) where
         room = let kept = length-written s buffer v few large in omega arith;
         count-fits = few;
         rows = stored-rows;
-        order = ap (ascending none) (stored-facts s buffer v) ∙ v .in-order
+        order = ap (ascending none) (stored-facts s buffer v) ∙ v .in-order;
       })
     where
       stored-rows : rowsRight t (length s) (written s buffer) ≡ true
@@ -516,9 +519,11 @@ pub stored-state :
     (t : Task) → checkTask t ≡ accepted tt → (s : State) (buffer : List ℕ) → Valid t s → length s ≤ 1024 → 4096 ≤ length buffer
     → (factsIn (t .arities) (length s) (written s buffer) ≡ s) × (wellFormed t (written s buffer) (length s) ≡ true)
     × (length (written s buffer) ≡ length buffer)
-stored-state t ok s buffer v few large =
-    (stored-facts t (checked t ok) s buffer v, stored-well-formed t (checked t ok) s buffer v few large,
-    length-written t (checked t ok) s buffer v few large)
+stored-state t ok s buffer v few large = (
+  stored-facts t (checked t ok) s buffer v,
+  stored-well-formed t (checked t ok) s buffer v few large,
+  length-written t (checked t ok) s buffer v few large,
+)
 
 -- what an accepted action is: allowed, with a next state of at most 1,024 facts
 pub record Applied (t : Task) (a : Action) (s next : State) : Type 0 where
@@ -535,7 +540,7 @@ applied t a s next e₁ =
     record {
       was-allowed = record { named = first-passed _ _ next e₁; holds = need-passed _ 19 _ next e₂ };
       is-successor = sym reached;
-      few-next = subst (λ (r : State). length r ≤ 1024) reached (leb-true _ 1024 (need-passed _ 20 _ next e₃))
+      few-next = subst (λ (r : State). length r ≤ 1024) reached (leb-true _ 1024 (need-passed _ 20 _ next e₃));
     }
   where
     accepted-eq : {x y : State} → accepted x ≡ accepted y → x ≡ y
@@ -581,8 +586,10 @@ module _ (card : List ℕ) (t : Task) (decoded : decode card ≡ accepted t) whe
     where
       s : State
       s = factsIn (t .arities) count buffer
+
       outcome : Answer State → Call
       outcome answer = finish buffer (answer >>= (λ next. accepted (store next buffer)))
+
       apply-cases : wellFormed t buffer count ≡ true → (answer : Answer State) → apply t a s ≡ answer
           → Refused buffer (outcome answer) ⊎ Pressed t buffer count a (outcome answer)
       apply-cases h (refused n) k = unfold finish in inl (record { number = n; answered = refl; left = refl })
@@ -593,8 +600,9 @@ module _ (card : List ℕ) (t : Task) (decoded : decode card ≡ accepted t) whe
             was-well-formed = h;
             was-applied = applied t a s next k;
             next-counted = refl;
-            next-stored = refl
+            next-stored = refl;
           })
+
       go : (b : Bool) → wellFormed t buffer count ≡ b
           → Refused buffer (finish buffer (need b 15 >> (apply t a s >>= (λ next. accepted (store next buffer)))))
           ⊎ Pressed t buffer count a (finish buffer (need b 15 >> (apply t a s >>= (λ next. accepted (store next buffer)))))
@@ -634,47 +642,48 @@ module _ (t : Task) (ok : checkTask t ≡ accepted tt) (card : List ℕ) (decode
   stored-kept s buffer v few large q =
       record {
         well = stored-well-formed t (checked t ok) s buffer v few large;
-        meets = subst Q (sym (stored-facts t (checked t ok) s buffer v)) q
+        meets = subst Q (sym (stored-facts t (checked t ok) s buffer v)) q;
       }
 
   module _
       (kept : (s : State) (a : Action) → Valid t s → Q s → Allowed t s a → Q (successor (schemaAt t (a .schema)) (a .objects) s))
     where
-    -- a refused call changes nothing, an accepted one stores the next state
-    pressed-kept : (standing : Standing) (a : Action) → Kept standing → Kept (pressed card standing a)
-    unfolding counted stateOf
-    pressed-kept standing a k =
-        ⊎-elim (λ r. subst Kept (sym (pressed-is card standing a _ _ (r .answered) (r .left))) k)
-        (λ r. subst Kept (sym (pressed-is card standing a _ _ (r .next-counted) (r .next-stored))) (after r))
-        (press-cases card t decoded (standing .buffer) (standing .count) a)
-      where
-        s : State
-        s = factsIn (t .arities) (standing .count) (standing .buffer)
-        after : (r : Pressed t (standing .buffer) (standing .count) a (press card (standing .buffer) (standing .count) a))
-            → Kept (record { buffer = written (r .next) (standing .buffer); count = length (r .next) })
-        after r =
-            let valid = well-formed-valid t (standing .buffer) (standing .count) (k .well) in
-            stored-kept (r .next) (standing .buffer) (pressed-valid t ok _ _ a _ r) (r .was-applied .few-next)
-            (well-formed t (standing .buffer) (standing .count) (k .well) .room)
-            (subst Q (sym (r .was-applied .is-successor)) (kept s a valid (k .meets) (r .was-applied .was-allowed)))
+      -- a refused call changes nothing, an accepted one stores the next state
+      pressed-kept : (standing : Standing) (a : Action) → Kept standing → Kept (pressed card standing a)
+      unfolding counted stateOf
+      pressed-kept standing a k =
+          ⊎-elim (λ r. subst Kept (sym (pressed-is card standing a _ _ (r .answered) (r .left))) k)
+          (λ r. subst Kept (sym (pressed-is card standing a _ _ (r .next-counted) (r .next-stored))) (after r))
+          (press-cases card t decoded (standing .buffer) (standing .count) a)
+        where
+          s : State
+          s = factsIn (t .arities) (standing .count) (standing .buffer)
 
-    -- and so does a list of calls
-    history-kept : (actions : List Action) (standing : Standing) → Kept standing → Kept (history card actions standing)
-    unfolding history
-    history-kept [] standing k = k
-    history-kept (a ∷ actions) standing k = history-kept actions (pressed card standing a) (pressed-kept standing a k)
+          after : (r : Pressed t (standing .buffer) (standing .count) a (press card (standing .buffer) (standing .count) a))
+              → Kept (record { buffer = written (r .next) (standing .buffer); count = length (r .next) })
+          after r =
+              let valid = well-formed-valid t (standing .buffer) (standing .count) (k .well) in
+              stored-kept (r .next) (standing .buffer) (pressed-valid t ok _ _ a _ r) (r .was-applied .few-next)
+              (well-formed t (standing .buffer) (standing .count) (k .well) .room)
+              (subst Q (sym (r .was-applied .is-successor)) (kept s a valid (k .meets) (r .was-applied .was-allowed)))
 
-    -- the opening call makes it so
-    opened-kept :
-        (buffer : List ℕ) (n : ℕ) → initial card buffer .answer ≡ accepted n → Q (t .facts)
-        → Kept (record { buffer = initial card buffer .buffer; count = n })
-    opened-kept buffer n e q =
-        let o = opened card t decoded buffer n e in
-        let same : _≡_ {A = Standing} (record { buffer = initial card buffer .buffer; count = n })
-            (record { buffer = written (t .facts) buffer; count = length (t .facts) }) =
-            λ i. record { buffer = o .facts-stored i; count = o .all-counted i } in
-        let few = initial-few t ok in
-        subst Kept (sym same) (stored-kept (t .facts) buffer (initial-valid t ok) (omega arith) (o .large) q)
+      -- and so does a list of calls
+      history-kept : (actions : List Action) (standing : Standing) → Kept standing → Kept (history card actions standing)
+      unfolding history
+      history-kept [] standing k = k
+      history-kept (a ∷ actions) standing k = history-kept actions (pressed card standing a) (pressed-kept standing a k)
+
+      -- the opening call makes it so
+      opened-kept :
+          (buffer : List ℕ) (n : ℕ) → initial card buffer .answer ≡ accepted n → Q (t .facts)
+          → Kept (record { buffer = initial card buffer .buffer; count = n })
+      opened-kept buffer n e q =
+          let o = opened card t decoded buffer n e in
+          let same : _≡_ {A = Standing} (record { buffer = initial card buffer .buffer; count = n })
+          (record { buffer = written (t .facts) buffer; count = length (t .facts) }) =
+          λ i. record { buffer = o .facts-stored i; count = o .all-counted i } in
+          let few = initial-few t ok in
+          subst Kept (sym same) (stored-kept (t .facts) buffer (initial-valid t ok) (omega arith) (o .large) q)
 
 -- a claim that the task's facts meet, and that every allowed action keeps, is true of the state after every history,
 -- and that state is one of the task
