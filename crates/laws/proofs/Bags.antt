@@ -3,17 +3,17 @@ use Prim.Native.Nat.{ℕ, zero, suc, _+_, _-_, _≤_, _<_, min, zero-le, suc-le-
 use native.Mathlib.Nat.{le-of-suc-le-suc, not-suc-le-zero, suc-inj, suc-ne-zero, le-refl}
 use native.Mathlib.Omega.{arith}
 use mathlib.Core.Path.{_≡_, refl, sym, ap, _∙_, subst}
-use mathlib.Core.Bool.{Bool, true, false, cond, not, _&&_}
-use mathlib.Core.Logic.{_⊎_, inl, inr, ⊎-elim}
+use mathlib.Core.Bool.{Bool, true, false, cond, not}
+use mathlib.Core.Logic.{⊎-elim}
 use mathlib.Core.List.{List, [], _∷_, _++_, map, zipWith, foldl, List·Memᴰ, List·Memᴰ·head, List·Memᴰ·tail, List·Memᴰ·cases-cons, List·Memᴰ·not-nil, List·Memᴰ·append-cases, List·Memᴰ·eq-of-singleton, Memᴰ·cast}
 use lib.Dec.{leb, eqb, ltb}
 use lib.ListN.{length, getD, length-map, List·getD-eq-default}
 use lib.Seq.{ext-getD}
-use borrow.Author.Tests.{eqb-true, eqb-false, eq-eqb, ne-eqb, leb-true, le-leb, ltb-true, ltb-false, lt-ltb}
+use borrow.Author.Tests.{eqb-true, eq-eqb, ne-eqb, leb-true, le-leb, ltb-true, ltb-false, lt-ltb}
 use Rattle.laws.specs.Lists.{any, all, keep, upTo, sum, same}
 use Rattle.laws.specs.Bags.{Bag, plus, less, meet, contains, strictlyContains, isEmpty, single, support, restrict, listed}
-use Rattle.laws.proofs.Tests.{never, and-left, and-right, and-intro, not-true, to-not-true, by-test, cond-true, cond-false}
-use Rattle.laws.proofs.Lists.{all-at, all-intro, any-at, any-intro, any-none, keep-at, keep-intro, mem-getD, place-of, length-upTo, upTo-at, upTo-intro, getD-upTo, same-eq, same-refl}
+use Rattle.laws.proofs.Tests.{never, and-left, and-right, and-intro, not-true, to-not-true, by-test, same-test, cond-true, cond-false}
+use Rattle.laws.proofs.Lists.{all-at, all-intro, any-at, any-intro, keep-at, keep-intro, mem-getD, place-of, length-upTo, upTo-at, upTo-intro, getD-upTo, same-eq, same-refl}
 
 -- ---- an operation that goes property by property
 
@@ -119,9 +119,11 @@ contains-antisym a b p q =
 -- strict containment: contained, and another bag
 pub strictly-at : (a b : Bag) → strictlyContains a b ≡ true → (contains a b ≡ true) × (a ≡ b → ⊥)
 unfolding strictlyContains
-strictly-at a b e =
-    (and-left (contains a b) (not (same a b)) e, λ p.
-    never (sym (subst (λ (c : Bag). same a c ≡ true) p (same-refl a)) ∙ not-true (same a b) (and-right (contains a b) (not (same a b)) e)))
+strictly-at a b e = (
+  and-left (contains a b) (not (same a b)) e,
+  λ p.
+      never (sym (subst (λ (c : Bag). same a c ≡ true) p (same-refl a)) ∙ not-true (same a b) (and-right (contains a b) (not (same a b)) e)),
+)
 
 pub strictly-intro : (a b : Bag) → contains a b ≡ true → (a ≡ b → ⊥) → strictlyContains a b ≡ true
 unfolding strictlyContains
@@ -160,6 +162,7 @@ contains-same-sum (x ∷ b) (y ∷ a) e h =
   where
     first : y ≤ x → sum a ≤ sum b → x ≡ y
     first p q = omega arith
+
     rest : y ≤ x → sum a ≤ sum b → sum b ≤ sum a
     rest p q = omega arith
 
@@ -285,6 +288,30 @@ restrict-contains cs b a e =
     let k : i < length cs = subst (λ (n : ℕ). i < n) (length-restrict cs b) h in
     omega (arith, contains-at b a e (getD cs i 0), getD-restrict cs b i k, getD-restrict cs a i k))
 
+pub restrict-isEmpty : (cs : List ℕ) (b : Bag) → isEmpty b ≡ true → isEmpty (restrict cs b) ≡ true
+restrict-isEmpty cs b e =
+    isEmpty-intro (restrict cs b)
+    (λ i h. getD-restrict cs b i (subst (λ (n : ℕ). i < n) (length-restrict cs b) h) ∙ isEmpty-at b e (getD cs i 0))
+
+-- one occurrence of one of the properties, of which none stands twice
+pub restrict-single : (cs : List ℕ) (size i : ℕ) → i < length cs → ((c : ℕ) → List·Memᴰ c cs → c < size)
+    → ((j k : ℕ) → j < length cs → k < length cs → getD cs j 0 ≡ getD cs k 0 → j ≡ k)
+    → restrict cs (single size (getD cs i 0)) ≡ single (length cs) i
+restrict-single cs size i h below once =
+    bag-ext (length cs) (restrict cs (single size (getD cs i 0))) (single (length cs) i)
+    (length-restrict cs (single size (getD cs i 0))) (length-single (length cs) i)
+    (λ j k.
+    getD-restrict cs (single size (getD cs i 0)) j k
+    ∙ getD-single size (getD cs i 0) (getD cs j 0) (below (getD cs j 0) (mem-getD cs j 0 k))
+    ∙ ap (λ (t : Bool). cond t 1 0) (agree j k)
+    ∙ sym (getD-single (length cs) i j k))
+  where
+    agree : (j : ℕ) → j < length cs → eqb (getD cs i 0) (getD cs j 0) ≡ eqb i j
+    agree j k =
+        same-test (eqb (getD cs i 0) (getD cs j 0)) (eqb i j)
+        (λ e. eq-eqb i j (once i j h k (eqb-true (getD cs i 0) (getD cs j 0) e)))
+        (λ e. eq-eqb (getD cs i 0) (getD cs j 0) (ap (λ (c : ℕ). getD cs c 0) (eqb-true i j e)))
+
 -- ---- lists of bags, or of anything else
 
 module _ {A : Type 0} where
@@ -296,9 +323,10 @@ module _ {A : Type 0} where
   pub pairwise-append : (R : A → A → Type 0) (xs ys : List A) → Pairwise R xs → Pairwise R ys
       → ((x y : A) → List·Memᴰ x xs → List·Memᴰ y ys → R x y) → Pairwise R (xs ++ ys)
   pairwise-append R [] ys p q h = q
-  pairwise-append R (x ∷ xs) ys p q h =
-      (λ y k. ⊎-elim (p .0 y) (h x y (List·Memᴰ·head refl)) (List·Memᴰ·append-cases xs k),
-      pairwise-append R xs ys (p .1) q (λ z y k. h z y (List·Memᴰ·tail k)))
+  pairwise-append R (x ∷ xs) ys p q h = (
+    λ y k. ⊎-elim (p .0 y) (h x y (List·Memᴰ·head refl)) (List·Memᴰ·append-cases xs k),
+    pairwise-append R xs ys (p .1) q (λ z y k. h z y (List·Memᴰ·tail k)),
+  )
 
   -- no element stands twice
   abbrev pub NoRepeat : List A → Type 0
@@ -350,6 +378,16 @@ module _ {A B : Type 0} where
   each-at R (x ∷ xs) [] e i d c h = absurd e
   each-at R (x ∷ xs) (y ∷ ys) e zero d c h = e .0
   each-at R (x ∷ xs) (y ∷ ys) e (suc i) d c h = each-at R xs ys (e .1) i d c (le-of-suc-le-suc h)
+
+  pub each-has : (R : A → B → Type 0) (xs : List A) (ys : List B) → Each R xs ys → (x : A) → List·Memᴰ x xs
+      → (y : B) × List·Memᴰ y ys × R x y
+  each-has R [] [] e x k = absurd (List·Memᴰ·not-nil k)
+  each-has R [] (y ∷ ys) e x k = absurd e
+  each-has R (z ∷ xs) [] e x k = absurd e
+  each-has R (z ∷ xs) (y ∷ ys) e x k =
+      ⊎-elim (λ p. (y, List·Memᴰ·head refl, subst (λ (w : A). R w y) (sym p) (e .0)))
+      (λ j. let r = each-has R xs ys (e .1) x j in (r .0, List·Memᴰ·tail (r .1), r .2))
+      (List·Memᴰ·cases-cons k)
 
   -- what every step keeps, a fold keeps
   pub fold-keeps : (Q : B → Type 0) (f : B → A → B) (xs : List A) → ((b : B) (x : A) → List·Memᴰ x xs → Q b → Q (f b x))

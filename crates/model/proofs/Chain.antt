@@ -3,17 +3,17 @@
 use Prim.Native.Nat.{ℕ, zero, suc, _+_, _-_, _≤_, _<_, min}
 use native.Mathlib.Nat.{not-suc-le-zero, le-refl, le-trans, le-min, min-le-left, min-le-right}
 use native.Mathlib.Omega.{arith}
-use mathlib.Core.Path.{_≡_, refl, sym, ap, _∙_, subst}
-use mathlib.Core.Bool.{Bool, true, false}
+use mathlib.Core.Path.{_≡_, sym, ap, _∙_, subst}
+use mathlib.Core.Bool.{true}
 use mathlib.Core.Logic.{_⊎_, inl, inr, ⊎-elim}
 use mathlib.Core.List.{List, List·Memᴰ, Memᴰ·cast}
 use lib.Dec.{eqb}
 use lib.ListN.{length, getD}
 use borrow.Author.Tests.{eqb-true, eqb-false}
 use Rattle.laws.specs.Lists.{sum}
-use Rattle.laws.specs.Bags.{Bag, plus, less, meet, contains, strictlyContains, isEmpty, single}
+use Rattle.laws.specs.Bags.{Bag, plus, less, meet, contains, isEmpty, single}
 use Rattle.laws.proofs.Tests.{by-test}
-use Rattle.laws.proofs.Bags.{length-plus, length-less, length-meet, getD-plus, getD-less, getD-meet, bag-ext, contains-length, contains-at, contains-intro, strictly-intro, strictly-sum, isEmpty-at, isEmpty-not, length-single, single-here, single-elsewhere}
+use Rattle.laws.proofs.Bags.{length-plus, length-less, length-meet, getD-plus, getD-less, getD-meet, bag-ext, contains-at, contains-intro, strictly-intro, strictly-sum, isEmpty-at, isEmpty-not, length-single, single-here, single-elsewhere}
 use Rattle.model.specs.Extension.{Move}
 use Rattle.model.proofs.Choices.{results-intro}
 use Rattle.model.proofs.OwnLists.{Closed}
@@ -104,17 +104,22 @@ module _ (moves : List Move) (bags : List Bag) (closed : Closed moves bags) (n :
       let below = j c c-in e-pos .1 in
       let under = taken e c c-in e-pos in
       let fewer : sum (less e one) < sum e =
-          strictly-sum e (less e one)
-          (strictly-intro e (less e one)
-          (contains-intro e (less e one) (le ∙ sym le1) (λ i p. omega (arith, getD-less e one (le ∙ sym l1) i)))
-          (λ q.
-          omega (arith, e-pos, ap (λ (x : Bag). getD x c 0) q, getD-less e one (le ∙ sym l1) c, single-here n c c-in))) in
+      strictly-sum e (less e one)
+      (strictly-intro e (less e one)
+      (contains-intro e (less e one) (le ∙ sym le1) (λ i p. omega (arith, getD-less e one (le ∙ sym l1) i)))
+      (λ q.
+      omega (arith, e-pos, ap (λ (x : Bag). getD x c 0) q, getD-less e one (le ∙ sym l1) c, single-here n c c-in))) in
       Memᴰ·cast
       (bag-ext n (less b e) (less (less b one) (less e one)) (length-less n b e lb le) (length-less n (less b one) (less e one) lb1 le1)
       (λ i p.
-      omega
-      (arith, getD-less b e (lb ∙ sym le) i, getD-less (less b one) (less e one) (lb1 ∙ sym le1) i, getD-less b one (lb ∙ sym l1) i,
-      getD-less e one (le ∙ sym l1) i, under i p)))
+      omega (
+        arith,
+        getD-less b e (lb ∙ sym le) i,
+        getD-less (less b one) (less e one) (lb1 ∙ sym le1) i,
+        getD-less b one (lb ∙ sym l1) i,
+        getD-less e one (le ∙ sym l1) i,
+        under i p,
+      )))
       (exchange-steps fuel (less b one) (less e one) (omega (arith, fewer, h)) lb1 le1
       (exchange-step b c k (j c c-in e-pos .0) lb (omega (arith, below, e-pos)))
       (λ i p q.
@@ -155,13 +160,14 @@ charge : (b d a s x rd ra c e : ℕ) → d ≤ b → s ≤ min a (b - d) → x �
 charge b d a s x rd ra c e h k common less-d less-a by-c by-e =
     let adds = part x a ra (subst (λ (y : ℕ). y ≤ a) (sym common) (min-le-right d a)) less-a in
     let absorbs = part c s e (subst (λ (y : ℕ). y ≤ s) (sym by-c) (min-le-left s ra)) by-e in
-    record
-    { deletes = part x d rd (subst (λ (y : ℕ). y ≤ d) (sym common) (min-le-left d a)) less-d
-    ; adds = adds
-    ; absorbs = absorbs
-    ; by-rest = subst (λ (y : ℕ). y ≤ ra) (sym by-c) (min-le-right s ra)
-    ; by-exchange = excess a s x ra c e (le-trans k (min-le-left a (b - d))) adds by-c absorbs
-    ; left = fits-left b d a s h k }
+    record {
+      deletes = part x d rd (subst (λ (y : ℕ). y ≤ d) (sym common) (min-le-left d a)) less-d;
+      adds = adds;
+      absorbs = absorbs;
+      by-rest = subst (λ (y : ℕ). y ≤ ra) (sym by-c) (min-le-right s ra);
+      by-exchange = excess a s x ra c e (le-trans k (min-le-left a (b - d))) adds by-c absorbs;
+      left = fits-left b d a s h k;
+    }
 
 -- document 01's press on a bag: with deletes d and adds a, of which s are absorbed, a closed list leads from b to b - d + a - s
 pub chain : (moves : List Move) (bags : List Bag) → Closed moves bags → (n : ℕ) (b d a s : Bag)
@@ -191,30 +197,43 @@ chain moves bags closed n b d a s lb ld la ls k fits absorbed exchanges remains 
   where
     x : Bag
     x = meet d a
+
     rd : Bag
     rd = less d x
+
     ra : Bag
     ra = less a x
+
     c : Bag
     c = meet s ra
+
     e : Bag
     e = less s c
+
     lx : length x ≡ n
     lx = length-meet n d a ld la
+
     lrd : length rd ≡ n
     lrd = length-less n d x ld lx
+
     lra : length ra ≡ n
     lra = length-less n a x la lx
+
     lc : length c ≡ n
     lc = length-meet n s ra ls lra
+
     le : length e ≡ n
     le = length-less n s c ls lc
+
     lbd : length (less b d) ≡ n
     lbd = length-less n b d lb ld
+
     lbe : length (less b e) ≡ n
     lbe = length-less n b e lb le
+
     lr : length (less (plus (less b d) a) s) ≡ n
     lr = length-less n (plus (less b d) a) s (length-plus n (less b d) a lbd la) ls
+
     at : (i : ℕ) → Charged (getD b i 0) (getD d i 0) (getD a i 0) (getD s i 0) (getD x i 0) (getD rd i 0) (getD ra i 0) (getD c i 0) (getD e i 0)
     at i =
         charge (getD b i 0) (getD d i 0) (getD a i 0) (getD s i 0) (getD x i 0) (getD rd i 0) (getD ra i 0) (getD c i 0) (getD e i 0)
@@ -227,13 +246,16 @@ chain moves bags closed n b d a s lb ld la ls k fits absorbed exchanges remains 
         (getD-less a x (la ∙ sym lx) i)
         (getD-meet s ra (ls ∙ sym lra) i)
         (getD-less s c (ls ∙ sym lc) i)
+
     less-e : (i : ℕ) → getD (less b e) i 0 ≡ getD b i 0 - getD e i 0
     less-e i = getD-less b e (lb ∙ sym le) i
+
     result : (i : ℕ) → getD (less (plus (less b d) a) s) i 0 ≡ getD b i 0 - getD d i 0 + getD a i 0 - getD s i 0
     result i =
         getD-less (plus (less b d) a) s (length-plus n (less b d) a lbd la ∙ sym ls) i
         ∙ ap (λ (y : ℕ). y - getD s i 0) (getD-plus (less b d) a (lbd ∙ sym la) i)
         ∙ ap (λ (y : ℕ). y + getD a i 0 - getD s i 0) (getD-less b d (lb ∙ sym ld) i)
+
     exchanged : List·Memᴰ (less b e) bags
     exchanged =
         exchange-steps moves bags closed n (suc (sum e)) b e (le-refl (suc (sum e))) lb le k
