@@ -1,19 +1,19 @@
 -- The chain lemma: what an action does to an object's bag is a chain of steps by the property rules of its parameter. So a list
 -- that is closed under the rules has the bag after the action if it has the bag before; for any number of properties.
-use Prim.Native.Nat.{ℕ, zero, suc, _+_, _-_, _≤_, _<_, min}
+use Prim.Native.Nat.{ℕ, zero, suc, _+_, _-_, _≤_, _<_, min, zero-le}
 use native.Mathlib.Nat.{not-suc-le-zero, le-refl, le-trans, le-min, min-le-left, min-le-right}
 use native.Mathlib.Omega.{arith}
-use mathlib.Core.Path.{_≡_, sym, ap, _∙_, subst}
+use mathlib.Core.Path.{_≡_, sym, _∙_, subst}
 use mathlib.Core.Bool.{true}
-use mathlib.Core.Logic.{_⊎_, inl, inr, ⊎-elim}
+use mathlib.Core.Logic.{_⊎_, ⊎-elim}
 use mathlib.Core.List.{List, List·Memᴰ, Memᴰ·cast}
-use lib.Dec.{eqb}
 use lib.ListN.{length, getD}
-use borrow.Author.Tests.{eqb-true, eqb-false}
 use Rattle.laws.specs.Lists.{sum}
 use Rattle.laws.specs.Bags.{Bag, plus, less, meet, contains, isEmpty, single}
 use Rattle.laws.proofs.Tests.{by-test}
-use Rattle.laws.proofs.Bags.{length-plus, length-less, length-meet, getD-plus, getD-less, getD-meet, bag-ext, contains-at, contains-intro, strictly-intro, strictly-sum, isEmpty-at, isEmpty-not, length-single, single-here, single-elsewhere}
+use Rattle.laws.proofs.Bags.{length-less, length-meet, getD-less, getD-meet, length-change, getD-change, length-absorbed, getD-absorbed}
+use Rattle.laws.proofs.Bags.{bag-ext, less-less, less-empty, contains-at, contains-intro, contains-single, isEmpty-at, isEmpty-not}
+use Rattle.laws.proofs.Bags.{length-single, single-by-place, less-single-sum}
 use Rattle.model.specs.Extension.{Move}
 use Rattle.model.proofs.Choices.{results-intro}
 use Rattle.model.proofs.OwnLists.{Closed}
@@ -35,34 +35,20 @@ module _ (moves : List Move) (bags : List Bag) (closed : Closed moves bags) (n :
       → ((i : ℕ) → i < n → getD r i 0 ≡ getD b i 0 - getD (m .start) i 0 + getD (m .finish) i 0 - getD s i 0)
       → List·Memᴰ r bags
   step b m s r k j lb ls lf lc lr fits absorbed result =
-      let left = less b (m .start) in
-      let caps = meet (m .finish) left in
-      let ll = length-less n b (m .start) lb ls in
-      let lp = length-plus n left (m .finish) ll lf in
-      let lm = length-meet n (m .finish) left lf ll in
+      let changed = less (plus (less b (m .start)) (m .finish)) s in
+      let caps = meet (m .finish) (less b (m .start)) in
+      let lm = length-absorbed n b (m .start) (m .finish) lb ls lf in
       Memᴰ·cast
-      (bag-ext n r (less (plus left (m .finish)) s) lr (length-less n (plus left (m .finish)) s lp lc)
-      (λ i h.
-      result i h
-      ∙ sym (getD-less (plus left (m .finish)) s (lp ∙ sym lc) i
-      ∙ ap (λ (x : ℕ). x - getD s i 0) (getD-plus left (m .finish) (ll ∙ sym lf) i)
-      ∙ ap (λ (x : ℕ). x + getD (m .finish) i 0 - getD s i 0) (getD-less b (m .start) (lb ∙ sym ls) i))))
+      (bag-ext n r changed lr (length-change n b (m .start) (m .finish) s lb ls lf lc)
+      (λ i h. result i h ∙ sym (getD-change n b (m .start) (m .finish) s lb ls lf lc i)))
       (closed b k m j
       (contains-intro b (m .start) (lb ∙ sym ls) (λ i h. fits i (subst (λ (x : ℕ). i < x) lb h)))
-      (less (plus left (m .finish)) s)
+      changed
       (results-intro b m s
       (contains-intro caps s (lm ∙ sym lc)
       (λ i h.
-      subst (λ (x : ℕ). getD s i 0 ≤ x)
-      (sym (getD-meet (m .finish) left (lf ∙ sym ll) i ∙ ap (min (getD (m .finish) i 0)) (getD-less b (m .start) (lb ∙ sym ls) i)))
+      subst (λ (x : ℕ). getD s i 0 ≤ x) (sym (getD-absorbed n b (m .start) (m .finish) lb ls lf i))
       (absorbed i (subst (λ (x : ℕ). i < x) lm h))))))
-
-  -- the count of a single property, here or elsewhere
-  single-case : (c i : ℕ) → i < n → ((c ≡ i) × (getD (single n c) i 0 ≡ 1)) ⊎ (getD (single n c) i 0 ≡ 0)
-  single-case c i h =
-      by-test (eqb c i)
-      (λ e. let p = eqb-true c i e in inl (p, subst (λ (x : ℕ). getD (single n x) i 0 ≡ 1) (sym p) (single-here n i h)))
-      (λ e. inr (single-elsewhere n c i h (eqb-false c i e)))
 
   -- an exchange whose add is absorbed takes one occurrence, where there are two
   exchange-step : (b : Bag) (c : ℕ) → List·Memᴰ b bags → List·Memᴰ (exchange n c) moves → length b ≡ n
@@ -70,69 +56,36 @@ module _ (moves : List Move) (bags : List Bag) (closed : Closed moves bags) (n :
   exchange-step b c k j lb two =
       let one = single n c in
       let l1 = length-single n c in
+      let twice = single-by-place (λ i o. o + o ≤ getD b i 0) n c two (λ i. zero-le) in
       step b (exchange n c) one (less b one) k j lb l1 l1 l1 (length-less n b one lb l1)
       (λ i h. let t = twice i h in omega arith)
       (λ i h. let t = twice i h in omega arith)
       (λ i h. let g = getD-less b one (lb ∙ sym l1) i in omega arith)
-    where
-      twice : (i : ℕ) → i < n → getD (single n c) i 0 + getD (single n c) i 0 ≤ getD b i 0
-      twice i h =
-          ⊎-elim (λ p. let q : 2 ≤ getD b i 0 = subst (λ (x : ℕ). 2 ≤ getD b x 0) (p .0) two in let o = p .1 in omega arith)
-          (λ z. omega arith) (single-case c i h)
 
-  -- exchanges with absorbed adds take away any bag whose counts stay below
+  -- exchanges with absorbed adds take away any bag e, one occurrence after the other, where e is below b at each of its properties
   exchange-steps : (fuel : ℕ) (b e : Bag) → sum e < fuel → length b ≡ n → length e ≡ n → List·Memᴰ b bags
       → ((i : ℕ) → i < n → 0 < getD e i 0 → List·Memᴰ (exchange n i) moves × (getD e i 0 < getD b i 0))
       → List·Memᴰ (less b e) bags
   exchange-steps zero b e h lb le k j = absurd (not-suc-le-zero h)
   exchange-steps (suc fuel) b e h lb le k j =
-      by-test (isEmpty e)
-      (λ z.
-      Memᴰ·cast
-      (bag-ext n (less b e) b (length-less n b e lb le) lb
-      (λ i p. omega (arith, getD-less b e (lb ∙ sym le) i, isEmpty-at e z i)))
-      k)
+      by-test (isEmpty e) (λ z. Memᴰ·cast (less-empty n b e lb le z) k)
       (λ z.
       let f = isEmpty-not e z in
       let c = f .0 in
       let c-in : c < n = subst (λ (x : ℕ). c < x) le (f .1) in
-      let e-pos : 0 < getD e c 0 = f .2 in
+      let here = j c c-in (f .2) in
       let one = single n c in
       let l1 = length-single n c in
-      let lb1 = length-less n b one lb l1 in
-      let le1 = length-less n e one le l1 in
-      let below = j c c-in e-pos .1 in
-      let under = taken e c c-in e-pos in
-      let fewer : sum (less e one) < sum e =
-      strictly-sum e (less e one)
-      (strictly-intro e (less e one)
-      (contains-intro e (less e one) (le ∙ sym le1) (λ i p. omega (arith, getD-less e one (le ∙ sym l1) i)))
-      (λ q.
-      omega (arith, e-pos, ap (λ (x : Bag). getD x c 0) q, getD-less e one (le ∙ sym l1) c, single-here n c c-in))) in
-      Memᴰ·cast
-      (bag-ext n (less b e) (less (less b one) (less e one)) (length-less n b e lb le) (length-less n (less b one) (less e one) lb1 le1)
-      (λ i p.
-      omega (
-        arith,
-        getD-less b e (lb ∙ sym le) i,
-        getD-less (less b one) (less e one) (lb1 ∙ sym le1) i,
-        getD-less b one (lb ∙ sym l1) i,
-        getD-less e one (le ∙ sym l1) i,
-        under i p,
-      )))
-      (exchange-steps fuel (less b one) (less e one) (omega (arith, fewer, h)) lb1 le1
-      (exchange-step b c k (j c c-in e-pos .0) lb (omega (arith, below, e-pos)))
+      Memᴰ·cast (sym (less-less n b e one lb le l1 (contains-single n e c le (f .2))))
+      (exchange-steps fuel (less b one) (less e one)
+      (omega (arith, less-single-sum n e c le c-in (f .2), h))
+      (length-less n b one lb l1) (length-less n e one le l1)
+      (exchange-step b c k (here .0) lb (omega (arith, here .1, f .2)))
       (λ i p q.
       let ge = getD-less e one (le ∙ sym l1) i in
       let gb = getD-less b one (lb ∙ sym l1) i in
-      let more : 0 < getD e i 0 = omega (arith, q, ge) in
-      let r = j i p more in
+      let r = j i p (omega (arith, q, ge)) in
       (r .0, omega (arith, q, ge, gb, r .1)))))
-    where
-      taken : (e : Bag) (c : ℕ) → c < n → 0 < getD e c 0 → (i : ℕ) → i < n → getD (single n c) i 0 ≤ getD e i 0
-      taken e c c-in pos i h =
-          ⊎-elim (λ p. let q : 0 < getD e i 0 = subst (λ (x : ℕ). 0 < getD e x 0) (p .0) pos in let o = p .1 in omega arith)
-          (λ z. omega arith) (single-case c i h)
 
 -- how the absorbed adds s of one property are charged: first to the rest rule, c of them, and e to the exchange rule. Here b is
 -- the count before, d are the deletes, a the adds and x what those have in common
@@ -152,9 +105,11 @@ part x y r h e = omega arith
 excess : (a s x ra c e : ℕ) → s ≤ a → x + ra ≡ a → c ≡ min s ra → c + e ≡ s → e ≤ x
 excess a s x ra c e h p q r = omega arith
 
+-- deletes and absorbed adds together are in the bag before
 fits-left : (b d a s : ℕ) → d ≤ b → s ≤ min a (b - d) → d + s ≤ b
 fits-left b d a s h k = omega arith
 
+-- every count is charged so
 charge : (b d a s x rd ra c e : ℕ) → d ≤ b → s ≤ min a (b - d) → x ≡ min d a → rd ≡ d - x → ra ≡ a - x → c ≡ min s ra → e ≡ s - c
     → Charged b d a s x rd ra c e
 charge b d a s x rd ra c e h k common less-d less-a by-c by-e =
@@ -225,22 +180,18 @@ chain moves bags closed n b d a s lb ld la ls k fits absorbed exchanges remains 
     le : length e ≡ n
     le = length-less n s c ls lc
 
-    lbd : length (less b d) ≡ n
-    lbd = length-less n b d lb ld
-
     lbe : length (less b e) ≡ n
     lbe = length-less n b e lb le
 
     lr : length (less (plus (less b d) a) s) ≡ n
-    lr = length-less n (plus (less b d) a) s (length-plus n (less b d) a lbd la) ls
+    lr = length-change n b d a s lb ld la ls
 
-    at : (i : ℕ) → Charged (getD b i 0) (getD d i 0) (getD a i 0) (getD s i 0) (getD x i 0) (getD rd i 0) (getD ra i 0) (getD c i 0) (getD e i 0)
+    at : (i : ℕ)
+        → Charged (getD b i 0) (getD d i 0) (getD a i 0) (getD s i 0) (getD x i 0) (getD rd i 0) (getD ra i 0) (getD c i 0) (getD e i 0)
     at i =
         charge (getD b i 0) (getD d i 0) (getD a i 0) (getD s i 0) (getD x i 0) (getD rd i 0) (getD ra i 0) (getD c i 0) (getD e i 0)
         (contains-at b d fits i)
-        (subst (λ (y : ℕ). getD s i 0 ≤ y)
-        (getD-meet a (less b d) (la ∙ sym lbd) i ∙ ap (min (getD a i 0)) (getD-less b d (lb ∙ sym ld) i))
-        (contains-at (meet a (less b d)) s absorbed i))
+        (subst (λ (y : ℕ). getD s i 0 ≤ y) (getD-absorbed n b d a lb ld la i) (contains-at (meet a (less b d)) s absorbed i))
         (getD-meet d a (ld ∙ sym la) i)
         (getD-less d x (ld ∙ sym lx) i)
         (getD-less a x (la ∙ sym lx) i)
@@ -251,10 +202,7 @@ chain moves bags closed n b d a s lb ld la ls k fits absorbed exchanges remains 
     less-e i = getD-less b e (lb ∙ sym le) i
 
     result : (i : ℕ) → getD (less (plus (less b d) a) s) i 0 ≡ getD b i 0 - getD d i 0 + getD a i 0 - getD s i 0
-    result i =
-        getD-less (plus (less b d) a) s (length-plus n (less b d) a lbd la ∙ sym ls) i
-        ∙ ap (λ (y : ℕ). y - getD s i 0) (getD-plus (less b d) a (lbd ∙ sym la) i)
-        ∙ ap (λ (y : ℕ). y + getD a i 0 - getD s i 0) (getD-less b d (lb ∙ sym ld) i)
+    result = getD-change n b d a s lb ld la ls
 
     exchanged : List·Memᴰ (less b e) bags
     exchanged =

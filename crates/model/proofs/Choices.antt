@@ -5,7 +5,8 @@ use native.Mathlib.Omega.{arith}
 use mathlib.Core.Path.{_≡_, refl, sym, ap, subst}
 use mathlib.Core.Bool.{true, _&&_}
 use mathlib.Core.Logic.{_↔_}
-use mathlib.Core.List.{List, [], _∷_, map, flatMap, List·Memᴰ, List·Memᴰ·head, List·Memᴰ·not-nil, List·Memᴰ·eq-of-singleton, Memᴰ·cast, Memᴰ·map, Memᴰ·of-map}
+use mathlib.Core.List.{List, [], _∷_, map, flatMap, List·Memᴰ, List·Memᴰ·head, List·Memᴰ·not-nil, List·Memᴰ·eq-of-singleton, Memᴰ·cast, Memᴰ·map}
+use mathlib.Core.List.{Memᴰ·of-map}
 use lib.Dec.{leb, ltb, eqb}
 use lib.ListN.{length}
 use borrow.Author.Tests.{leb-true, le-leb, lt-ltb, eq-eqb}
@@ -55,6 +56,7 @@ before-first : (m n : ℕ) (a b : Bag) → m < n → before (m ∷ a) (n ∷ b) 
 unfolding before
 before-first m n a b h = or-left (ltb m n) (eqb m n && before a b) (lt-ltb m n h)
 
+-- bags in order stay so behind one first count, and behind first counts in sequence
 ascending-map : (n : ℕ) (bags : List Bag) → Ascending bags → Ascending (map (λ b. n ∷ b) bags)
 ascending-map n [] p = tt
 ascending-map n (a ∷ bags) p = (
