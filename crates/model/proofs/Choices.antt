@@ -1,11 +1,12 @@
 -- The choices of absorbed adds, document 01, "Conditions": all of them, each once, ascending with the highest property changing
 -- fastest; and the results of a rule on a condition.
-use Prim.Native.Nat.{ℕ, zero, suc, _+_, _≤_, _<_}
+use Prim.Native.Nat.{ℕ, zero, suc, _<_}
 use native.Mathlib.Omega.{arith}
-use mathlib.Core.Path.{_≡_, refl, sym, ap, _∙_, subst}
-use mathlib.Core.Bool.{Bool, true, false, _&&_, _||_}
+use mathlib.Core.Path.{_≡_, refl, sym, ap, subst}
+use mathlib.Core.Bool.{true, _&&_}
 use mathlib.Core.Logic.{_↔_}
-use mathlib.Core.List.{List, [], _∷_, map, flatMap, List·Memᴰ, List·Memᴰ·head, List·Memᴰ·not-nil, List·Memᴰ·eq-of-singleton, Memᴰ·cast, Memᴰ·map, Memᴰ·of-map}
+use mathlib.Core.List.{List, [], _∷_, map, flatMap, List·Memᴰ, List·Memᴰ·head, List·Memᴰ·not-nil, List·Memᴰ·eq-of-singleton, Memᴰ·cast, Memᴰ·map}
+use mathlib.Core.List.{Memᴰ·of-map}
 use lib.Dec.{leb, ltb, eqb}
 use lib.ListN.{length}
 use borrow.Author.Tests.{leb-true, le-leb, lt-ltb, eq-eqb}
@@ -55,13 +56,15 @@ before-first : (m n : ℕ) (a b : Bag) → m < n → before (m ∷ a) (n ∷ b) 
 unfolding before
 before-first m n a b h = or-left (ltb m n) (eqb m n && before a b) (lt-ltb m n h)
 
+-- bags in order stay so behind one first count, and behind first counts in sequence
 ascending-map : (n : ℕ) (bags : List Bag) → Ascending bags → Ascending (map (λ b. n ∷ b) bags)
 ascending-map n [] p = tt
-ascending-map n (a ∷ bags) p =
-    (λ y k.
-    let r = Memᴰ·of-map (λ b. n ∷ b) bags k in
-    subst (λ (x : Bag). before (n ∷ a) x ≡ true) (r .2) (before-rest n a (r .0) (p .0 (r .0) (r .1))),
-    ascending-map n bags (p .1))
+ascending-map n (a ∷ bags) p = (
+  λ y k.
+      let r = Memᴰ·of-map (λ b. n ∷ b) bags k in
+      subst (λ (x : Bag). before (n ∷ a) x ≡ true) (r .2) (before-rest n a (r .0) (p .0 (r .0) (r .1))),
+  ascending-map n bags (p .1),
+)
 
 ascending-from : (start size : ℕ) (bags : List Bag) → Ascending bags → Ascending (flatMap (λ n. map (λ b. n ∷ b) bags) (from start size))
 unfolding flatMap from
