@@ -6,7 +6,7 @@ use mathlib.Core.List.{List, [], _∷_, _++_, map}
 use lib.Dec.{eqb}
 use lib.ListN.{length, getD, replicate}
 use Rattle.laws.specs.Lists.{keep, upTo, sum, member}
-use Rattle.model.specs.Card as model
+use Rattle.model.specs.Card.{Task}
 use Rattle.model.specs.Transitions.{Transition, properties, transitions}
 use Rattle.model.specs.Spaces as model
 use Rattle.card.specs.Represents.{padded}
@@ -17,14 +17,14 @@ unfoldable pub maskOf : List ℕ → ℕ
 maskOf objects = sum (map (λ o. 2 ^ o) objects)
 
 -- the groups of a task's properties, and the lowest property of each group
-unfoldable pub groupsOf : model.Task → List ℕ
+unfoldable pub groupsOf : Task → List ℕ
 groupsOf t = model.grouping (length (properties t)) (transitions t)
 
 unfoldable pub lowestOf : List ℕ → List ℕ
 lowestOf groups = keep (λ c. eqb (getD groups c 0) c) (upTo (length groups))
 
 -- the code's spaces of a task
-pub record SpacesOf (t : model.Task) (r : Spaces) : Type 0 where
+pub record SpacesOf (t : Task) (r : Spaces) : Type 0 where
   pub count : r .count ≡ length (model.spaces t)
   pub groups : r .groups ≡ padded 60 0 (groupsOf t)
   pub lowest : r .lowest ≡ padded 60 0 (lowestOf (groupsOf t))
