@@ -3,6 +3,7 @@ pub mod Valid
 pub mod Order
 pub mod Window
 pub mod Buffer
+pub mod Answers
 pub mod RoundTrip
 pub mod Grouping
 pub mod Closing
