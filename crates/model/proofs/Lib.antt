@@ -4,6 +4,7 @@ pub mod Order
 pub mod Window
 pub mod Buffer
 pub mod Answers
+pub mod Codec
 pub mod RoundTrip
 pub mod Grouping
 pub mod Closing
