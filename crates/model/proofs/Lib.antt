@@ -5,6 +5,7 @@ pub mod Window
 pub mod Buffer
 pub mod Answers
 pub mod Codec
+pub mod ReadWrite
 pub mod RoundTrip
 pub mod Grouping
 pub mod Closing
