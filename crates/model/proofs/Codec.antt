@@ -40,10 +40,17 @@ module _ {A : Type 0} {read : Reader A} {fits : A → Type 0} {bytes : A → Lis
 
   -- the same items under another description
   pub refit : {fits′ : A → Type 0} {bytes′ : A → List ℕ} → ((x : A) → fits x → fits′ x) → ((x : A) → fits′ x → fits x)
-      → ((x : A) → bytes x ≡ bytes′ x) → Codec read fits′ bytes′
+      → ((x : A) → fits x → bytes x ≡ bytes′ x) → Codec read fits′ bytes′
   refit to from same = record {
-      reads = λ s p e. let r = codec .reads s p e in (to (p .0) (r .0), r .1 ∙ ap (λ (l : List ℕ). l ++ p .1) (same (p .0)));
-      back = λ x rest h. rw (← same) (codec .back x rest (from x h)) }
+      reads = λ s p e.
+        let r = codec .reads s p e in (to (p .0) (r .0), r .1 ∙ ap (λ (l : List ℕ). l ++ p .1) (same (p .0) (r .0)));
+      back = λ x rest h. rw (← (same x (from x h))) (codec .back x rest (from x h)) }
+
+-- a value that takes no byte
+pub absent-codec : {A : Type 0} (value : A) → Codec (λ s. accepted (value, s)) (λ x. x ≡ value) (λ x. [])
+absent-codec value = record {
+    reads = λ s p e. answered (λ x. x ≡ value) (λ x. []) s e (refl, refl);
+    back = λ x rest e. ap (λ (y : _). accepted (y, rest)) (sym e) }
 
 -- a byte that passes a test
 pub byteThat-codec : (test : ℕ → Bool) (number : ℕ) → Codec (byteThat test number) (λ b. test b ≡ true) (λ b. b ∷ [])
@@ -102,8 +109,8 @@ bytes-codec test number n =
     refit (many-codec {check = λ previous b. need (test b) number} item none n)
     (λ bs h. (h .0, need-inv (all test bs) number (sym (each-need test number none bs) ∙ h .1)))
     (λ bs h. (h .0, each-need test number none bs ∙ need-accepted number (h .1)))
-    flatMap-single
+    (λ bs h. flatMap-single bs)
   where
     item : (previous : Option ℕ) → Codec (byteThat test number) (λ b. need (test b) number ≡ accepted tt) (λ b. b ∷ [])
     item previous =
-        refit (byteThat-codec test number) (λ b h. need-accepted number h) (λ b h. need-inv (test b) number h) (λ b. refl)
+        refit (byteThat-codec test number) (λ b h. need-accepted number h) (λ b h. need-inv (test b) number h) (λ b h. refl)

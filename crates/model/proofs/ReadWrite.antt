@@ -7,14 +7,14 @@ use mathlib.Core.List.{List, [], _∷_, _++_, flatMap, append-assoc}
 use mathlib.Core.Option.{Option, none, some}
 use lib.Dec.{leb, ltb, eqb}
 use lib.ListN.{length, getD}
-use borrow.Author.Tests.{eqb-true, eq-eqb}
+use borrow.Author.Tests.{leb-true, le-leb, eqb-true, eqb-false, eq-eqb, ne-eqb}
 use Rattle.laws.specs.Lists.{all}
-use Rattle.laws.proofs.Tests.{never, and-left, and-right, and-intro}
+use Rattle.laws.proofs.Tests.{never, and-left, and-right, and-intro, not-true, not-false, cond-false}
 use Rattle.model.specs.Answer.{Answer, refused, accepted, _>>=_, _>>_, need}
 use Rattle.model.specs.Card.{Atom, Schema, Reader, above, between, has, byte, byteThat, many, atom, schemaAtom, list, roleCount, bit, schema, fact, factCount}
 use Rattle.model.specs.Writer.{each, known, checkSchemaAtom, checkList, checkSchema, checkFact, atomBytes, listBytes, roleBytes, bitFor, schemaBytes}
 use Rattle.model.proofs.Answers.{then-accepted, both-inv, both-accepted, need-inv, need-accepted, need-both-inv, need-both}
-use Rattle.model.proofs.Codec.{Codec, Parsed, Run, answered, reads-then, back-then, refit, byteThat-codec, many-codec, bytes-codec}
+use Rattle.model.proofs.Codec.{Codec, Parsed, Run, answered, absent-codec, reads-then, back-then, refit, byteThat-codec, many-codec, bytes-codec}
 
 -- what the task has to know of an atom
 abbrev pub Known : List ℕ → ℕ → Atom → Type 0
@@ -91,3 +91,94 @@ fact-codec arities objects previous = record {
     back = λ f rest e.
       need-both-inv (known arities objects f) 12 _ e λ h e₁.
       back-then (atom-codec arities objects 12) f rest _ h ∙ need-both 13 _ (need-inv (above previous f) 13 e₁) }
+
+-- low ≤ n ≤ high, as a test and as a fact
+pub between-parts : (low high n : ℕ) → between low high n ≡ true → (low ≤ n) × (n ≤ high)
+unfolding between
+between-parts low high n e =
+    (leb-true low n (and-left (leb low n) (leb n high) e), leb-true n high (and-right (leb low n) (leb n high) e))
+
+pub between-intro : (low high n : ℕ) → low ≤ n → n ≤ high → between low high n ≡ true
+unfolding between
+between-intro low high n p q = and-intro (leb low n) (leb n high) (le-leb low n p) (le-leb n high q)
+
+-- a field of a schema stands if it has bytes
+abbrev pub stands : List ℕ → Bool
+stands [] = false
+stands (b ∷ field) = true
+
+-- the role count: one parameter is absent
+pub one-parameter : roleBytes 1 ≡ []
+unfolding roleBytes
+one-parameter = refl
+
+pub more-parameters : (n : ℕ) → 2 ≤ n → roleBytes n ≡ n ∷ []
+unfolding roleBytes
+more-parameters n h = cond-false (eqb n 1) [] (n ∷ []) (ne-eqb n 1 (omega arith))
+
+parameters-stand : (n : ℕ) → stands (roleBytes n) ≡ not (eqb n 1)
+unfolding roleBytes
+parameters-stand n = go (eqb n 1)
+  where
+    go : (one : Bool) → stands (cond one [] (n ∷ [])) ≡ not one
+    go true = refl
+    go false = refl
+
+pub roleCount-codec : (flag : Bool)
+    → Codec (roleCount flag) (λ n. (stands (roleBytes n) ≡ flag) × (between 1 6 n ≡ true)) roleBytes
+unfolding roleCount
+roleCount-codec false =
+    refit (absent-codec 1) (λ n e. rw e (ap stands one-parameter, between-intro 1 6 1 (omega arith) (omega arith)))
+    (λ n h. eqb-true n 1 (not-false (eqb n 1) (sym (parameters-stand n) ∙ h .0)))
+    (λ n e. rw e (sym one-parameter))
+roleCount-codec true =
+    refit (byteThat-codec (between 2 6) 5)
+    (λ n e. let h = between-parts 2 6 n e in (ap stands (more-parameters n (h .0)), between-intro 1 6 n (omega arith) (h .1)))
+    (λ n h. let other = eqb-false n 1 (not-true (eqb n 1) (sym (parameters-stand n) ∙ h .0)) in
+      let k = between-parts 1 6 n (h .1) in between-intro 2 6 n (above-one n other (k .0)) (k .1))
+    (λ n e. sym (more-parameters n (between-parts 2 6 n e .0)))
+  where
+    above-one : (n : ℕ) → (n ≡ 1 → ⊥) → 1 ≤ n → 2 ≤ n
+    above-one n d h = omega arith
+
+-- a list of atoms: an empty one is absent
+no-atoms : (atoms : List Atom) → stands (listBytes atoms) ≡ false → atoms ≡ []
+unfolding listBytes
+no-atoms [] e = refl
+no-atoms (a ∷ atoms) e = never e
+
+some-atoms : (atoms : List Atom) → stands (listBytes atoms) ≡ true → 1 ≤ length atoms
+unfolding listBytes
+some-atoms [] e = never (sym e)
+some-atoms (a ∷ atoms) e = omega arith
+
+pub atoms-stand : (atoms : List Atom) → 1 ≤ length atoms → listBytes atoms ≡ length atoms ∷ flatMap atomBytes atoms
+unfolding listBytes
+atoms-stand [] h = absurd (omega arith)
+atoms-stand (a ∷ atoms) h = refl
+
+-- a list of at most 8 atoms that each pass a check, and stands as the flag says
+abbrev pub Listed : (Option Atom → Atom → Answer (Unit {0})) → Bool → List Atom → Type 0
+Listed check flag atoms = (stands (listBytes atoms) ≡ flag) × (checkList check atoms ≡ accepted tt)
+
+pub list-codec : {read : Option Atom → Reader Atom} {check : Option Atom → Atom → Answer (Unit {0})}
+    → ((previous : Option Atom) → Codec (read previous) (λ a. check previous a ≡ accepted tt) atomBytes) → (flag : Bool)
+    → Codec (list flag read) (Listed check flag) listBytes
+unfolding list checkList listBytes need _>>_ each
+list-codec item false =
+    refit (absent-codec []) (λ atoms e. rw e (refl, refl)) (λ atoms h. no-atoms atoms (h .0)) (λ atoms e. ap listBytes (sym e))
+list-codec {check} item true = record {
+    reads = λ s p e.
+      reads-then (byteThat-codec (between 1 8) 6) s _ e λ n s₁ h p₁ e₁.
+      let r = many-codec item none n .reads s₁ p e₁ in
+      let k = between-parts 1 8 n h in
+      let bytes = atoms-stand (p .0) (omega (arith, k .0, r .0 .0)) in
+      ((ap stands bytes, need-both 6 _ (le-leb (length (p .0)) 8 (omega (arith, k .1, r .0 .0))) ∙ r .0 .1),
+        p₁ ∙ ap (λ (l : List ℕ). n ∷ l) (r .1) ∙ cc);
+    back = λ atoms rest h.
+      need-both-inv (leb (length atoms) 8) 6 _ (h .1) λ h₁ h₂.
+      let k = some-atoms atoms (h .0) in
+      rw (atoms-stand atoms k)
+      (back-then (byteThat-codec (between 1 8) 6) (length atoms) (flatMap atomBytes atoms ++ rest) _
+        (between-intro 1 8 (length atoms) k (leb-true (length atoms) 8 h₁))
+      ∙ many-codec item none (length atoms) .back atoms rest (refl, h₂)) }
