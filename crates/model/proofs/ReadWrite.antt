@@ -7,8 +7,9 @@ use mathlib.Core.List.{List, [], _∷_, _++_, flatMap, append-assoc}
 use mathlib.Core.Option.{Option, none, some}
 use lib.Dec.{leb, ltb, eqb}
 use lib.ListN.{length, getD}
-use borrow.Author.Tests.{leb-true, le-leb, eqb-true, eqb-false, eq-eqb, ne-eqb}
-use Rattle.laws.specs.Lists.{all}
+use borrow.Author.Tests.{ltb-true, leb-true, le-leb, eqb-true, eqb-false, eq-eqb, ne-eqb}
+use Rattle.laws.specs.Lists.{all, from, upTo}
+use Rattle.laws.proofs.Lists.{all-at, upTo-intro}
 use Rattle.laws.proofs.Tests.{never, and-left, and-right, and-intro, not-true, not-false, cond-false}
 use Rattle.model.specs.Answer.{Answer, refused, accepted, _>>=_, _>>_, need}
 use Rattle.model.specs.Card.{Atom, Schema, Reader, above, between, has, byte, byteThat, many, atom, schemaAtom, list, roleCount, bit, schema, fact, factCount}
@@ -182,3 +183,90 @@ list-codec {check} item true = record {
       (back-then (byteThat-codec (between 1 8) 6) (length atoms) (flatMap atomBytes atoms ++ rest) _
         (between-intro 1 8 (length atoms) k (leb-true (length atoms) 8 h₁))
       ∙ many-codec item none (length atoms) .back atoms rest (refl, h₂)) }
+
+-- the map of four fields
+abbrev pub fieldMap : Bool → Bool → Bool → Bool → ℕ
+fieldMap a b c d = cond a 1 0 + cond b 2 0 + cond c 4 0 + cond d 8 0
+
+-- a map below 16 is made of its four bits
+map-of-bits : (b : ℕ) → ltb b 16 ≡ true → fieldMap (bit 0 b) (bit 1 b) (bit 2 b) (bit 3 b) ≡ b
+unfolding bit all upTo from
+map-of-bits b e =
+    eqb-true (fieldMap (bit 0 b) (bit 1 b) (bit 2 b) (bit 3 b)) b
+    (all-at (λ n. eqb (fieldMap (bit 0 n) (bit 1 n) (bit 2 n) (bit 3 n)) n) (upTo 16) refl b (upTo-intro 16 b (ltb-true b 16 e)))
+
+-- the bits of a map are the flags that it was made of
+bits-of-map : (a b c d : Bool) → let m = fieldMap a b c d in
+    (ltb m 16 ≡ true) × (bit 0 m ≡ a) × (bit 1 m ≡ b) × (bit 2 m ≡ c) × (bit 3 m ≡ d)
+unfolding bit
+bits-of-map true true true true = (refl, refl, refl, refl, refl)
+bits-of-map true true true false = (refl, refl, refl, refl, refl)
+bits-of-map true true false true = (refl, refl, refl, refl, refl)
+bits-of-map true true false false = (refl, refl, refl, refl, refl)
+bits-of-map true false true true = (refl, refl, refl, refl, refl)
+bits-of-map true false true false = (refl, refl, refl, refl, refl)
+bits-of-map true false false true = (refl, refl, refl, refl, refl)
+bits-of-map true false false false = (refl, refl, refl, refl, refl)
+bits-of-map false true true true = (refl, refl, refl, refl, refl)
+bits-of-map false true true false = (refl, refl, refl, refl, refl)
+bits-of-map false true false true = (refl, refl, refl, refl, refl)
+bits-of-map false true false false = (refl, refl, refl, refl, refl)
+bits-of-map false false true true = (refl, refl, refl, refl, refl)
+bits-of-map false false true false = (refl, refl, refl, refl, refl)
+bits-of-map false false false true = (refl, refl, refl, refl, refl)
+bits-of-map false false false false = (refl, refl, refl, refl, refl)
+
+bitFor-stands : (value : ℕ) (field : List ℕ) → bitFor value field ≡ cond (stands field) value 0
+unfolding bitFor
+bitFor-stands value [] = refl
+bitFor-stands value (b ∷ field) = refl
+
+-- the map of a schema's own fields
+schemaMap : Schema → ℕ
+schemaMap s =
+    fieldMap (stands (roleBytes (s .parameters))) (stands (listBytes (s .preconditions))) (stands (listBytes (s .deletes))) (stands (listBytes (s .adds)))
+
+-- the bytes of a schema, field by field
+schema-fields : (s : Schema) (rest : List ℕ) → schemaBytes s ++ rest
+    ≡ schemaMap s ∷ (roleBytes (s .parameters) ++ (listBytes (s .preconditions) ++ (listBytes (s .deletes) ++ (listBytes (s .adds) ++ rest))))
+unfolding schemaBytes schemaMap
+schema-fields s rest = simp (bitFor-stands, append-assoc)
+
+pub schema-codec : (arities : List ℕ) → Codec (schema arities) (λ s. checkSchema arities s ≡ accepted tt) schemaBytes
+unfolding schema checkSchema schemaMap
+schema-codec arities = record {
+    reads = λ s p e.
+      reads-then mapByte s _ e λ bits s₁ h₁ p₁ e₁.
+      reads-then (roleCount-codec (bit 0 bits)) s₁ _ e₁ λ n s₂ h₂ p₂ e₂.
+      reads-then (preconditions n (bit 1 bits)) s₂ _ e₂ λ pre s₃ h₃ p₃ e₃.
+      reads-then (deletes n pre (bit 2 bits)) s₃ _ e₃ λ del s₄ h₄ p₄ e₄.
+      reads-then (adds n pre (bit 3 bits)) s₄ _ e₄ λ add s₅ h₅ p₅ e₅.
+      answered (λ s. checkSchema arities s ≡ accepted tt) schemaBytes s e₅
+      (need-both 5 _ (h₂ .1) ∙ both-accepted _ (h₃ .1) ∙ both-accepted _ (h₄ .1) ∙ h₅ .1,
+        cc (schema-fields (record { parameters = n; preconditions = pre; deletes = del; adds = add }) s₅, map-of-bits bits h₁));
+    back = λ s rest e.
+      need-both-inv (between 1 6 (s .parameters)) 5 _ e λ k₁ e₁.
+      both-inv (checkList _ (s .preconditions)) _ e₁ λ k₂ e₂.
+      both-inv (checkList _ (s .deletes)) _ e₂ λ k₃ k₄.
+      let m = schemaMap s in
+      let n = s .parameters in
+      let pre = s .preconditions in
+      let h = bits-of-map (stands (roleBytes n)) (stands (listBytes pre)) (stands (listBytes (s .deletes))) (stands (listBytes (s .adds))) in
+      rw (schema-fields s rest)
+      (back-then mapByte m _ _ (h .0)
+      ∙ back-then (roleCount-codec (bit 0 m)) n _ _ (sym (h .1), k₁)
+      ∙ back-then (preconditions n (bit 1 m)) pre _ _ (sym (h .2), k₂)
+      ∙ back-then (deletes n pre (bit 2 m)) (s .deletes) _ _ (sym (h .3), k₃)
+      ∙ back-then (adds n pre (bit 3 m)) (s .adds) rest _ (sym (h .4), k₄)) }
+  where
+    mapByte : Codec (byteThat (λ b. ltb b 16) 5) (λ b. ltb b 16 ≡ true) (λ b. b ∷ [])
+    mapByte = byteThat-codec (λ b. ltb b 16) 5
+
+    preconditions : (n : ℕ) (flag : Bool) → Codec (list flag (schemaAtom arities n (λ a. true) 8)) (Listed (checkSchemaAtom arities n (λ a. true) 8) flag) listBytes
+    preconditions n flag = list-codec (schemaAtom-codec arities n (λ a. true) 8) flag
+
+    deletes : (n : ℕ) (pre : List Atom) (flag : Bool) → Codec (list flag (schemaAtom arities n (has pre) 9)) (Listed (checkSchemaAtom arities n (has pre) 9) flag) listBytes
+    deletes n pre flag = list-codec (schemaAtom-codec arities n (has pre) 9) flag
+
+    adds : (n : ℕ) (pre : List Atom) (flag : Bool) → Codec (list flag (schemaAtom arities n (λ a. not (has pre a)) 10)) (Listed (checkSchemaAtom arities n (λ a. not (has pre a)) 10) flag) listBytes
+    adds n pre flag = list-codec (schemaAtom-codec arities n (λ a. not (has pre a)) 10) flag
