@@ -1,5 +1,6 @@
 -- Each piece of the card: its reader and its writer are inverse to one another on what the writer accepts.
 use Prim.Native.Nat.{ℕ, zero, suc, _+_, _*_, _/_, _%_, _≤_, _<_}
+use native.Mathlib.Nat.{div-add-mod'}
 use native.Mathlib.Omega.{arith}
 use mathlib.Core.Path.{_≡_, refl, sym, ap, _∙_, subst}
 use mathlib.Core.Bool.{Bool, true, false, cond, not, _&&_}
@@ -14,7 +15,7 @@ use Rattle.laws.proofs.Tests.{never, and-left, and-right, and-intro, not-true, 
 use Rattle.model.specs.Answer.{Answer, refused, accepted, _>>=_, _>>_, need}
 use Rattle.model.specs.Card.{Atom, Schema, Reader, above, between, has, byte, byteThat, many, atom, schemaAtom, list, roleCount, bit, schema, fact, factCount}
 use Rattle.model.specs.Writer.{each, known, checkSchemaAtom, checkList, checkSchema, checkFact, atomBytes, listBytes, roleBytes, bitFor, schemaBytes}
-use Rattle.model.proofs.Answers.{then-accepted, both-inv, both-accepted, need-inv, need-accepted, need-both-inv, need-both}
+use Rattle.model.proofs.Answers.{accepted-not-refused, one-value, then-accepted, both-inv, both-accepted, need-inv, need-accepted, need-both-inv, need-both}
 use Rattle.model.proofs.Codec.{Codec, Parsed, Run, answered, absent-codec, reads-then, back-then, refit, byteThat-codec, many-codec, bytes-codec}
 
 -- what the task has to know of an atom
@@ -270,3 +271,32 @@ schema-codec arities = record {
 
     adds : (n : ℕ) (pre : List Atom) (flag : Bool) → Codec (list flag (schemaAtom arities n (λ a. not (has pre a)) 10)) (Listed (checkSchemaAtom arities n (λ a. not (has pre a)) 10) flag) listBytes
     adds n pre flag = list-codec (schemaAtom-codec arities n (λ a. not (has pre a)) 10) flag
+
+-- the fact count: what was read are two bytes of at most 512 together
+pub record Counted (s : List ℕ) (p : ℕ × List ℕ) : Type 0 where
+  pub high : ℕ
+  pub low : ℕ
+  pub few : p .0 ≤ 512
+  pub value : p .0 ≡ high * 256 + low
+  pub in-front : s ≡ high ∷ low ∷ p .1
+
+pub factCount-reads : (s : List ℕ) (p : ℕ × List ℕ) → factCount s ≡ accepted p → Counted s p
+unfolding factCount byte _>>=_
+factCount-reads [] p e = accepted-not-refused (sym e)
+factCount-reads (high ∷ []) p e = accepted-not-refused (sym e)
+factCount-reads (high ∷ low ∷ s) p e =
+    need-both-inv (leb (high * 256 + low) 512) 11 _ e λ h k.
+    subst (Counted (high ∷ low ∷ s)) (one-value k)
+    (record { high = high; low = low; few = leb-true (high * 256 + low) 512 h; value = refl; in-front = refl })
+
+-- and the two bytes of a count are read back
+pub factCount-back : (n : ℕ) (rest : List ℕ) → n ≤ 512 → factCount (n / 256 ∷ n % 256 ∷ rest) ≡ accepted (n, rest)
+unfolding factCount byte _>>=_
+factCount-back n rest h = rw (div-add-mod' n 256) (need-both 11 _ (le-leb n 512 h))
+
+-- the two bytes of a count are those that it was read from
+pub high-byte : (high low : ℕ) → low < 256 → (high * 256 + low) / 256 ≡ high
+high-byte high low h = omega arith
+
+pub low-byte : (high low : ℕ) → low < 256 → (high * 256 + low) % 256 ≡ low
+low-byte high low h = omega arith
