@@ -4,6 +4,7 @@ pub mod Order
 pub mod Window
 pub mod Buffer
 pub mod Answers
+pub mod Checked
 pub mod Codec
 pub mod ReadWrite
 pub mod RoundTrip

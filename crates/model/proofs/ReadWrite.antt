@@ -16,27 +16,8 @@ use Rattle.model.specs.Answer.{Answer, refused, accepted, _>>=_, _>>_, n
 use Rattle.model.specs.Card.{Atom, Schema, Reader, above, between, has, byte, byteThat, many, atom, schemaAtom, list, roleCount, bit, schema, fact, factCount}
 use Rattle.model.specs.Writer.{each, known, checkSchemaAtom, checkList, checkSchema, checkFact, atomBytes, listBytes, roleBytes, bitFor, schemaBytes}
 use Rattle.model.proofs.Answers.{accepted-not-refused, one-value, then-accepted, both-inv, both-accepted, need-inv, need-accepted, need-both-inv, need-both}
+use Rattle.model.proofs.Checked.{known-parts, known-intro, between-parts, between-intro, checkedSchema, checkSchema-intro}
 use Rattle.model.proofs.Codec.{Codec, Parsed, Run, answered, absent-codec, reads-then, back-then, refit, byteThat-codec, many-codec, bytes-codec}
-
--- what the task has to know of an atom
-abbrev pub Known : List ℕ → ℕ → Atom → Type 0
-Known arities bound a =
-    (ltb (a .predicate) (length arities) ≡ true) × (length (a .arguments) ≡ getD arities (a .predicate) 0)
-    × (all (λ x. ltb x bound) (a .arguments) ≡ true)
-
-pub known-parts : (arities : List ℕ) (bound : ℕ) (a : Atom) → known arities bound a ≡ true → Known arities bound a
-unfolding known
-known-parts arities bound a e =
-    let predicate = ltb (a .predicate) (length arities) in
-    let arity = eqb (length (a .arguments)) (getD arities (a .predicate) 0) in
-    let arguments = all (λ x. ltb x bound) (a .arguments) in
-    let front = and-left (predicate && arity) arguments e in
-    (and-left predicate arity front, eqb-true (length (a .arguments)) (getD arities (a .predicate) 0) (and-right predicate arity front), and-right (predicate && arity) arguments e)
-
-pub known-intro : (arities : List ℕ) (bound : ℕ) (a : Atom) → Known arities bound a → known arities bound a ≡ true
-unfolding known
-known-intro arities bound a h =
-    and-intro _ _ (and-intro _ _ (h .0) (eq-eqb (length (a .arguments)) (getD arities (a .predicate) 0) (h .1))) (h .2)
 
 -- an atom
 pub atom-codec : (arities : List ℕ) (bound number : ℕ)
@@ -47,11 +28,12 @@ atom-codec arities bound number = record {
       reads-then predicates s _ e λ p s₁ h p₁ e₁.
       reads-then (arguments p) s₁ _ e₁ λ xs s₂ k p₂ e₂.
       answered (λ a. known arities bound a ≡ true) atomBytes s e₂
-      (known-intro arities bound (record { predicate = p; arguments = xs }) (h, k .0, k .1), p₁ ∙ ap (λ (l : List ℕ). p ∷ l) p₂);
+      (known-intro arities bound (record { predicate = p; arguments = xs }) (record { predicate = h; arity = k .0; arguments = k .1 }),
+        p₁ ∙ ap (λ (l : List ℕ). p ∷ l) p₂);
     back = λ a rest e.
       let h = known-parts arities bound a e in
-      back-then predicates (a .predicate) (a .arguments ++ rest) _ (h .0)
-      ∙ back-then (arguments (a .predicate)) (a .arguments) rest _ (h .1, h .2) }
+      back-then predicates (a .predicate) (a .arguments ++ rest) _ (h .predicate)
+      ∙ back-then (arguments (a .predicate)) (a .arguments) rest _ (h .arity, h .arguments) }
   where
     predicates : Codec (byteThat (λ p. ltb p (length arities)) number) (λ p. ltb p (length arities) ≡ true) (λ p. p ∷ [])
     predicates = byteThat-codec (λ p. ltb p (length arities)) number
@@ -93,16 +75,6 @@ fact-codec arities objects previous = record {
     back = λ f rest e.
       need-both-inv (known arities objects f) 12 _ e λ h e₁.
       back-then (atom-codec arities objects 12) f rest _ h ∙ need-both 13 _ (need-inv (above previous f) 13 e₁) }
-
--- low ≤ n ≤ high, as a test and as a fact
-pub between-parts : (low high n : ℕ) → between low high n ≡ true → (low ≤ n) × (n ≤ high)
-unfolding between
-between-parts low high n e =
-    (leb-true low n (and-left (leb low n) (leb n high) e), leb-true n high (and-right (leb low n) (leb n high) e))
-
-pub between-intro : (low high n : ℕ) → low ≤ n → n ≤ high → between low high n ≡ true
-unfolding between
-between-intro low high n p q = and-intro (leb low n) (leb n high) (le-leb low n p) (le-leb n high q)
 
 -- a field of a schema stands if it has bytes
 abbrev pub stands : List ℕ → Bool
@@ -234,7 +206,7 @@ unfolding schemaBytes schemaMap
 schema-fields s rest = simp (bitFor-stands, append-assoc)
 
 pub schema-codec : (arities : List ℕ) → Codec (schema arities) (λ s. checkSchema arities s ≡ accepted tt) schemaBytes
-unfolding schema checkSchema schemaMap
+unfolding schema schemaMap
 schema-codec arities = record {
     reads = λ s p e.
       reads-then mapByte s _ e λ bits s₁ h₁ p₁ e₁.
@@ -243,22 +215,21 @@ schema-codec arities = record {
       reads-then (deletes n pre (bit 2 bits)) s₃ _ e₃ λ del s₄ h₄ p₄ e₄.
       reads-then (adds n pre (bit 3 bits)) s₄ _ e₄ λ add s₅ h₅ p₅ e₅.
       answered (λ s. checkSchema arities s ≡ accepted tt) schemaBytes s e₅
-      (need-both 5 _ (h₂ .1) ∙ both-accepted _ (h₃ .1) ∙ both-accepted _ (h₄ .1) ∙ h₅ .1,
-        cc (schema-fields (record { parameters = n; preconditions = pre; deletes = del; adds = add }) s₅, map-of-bits bits h₁));
+      let x : Schema = record { parameters = n; preconditions = pre; deletes = del; adds = add } in
+      (checkSchema-intro arities x (record { parameters = h₂ .1; preconditions = h₃ .1; deletes = h₄ .1; adds = h₅ .1 }),
+        cc (schema-fields x s₅, map-of-bits bits h₁));
     back = λ s rest e.
-      need-both-inv (between 1 6 (s .parameters)) 5 _ e λ k₁ e₁.
-      both-inv (checkList _ (s .preconditions)) _ e₁ λ k₂ e₂.
-      both-inv (checkList _ (s .deletes)) _ e₂ λ k₃ k₄.
+      let c = checkedSchema arities s e in
       let m = schemaMap s in
       let n = s .parameters in
       let pre = s .preconditions in
       let h = bits-of-map (stands (roleBytes n)) (stands (listBytes pre)) (stands (listBytes (s .deletes))) (stands (listBytes (s .adds))) in
       rw (schema-fields s rest)
       (back-then mapByte m _ _ (h .0)
-      ∙ back-then (roleCount-codec (bit 0 m)) n _ _ (sym (h .1), k₁)
-      ∙ back-then (preconditions n (bit 1 m)) pre _ _ (sym (h .2), k₂)
-      ∙ back-then (deletes n pre (bit 2 m)) (s .deletes) _ _ (sym (h .3), k₃)
-      ∙ back-then (adds n pre (bit 3 m)) (s .adds) rest _ (sym (h .4), k₄)) }
+      ∙ back-then (roleCount-codec (bit 0 m)) n _ _ (sym (h .1), c .parameters)
+      ∙ back-then (preconditions n (bit 1 m)) pre _ _ (sym (h .2), c .preconditions)
+      ∙ back-then (deletes n pre (bit 2 m)) (s .deletes) _ _ (sym (h .3), c .deletes)
+      ∙ back-then (adds n pre (bit 3 m)) (s .adds) rest _ (sym (h .4), c .adds)) }
   where
     mapByte : Codec (byteThat (λ b. ltb b 16) 5) (λ b. ltb b 16 ≡ true) (λ b. b ∷ [])
     mapByte = byteThat-codec (λ b. ltb b 16) 5
