@@ -24,6 +24,15 @@ module _ {A : Type 0} where
       and-intro (test x) (all test (xs ++ ys)) (and-left (test x) (all test xs) p)
       (all-append test xs ys (and-right (test x) (all test xs) p) q)
 
+  -- elements that pass a test pass a weaker one
+  pub all-weaken : (test weaker : A → Bool) (xs : List A) → ((x : A) → test x ≡ true → weaker x ≡ true) → all test xs ≡ true
+      → all weaker xs ≡ true
+  unfolding all
+  all-weaken test weaker [] f e = refl
+  all-weaken test weaker (x ∷ xs) f e =
+      and-intro (weaker x) (all weaker xs) (f x (and-left (test x) (all test xs) e))
+      (all-weaken test weaker xs f (and-right (test x) (all test xs) e))
+
   -- the second of two runs passes, where the whole does
   pub all-after : (test : A → Bool) (xs ys : List A) → all test (xs ++ ys) ≡ true → all test ys ≡ true
   unfolding all

@@ -7,6 +7,7 @@ pub mod Answers
 pub mod Checked
 pub mod Codec
 pub mod ReadWrite
+pub mod CardSize
 pub mod RoundTrip
 pub mod Grouping
 pub mod Closing
