@@ -2,7 +2,10 @@
 use Prim.Native.Nat.{ℕ, _≤_}
 use native.Mathlib.Omega.{arith}
 use mathlib.Core.Path.{_≡_, refl, sym, ap, _∙_}
-use mathlib.Core.Bool.{Bool, true, false}
+use mathlib.Core.Bool.{Bool, true, false, _&&_}
+use lib.Dec.{leb}
+use borrow.Author.Tests.{leb-true}
+use Rattle.laws.proofs.Tests.{and-left, and-right}
 use mathlib.Core.Logic.{_⊎_, inl, inr}
 use Rattle.model.specs.Answer.{Answer, refused, accepted, _>>=_, _>>_, need}
 
@@ -86,3 +89,24 @@ need-both-inv test number y e f = both-inv (need test number) y e λ p q. f (nee
 
 pub need-both : {A : Type 0} {test : Bool} (number : ℕ) (y : Answer A) → test ≡ true → (need test number >> y) ≡ y
 need-both number y e = both-accepted y (need-accepted number e)
+
+-- every number by which an answer may be refused lies from `low` to `high`
+abbrev pub RefusedWithin : {A : Type 0} → ℕ → ℕ → Answer A → Type 0
+RefusedWithin low high x = (n : ℕ) → x ≡ refused n → (low ≤ n) × (n ≤ high)
+
+module _ (low high : ℕ) where
+  pub need-within : (test : Bool) (number : ℕ) → (leb low number && leb number high) ≡ true → RefusedWithin low high (need test number)
+  need-within test number h n e =
+      let l = leb-true low number (and-left (leb low number) (leb number high) h) in
+      let r = leb-true number high (and-right (leb low number) (leb number high) h) in
+      let same = need-refused-inv test number e .1 in
+      (omega arith, omega arith)
+
+  pub both-within : {A : Type 0} (x : Answer (Unit {0})) (y : Answer A) → RefusedWithin low high x → RefusedWithin low high y
+      → RefusedWithin low high (x >> y)
+  both-within x y p q n e = both-refused-inv x y e (p n) (λ u. q n)
+
+  -- a check in front of what follows
+  pub need-both-within : {A : Type 0} (test : Bool) (number : ℕ) (y : Answer A) → (leb low number && leb number high) ≡ true
+      → RefusedWithin low high y → RefusedWithin low high (need test number >> y)
+  need-both-within test number y h q = both-within (need test number) y (need-within test number h) q

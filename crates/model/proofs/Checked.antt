@@ -13,7 +13,7 @@ use Rattle.laws.proofs.Tests.{and-left, and-right, and-intro}
 use Rattle.model.specs.Answer.{Answer, refused, accepted, _>>_, need}
 use Rattle.model.specs.Card.{Atom, Schema, Task, above, between, has}
 use Rattle.model.specs.Writer.{each, known, checkSchemaAtom, checkList, checkSchema, checkFact, checkTask}
-use Rattle.model.proofs.Answers.{both-inv, both-accepted, need-inv, need-both, need-both-inv}
+use Rattle.model.proofs.Answers.{RefusedWithin, accepted-not-refused, need-within, both-within, need-both-within, both-inv, both-accepted, need-inv, need-both, need-both-inv}
 
 -- low ≤ n ≤ high, as a test and as a fact
 pub between-parts : (low high n : ℕ) → between low high n ≡ true → (low ≤ n) × (n ≤ high)
@@ -103,3 +103,45 @@ unfolding checkTask
 checkTask-intro t c =
     need-both 2 _ (c .predicates) ∙ need-both 2 _ (c .arities) ∙ need-both 3 _ (c .objects) ∙ need-both 4 _ (c .few-schemas)
     ∙ both-accepted _ (c .schemas) ∙ need-both 11 _ (c .few-facts) ∙ c .facts
+
+-- the writer refuses a table by a number from 2 to 13
+each-within : {A : Type 0} (low high : ℕ) (check : Option A → A → Answer (Unit {0}))
+    → ((previous : Option A) (x : A) → RefusedWithin low high (check previous x)) → (previous : Option A) (xs : List A)
+    → RefusedWithin low high (each check previous xs)
+unfolding each
+each-within low high check f previous [] = λ n e. accepted-not-refused e
+each-within low high check f previous (x ∷ xs) =
+    both-within low high (check previous x) _ (f previous x) (each-within low high check f (some x) xs)
+
+checkList-within : (check : Option Atom → Atom → Answer (Unit {0}))
+    → ((previous : Option Atom) (a : Atom) → RefusedWithin 2 13 (check previous a)) → (atoms : List Atom)
+    → RefusedWithin 2 13 (checkList check atoms)
+unfolding checkList
+checkList-within check f atoms = need-both-within 2 13 _ 6 _ refl (each-within 2 13 check f none atoms)
+
+checkSchemaAtom-within : (arities : List ℕ) (parameters : ℕ) (test : Atom → Bool) (number : ℕ) → (leb 2 number && leb number 13) ≡ true
+    → (previous : Option Atom) (a : Atom) → RefusedWithin 2 13 (checkSchemaAtom arities parameters test number previous a)
+unfolding checkSchemaAtom
+checkSchemaAtom-within arities parameters test number h previous a =
+    need-both-within 2 13 _ 7 _ refl (need-both-within 2 13 _ 8 _ refl (need-within 2 13 _ number h))
+
+checkSchema-within : (arities : List ℕ) (s : Schema) → RefusedWithin 2 13 (checkSchema arities s)
+unfolding checkSchema
+checkSchema-within arities s =
+    let atoms = checkSchemaAtom-within arities (s .parameters) in
+    need-both-within 2 13 _ 5 _ refl
+    (both-within 2 13 _ _ (checkList-within _ (atoms _ 8 refl) (s .preconditions))
+    (both-within 2 13 _ _ (checkList-within _ (atoms _ 9 refl) (s .deletes))
+    (checkList-within _ (atoms _ 10 refl) (s .adds))))
+
+checkFact-within : (arities : List ℕ) (objects : ℕ) (previous : Option Atom) (f : Atom)
+    → RefusedWithin 2 13 (checkFact arities objects previous f)
+unfolding checkFact
+checkFact-within arities objects previous f = need-both-within 2 13 _ 12 _ refl (need-within 2 13 _ 13 refl)
+
+pub checkTask-within : (t : Task) → RefusedWithin 2 13 (checkTask t)
+unfolding checkTask
+checkTask-within t =
+    need-both-within 2 13 _ 2 _ refl (need-both-within 2 13 _ 2 _ refl (need-both-within 2 13 _ 3 _ refl (need-both-within 2 13 _ 4 _ refl
+    (both-within 2 13 _ _ (each-within 2 13 _ (λ previous. checkSchema-within (t .arities)) none (t .schemas))
+    (need-both-within 2 13 _ 11 _ refl (each-within 2 13 _ (checkFact-within (t .arities) (t .objects)) none (t .facts)))))))
