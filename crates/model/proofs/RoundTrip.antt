@@ -3,19 +3,23 @@ use Prim.Native.Nat.{ℕ, _+_, _*_, _/_, _%_, _≤_, _<_}
 use native.Mathlib.Omega.{arith}
 use mathlib.Core.Path.{_≡_, refl, sym, ap, _∙_, subst}
 use mathlib.Core.Bool.{Bool, true, false}
+use mathlib.Core.Logic.{_↔_}
 use mathlib.Core.List.{List, [], _∷_, _++_, flatMap, append-assoc, append-nil}
 use mathlib.Core.Option.{Option, none, some}
 use lib.Dec.{leb, ltb, eqb}
 use lib.ListN.{length, take, drop}
-use borrow.Author.Tests.{leb-true, le-leb, ltb-true}
+use lib.Seq.{take-append-seam}
+use borrow.Author.Tests.{leb-true, leb-false, le-leb, lt-leb, ltb-true}
 use Rattle.laws.specs.Lists.{all}
-use Rattle.laws.proofs.Tests.{never, and-left, and-right}
+use Rattle.laws.proofs.Tests.{never, and-left, and-right, by-test}
 use Rattle.laws.proofs.Reading.{all-after}
 use Rattle.model.specs.Answer.{Answer, refused, accepted, _>>=_, _>>_, need}
 use Rattle.model.specs.Card.{Atom, Schema, Task, between, byteThat, many, schema, fact, factCount, isEnd, decode}
 use Rattle.model.specs.Writer.{each, checkSchema, checkFact, checkTask, atomBytes, schemaBytes, taskBytes}
-use Rattle.model.proofs.Answers.{then-inv, then-accepted, both-inv, both-accepted, need-accepted, need-both-inv, need-both, one-value}
-use Rattle.model.proofs.Checked.{Checked, checked, checkTask-intro}
+use Rattle.model.specs.Calls.{Call, outputBytes, finish, output, encode}
+use Rattle.model.proofs.Answers.{then-inv, then-accepted, both-inv, both-accepted, need-accepted, need-both-inv, need-both, one-value, one-number, accepted-not-refused, by-answer, both-refused, need-refused}
+use Rattle.model.proofs.Checked.{Checked, checked, checkTask-intro, checkTask-within}
+use Rattle.model.proofs.CardSize.{areBytes, card-size}
 use Rattle.model.proofs.Codec.{reads-then, back-then, byteThat-codec, many-codec, bytes-codec}
 use Rattle.model.proofs.ReadWrite.{fact-codec, schema-codec, Counted, factCount-reads, factCount-back, high-byte, low-byte}
 
@@ -60,10 +64,6 @@ decoded card t e =
 pub decode-checks : (card : List ℕ) (t : Task) → decode card ≡ accepted t → checkTask t ≡ accepted tt
 decode-checks card t e = checkTask-intro t (decoded card t e .checks)
 
--- a card is a list of bytes
-abbrev pub areBytes : List ℕ → Bool
-areBytes card = all (λ b. ltb b 256) card
-
 -- the table of a card is written as that card
 pub decode-writes : (card : List ℕ) → areBytes card ≡ true → (t : Task) → decode card ≡ accepted t → taskBytes t ≡ card
 unfolding taskBytes frontBytes all
@@ -90,3 +90,88 @@ writes-decode t e =
     ∙ then-accepted _ (factCount-back (length (t .facts)) (flatMap atomBytes (t .facts)) (leb-true (length (t .facts)) 512 (c .few-facts)))
     ∙ then-accepted _ (ap (many _ none (length (t .facts))) (sym (append-nil (flatMap atomBytes (t .facts)))) ∙ facts .back (t .facts) [] (refl, c .facts))
     ∙ need-both 14 _ refl
+
+-- what is written are bytes, few enough for the lent buffer
+pub card-bytes : (t : Task) → checkTask t ≡ accepted tt → areBytes (taskBytes t) ≡ true
+card-bytes t e = card-size t e .each-byte
+
+pub card-length : (t : Task) → checkTask t ≡ accepted tt → length (taskBytes t) ≤ 5305
+card-length t e = card-size t e .at-most
+
+-- the writer accepts exactly the tables that some card carries
+pub carried : (t : Task) → (checkTask t ≡ accepted tt) ↔ ((card : List ℕ) × (areBytes card ≡ true) × (decode card ≡ accepted t))
+carried t = (λ e. (taskBytes t, card-bytes t e, writes-decode t e), λ c. decode-checks (c .0) t (c .2))
+
+-- a refusal: its number, and the lent bytes as they were
+abbrev pub refusal : ℕ → List ℕ → Call
+refusal n buffer = record { answer = refused n; buffer = buffer }
+
+same-answer : {a b : Call} → a ≡ b → a .answer ≡ b .answer
+same-answer p = ap (λ (call : Call). call .answer) p
+
+-- the call of the card writer, by what it checks
+module _ (t : Task) (out : List ℕ) where
+  encode-refused : {n : ℕ} → checkTask t ≡ refused n → encode t out ≡ refusal n out
+  unfolding encode finish
+  encode-refused e = ap (finish out) (both-refused _ e)
+
+  encode-short : checkTask t ≡ accepted tt → length out < outputBytes → encode t out ≡ refusal 21 out
+  unfolding encode finish
+  encode-short e h = ap (finish out) (both-accepted _ e ∙ both-refused _ (need-refused 21 (lt-leb outputBytes (length out) h)))
+
+  encode-written : checkTask t ≡ accepted tt → outputBytes ≤ length out → encode t out ≡ output (taskBytes t) out
+  unfolding encode finish
+  encode-written e h = ap (finish out) (both-accepted _ e ∙ need-both 21 _ (le-leb outputBytes (length out) h))
+
+  -- one of the three
+  by-encode : {C : Type 0} → ((n : ℕ) → checkTask t ≡ refused n → encode t out ≡ refusal n out → C)
+      → (checkTask t ≡ accepted tt → encode t out ≡ refusal 21 out → C)
+      → (checkTask t ≡ accepted tt → encode t out ≡ output (taskBytes t) out → C) → C
+  by-encode f g h =
+      by-answer (checkTask t)
+      (λ u e. by-test (leb outputBytes (length out)) (λ l. h e (encode-written e (leb-true outputBytes (length out) l)))
+        (λ l. g e (encode-short e (leb-false outputBytes (length out) l))))
+      (λ n e. f n e (encode-refused e))
+
+-- no card describes the table
+abbrev pub Uncarried : Task → Type 0
+Uncarried t = (card : List ℕ) → areBytes card ≡ true → decode card ≡ accepted t → ⊥
+
+-- Demand 2, the round trip, for the calls of document 01.
+pub record RoundTrip : Type 0 where
+  -- a card that is read is written again, byte for byte, from the table that it describes; the bytes after it are left
+  pub card-again : (card : List ℕ) → areBytes card ≡ true → (t : Task) → decode card ≡ accepted t
+      → (out : List ℕ) → outputBytes ≤ length out
+      → encode t out ≡ record { answer = accepted (length card); buffer = card ++ drop (length card) out }
+  -- what is written is read back as the table that it was written from
+  pub table-again : (t : Task) (out : List ℕ) (n : ℕ) → encode t out .answer ≡ accepted n
+      → decode (take n (encode t out .buffer)) ≡ accepted t
+  -- a table that no card describes is refused by the number of the check that it fails, 2 to 13, and no lent byte is altered
+  pub uncarried : (t : Task) → Uncarried t
+      → (n : ℕ) × (2 ≤ n) × (n ≤ 13) × (checkTask t ≡ refused n) × ((out : List ℕ) → encode t out ≡ refusal n out)
+  -- and no other table is refused by such a number
+  pub only-uncarried : (t : Task) (out : List ℕ) (n : ℕ) → encode t out .answer ≡ refused n → n ≤ 13 → Uncarried t
+  -- a table that a card describes is refused by 21 alone, if the lent buffer is short
+  pub short : (card : List ℕ) (t : Task) → decode card ≡ accepted t → (out : List ℕ) → length out < outputBytes
+      → encode t out ≡ refusal 21 out
+
+pub round-trip : RoundTrip
+unfolding output
+round-trip = record {
+    card-again = λ card b t e out h.
+      encode-written t out (decode-checks card t e) h ∙ ap (λ (s : List ℕ). output s out) (decode-writes card b t e);
+    table-again = λ t out n e.
+      by-encode t out
+      (λ m c p. accepted-not-refused (sym e ∙ same-answer p))
+      (λ c p. accepted-not-refused (sym e ∙ same-answer p))
+      (λ c p.
+        let n-is : n ≡ length (taskBytes t) = one-value (sym e ∙ same-answer p) in
+        rw (p, n-is, take-append-seam) (writes-decode t c));
+    uncarried = λ t f.
+      by-answer (checkTask t) (λ u e. absurd (f (taskBytes t) (card-bytes t e) (writes-decode t e)))
+      (λ n e. let h = checkTask-within t n e in (n, h .0, h .1, e, λ out. encode-refused t out e));
+    only-uncarried = λ t out n e h card b d.
+      by-encode t out (λ m c p. accepted-not-refused (sym (decode-checks card t d) ∙ c))
+      (λ c p. let n-is : n ≡ 21 = one-number (sym e ∙ same-answer p) in omega arith)
+      (λ c p. accepted-not-refused (sym (same-answer p) ∙ e));
+    short = λ card t e out h. encode-short t out (decode-checks card t e) h }
