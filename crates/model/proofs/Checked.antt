@@ -1,7 +1,7 @@
 -- What the writer's check says of a table that it accepts, part by part.
 use Prim.Native.Nat.{ℕ, _≤_}
 use mathlib.Core.Path.{_≡_, refl, _∙_}
-use mathlib.Core.Bool.{Bool, true, false, _&&_, not}
+use mathlib.Core.Bool.{Bool, true, _&&_, not}
 use mathlib.Core.Logic.{⊎-elim}
 use mathlib.Core.List.{List, [], _∷_, List·Memᴰ, List·Memᴰ·not-nil, List·Memᴰ·cases-cons}
 use mathlib.Core.Option.{Option, none, some}
@@ -10,10 +10,10 @@ use lib.ListN.{length, getD}
 use borrow.Author.Tests.{leb-true, le-leb, eqb-true, eq-eqb}
 use Rattle.laws.specs.Lists.{all}
 use Rattle.laws.proofs.Tests.{and-left, and-right, and-intro}
-use Rattle.model.specs.Answer.{Answer, refused, accepted, _>>_, need}
-use Rattle.model.specs.Card.{Atom, Schema, Task, above, between, has}
+use Rattle.model.specs.Answer.{Answer, accepted}
+use Rattle.model.specs.Card.{Atom, Schema, Task, between, has}
 use Rattle.model.specs.Writer.{each, known, checkSchemaAtom, checkList, checkSchema, checkFact, checkTask}
-use Rattle.model.proofs.Answers.{RefusedWithin, accepted-not-refused, need-within, both-within, need-both-within, both-inv, both-accepted, need-inv, need-both, need-both-inv}
+use Rattle.model.proofs.Answers.{RefusedWithin, accepted-not-refused, need-within, both-within, need-both-within, both-inv, both-accepted, need-both, need-both-inv}
 
 -- low ≤ n ≤ high, as a test and as a fact
 pub between-parts : (low high n : ℕ) → between low high n ≡ true → (low ≤ n) × (n ≤ high)
@@ -40,7 +40,8 @@ known-parts arities bound a e =
     record {
       predicate = and-left p q (and-left (p && q) r e);
       arity = eqb-true (length (a .arguments)) (getD arities (a .predicate) 0) (and-right p q (and-left (p && q) r e));
-      arguments = and-right (p && q) r e }
+      arguments = and-right (p && q) r e;
+    }
 
 pub known-intro : (arities : List ℕ) (bound : ℕ) (a : Atom) → Known arities bound a → known arities bound a ≡ true
 unfolding known
@@ -96,7 +97,14 @@ checked t e =
     both-inv (each (λ previous. checkSchema (t .arities)) none (t .schemas)) _ e₄ λ h₅ e₅.
     need-both-inv (leb (length (t .facts)) 512) 11 _ e₅ λ h₆ h₇.
     record {
-      predicates = h₁; arities = h₂; objects = h₃; few-schemas = h₄; schemas = h₅; few-facts = h₆; facts = h₇ }
+      predicates = h₁;
+      arities = h₂;
+      objects = h₃;
+      few-schemas = h₄;
+      schemas = h₅;
+      few-facts = h₆;
+      facts = h₇;
+    }
 
 pub checkTask-intro : (t : Task) → Checked t → checkTask t ≡ accepted tt
 unfolding checkTask

@@ -2,12 +2,12 @@
 use Prim.Native.Nat.{ℕ, zero, suc}
 use mathlib.Core.Path.{_≡_, refl, sym, ap, _∙_, subst}
 use mathlib.Core.Bool.{Bool, true, false, _&&_}
-use mathlib.Core.List.{List, [], _∷_, _++_, flatMap, append-assoc}
+use mathlib.Core.List.{List, [], _∷_, _++_, flatMap, append-assoc, append-nil}
 use mathlib.Core.Option.{Option, none, some}
 use lib.ListN.{length}
 use Rattle.laws.specs.Lists.{all}
 use Rattle.laws.proofs.Reading.{flatMap-single}
-use Rattle.model.specs.Answer.{Answer, refused, accepted, _>>=_, _>>_, need}
+use Rattle.model.specs.Answer.{Answer, accepted, _>>=_, _>>_, need}
 use Rattle.model.specs.Card.{Reader, byte, byteThat, many}
 use Rattle.model.specs.Writer.{each}
 use Rattle.model.proofs.Answers.{accepted-not-refused, one-value, then-inv, then-accepted, both-inv, both-accepted, need-inv, need-accepted, need-both, need-both-inv}
@@ -38,19 +38,25 @@ module _ {A : Type 0} {read : Reader A} {fits : A → Type 0} {bytes : A → Lis
       → (read (bytes x ++ rest) >>= next) ≡ next (x, rest)
   back-then x rest next h = then-accepted next (codec .back x rest h)
 
+  -- nothing follows the item
+  pub back-end : (x : A) → fits x → read (bytes x) ≡ accepted (x, [])
+  back-end x h = ap read (sym (append-nil (bytes x))) ∙ codec .back x [] h
+
   -- the same items under another description
   pub refit : {fits′ : A → Type 0} {bytes′ : A → List ℕ} → ((x : A) → fits x → fits′ x) → ((x : A) → fits′ x → fits x)
       → ((x : A) → fits x → bytes x ≡ bytes′ x) → Codec read fits′ bytes′
   refit to from same = record {
-      reads = λ s p e.
+    reads = λ s p e.
         let r = codec .reads s p e in (to (p .0) (r .0), r .1 ∙ ap (λ (l : List ℕ). l ++ p .1) (same (p .0) (r .0)));
-      back = λ x rest h. rw (← (same x (from x h))) (codec .back x rest (from x h)) }
+    back = λ x rest h. rw (← (same x (from x h))) (codec .back x rest (from x h));
+  }
 
 -- a value that takes no byte
 pub absent-codec : {A : Type 0} (value : A) → Codec (λ s. accepted (value, s)) (λ x. x ≡ value) (λ x. [])
 absent-codec value = record {
-    reads = λ s p e. answered (λ x. x ≡ value) (λ x. []) s e (refl, refl);
-    back = λ x rest e. ap (λ (y : _). accepted (y, rest)) (sym e) }
+  reads = λ s p e. answered (λ x. x ≡ value) (λ x. []) s e (refl, refl);
+  back = λ x rest e. ap (λ (y : _). accepted (y, rest)) (sym e);
+}
 
 -- a byte that passes a test
 pub byteThat-codec : (test : ℕ → Bool) (number : ℕ) → Codec (byteThat test number) (λ b. test b ≡ true) (λ b. b ∷ [])
@@ -68,6 +74,7 @@ Run check previous n xs = (length xs ≡ n) × (each check previous xs ≡ accep
 
 module _ {A : Type 0} {read : Option A → Reader A} {check : Option A → A → Answer (Unit {0})} {bytes : A → List ℕ}
     (item : (previous : Option A) → Codec (read previous) (λ x. check previous x ≡ accepted tt) bytes) where
+  -- each item is read as it was written, one after another
   many-reads : (previous : Option A) (n : ℕ) (s : List ℕ) (p : List A × List ℕ) → many read previous n s ≡ accepted p
       → Parsed (Run check previous n) (flatMap bytes) s p
   unfolding many each flatMap
@@ -75,9 +82,12 @@ module _ {A : Type 0} {read : Option A → Reader A} {check : Option A → A →
   many-reads previous (suc n) s p e =
       reads-then (item previous) s _ e λ x s₁ h p₁ e₁. then-inv (many read (some x) n s₁) _ e₁ λ q e₂ e₃.
       let r = many-reads (some x) n s₁ q e₂ in
-      answered (Run check previous (suc n)) (flatMap bytes) s e₃ ((ap suc (r .0 .0), both-accepted _ h ∙ r .0 .1),
-        p₁ ∙ ap (λ (l : List ℕ). bytes x ++ l) (r .1) ∙ sym (append-assoc (bytes x) (flatMap bytes (q .0)) (q .1)))
+      answered (Run check previous (suc n)) (flatMap bytes) s e₃ (
+        (ap suc (r .0 .0), both-accepted _ h ∙ r .0 .1),
+        p₁ ∙ ap (λ (l : List ℕ). bytes x ++ l) (r .1) ∙ sym (append-assoc (bytes x) (flatMap bytes (q .0)) (q .1)),
+      )
 
+  -- and the bytes of all are read back
   many-back : (previous : Option A) (xs : List A) (rest : List ℕ) → each check previous xs ≡ accepted tt
       → many read previous (length xs) (flatMap bytes xs ++ rest) ≡ accepted (xs, rest)
   unfolding many each flatMap
@@ -86,10 +96,12 @@ module _ {A : Type 0} {read : Option A → Reader A} {check : Option A → A →
       both-inv (check previous x) _ h λ h₁ h₂. rw append-assoc
       (back-then (item previous) x (flatMap bytes xs ++ rest) _ h₁ ∙ then-accepted _ (many-back (some x) xs rest h₂))
 
+  -- a run of items, from the codec of an item
   pub many-codec : (previous : Option A) (n : ℕ) → Codec (many read previous n) (Run check previous n) (flatMap bytes)
   many-codec previous n = record {
-      reads = many-reads previous n;
-      back = λ xs rest h. rw (← (h .0)) (many-back previous xs rest (h .1)) }
+    reads = many-reads previous n;
+    back = λ xs rest h. rw (← (h .0)) (many-back previous xs rest (h .1));
+  }
 
 -- a check of one test on each item is the check that all pass it
 pub each-need : {A : Type 0} (test : A → Bool) (number : ℕ) (previous : Option A) (xs : List A)
