@@ -19,10 +19,10 @@ use Rattle.model.specs.Transitions.{Property, properties, occurs, bagOf}
 use Rattle.model.specs.Lines.{ofPredicate}
 use Rattle.model.specs.Truth.{Allowed}
 use Rattle.model.proofs.Valid.{Valid}
-use Rattle.model.proofs.Ordered.{keep-ascending}
 use Rattle.model.proofs.Putting.{putAll, has-picks, ascending-no-repeat, putAll-ascending, putAll-stays, putAll-there, putAll-at}
 use Rattle.model.proofs.Binding.{bounded, ground-no-repeat, count-bound, count-elsewhere}
-use Rattle.model.proofs.Checked.{CheckedList, CheckedSchema, CheckedAction, known-arguments, schemaAt-right, checked-action}
+use Rattle.model.proofs.Order.{known-arguments}
+use Rattle.model.proofs.Buffer.{CheckedList, CheckedSchema, CheckedAction, checked, schemaAt-right, checked-action, keep-ascending}
 
 -- Some atoms of a schema with an action's objects: every parameter has an object, and the facts they become differ.
 pub record Grounded (objects : List ℕ) (atoms : List Atom) : Type 0 where
@@ -57,13 +57,13 @@ unfolding applicable
 allowed-ready t s a ok valid allowed = record {
   different = named .all-different;
   in-order = valid .in-order;
-  preconditions = list-grounded _ _ _ (a .objects) _ (checked .preconditions-right) (named .one-for-each) (named .all-different);
-  deletes = list-grounded _ _ _ (a .objects) _ (checked .deletes-right) (named .one-for-each) (named .all-different);
-  adds = list-grounded _ _ _ (a .objects) _ (checked .adds-right) (named .one-for-each) (named .all-different);
+  preconditions = list-grounded _ _ _ (a .objects) _ (lists .preconditions-right) (named .one-for-each) (named .all-different);
+  deletes = list-grounded _ _ _ (a .objects) _ (lists .deletes-right) (named .one-for-each) (named .all-different);
+  adds = list-grounded _ _ _ (a .objects) _ (lists .adds-right) (named .one-for-each) (named .all-different);
   preconditions-hold = hold;
   deletes-hold = λ f m.
       let r = Memᴰ·of-map (ground (a .objects)) (schema .deletes) m in
-      let among = all-at _ (schema .deletes) (checked .deletes-right .atoms-pass) (r .0) (r .1) in
+      let among = all-at _ (schema .deletes) (lists .deletes-right .atoms-pass) (r .0) (r .1) in
       subst (λ (g : Atom). List·Memᴰ g s) (r .2)
       (hold _ (Memᴰ·map (ground (a .objects)) (has-picks (schema .preconditions) .picked (r .0) among)));
 }
@@ -74,8 +74,8 @@ allowed-ready t s a ok valid allowed = record {
     named : CheckedAction t a
     named = checked-action t a (allowed .named)
 
-    checked : CheckedSchema (t .arities) schema
-    checked = schemaAt-right t ok (a .schema) (named .schema-known)
+    lists : CheckedSchema (t .arities) schema
+    lists = schemaAt-right t (checked t ok) (a .schema) (named .schema-known)
 
     hold : (f : Atom) → List·Memᴰ f (map (ground (a .objects)) (schema .preconditions)) → List·Memᴰ f s
     hold f m = has-picks s .picked f (all-at (has s) _ (allowed .holds) f m)

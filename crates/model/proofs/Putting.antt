@@ -9,7 +9,8 @@ use Rattle.laws.proofs.Lists.{any-at, any-intro}
 use Rattle.laws.proofs.Counting.{NoRepeat, Picks}
 use Rattle.model.specs.Card.{Atom, sameAtom, has, above}
 use Rattle.model.specs.Strips.{State, ascending, put}
-use Rattle.model.proofs.Ordered.{sameAtom-eq, sameAtom-refl, ascending-absent, put-ascending, put-there, put-stays, put-at}
+use Rattle.model.proofs.Order.{sameAtom-eq, sameAtom-refl, ascending-absent}
+use Rattle.model.proofs.Buffer.{put-ascending, put-there, put-stays, put-at}
 
 -- the test for an atom on a list is membership
 pub has-picks : (atoms : List Atom) → Picks (has atoms) atoms
