@@ -13,7 +13,7 @@ use borrow.Author.Tests.{ltb-true, ltb-false, leb-true, leb-false}
 use Rattle.laws.specs.Lists.{any, all, keep, count, from, upTo, member, distinct}
 use Rattle.laws.specs.Bags.{Bag, plus, less, meet, single, support}
 use Rattle.laws.proofs.Tests.{never, and-left, and-right, and-intro, same-test, by-test, not-true, to-not-true}
-use Rattle.laws.proofs.Lists.{keep-at, keep-intro, from-at, length-upTo, upTo-at, upTo-intro, member-at, member-intro, member-not, not-member}
+use Rattle.laws.proofs.Lists.{mem-getD, keep-at, keep-intro, from-at, length-upTo, upTo-at, upTo-intro, member-at, member-intro, member-not, not-member}
 
 -- an alternative that fails adds nothing
 pub or-neutral : (a b : Bool) → b ≡ false → (a || b) ≡ a
@@ -275,3 +275,21 @@ length-single n c = length-map (upTo n) (λ d. cond (eqb c d) 1 0) ∙ length-up
 pub support-below : (xs : Bag) (c : ℕ) → List·Memᴰ c (support xs) → c < length xs
 unfolding support
 support-below xs c m = upTo-at (length xs) c (keep-at (λ d. ltb 0 (getD xs d 0)) (upTo (length xs)) c m .0)
+
+-- different numbers stand at different places
+pub distinct-places : (ns : List ℕ) → distinct ns ≡ true → (j k : ℕ) → j < length ns → k < length ns
+    → getD ns j 0 ≡ getD ns k 0 → j ≡ k
+unfolding distinct
+distinct-places [] d j k hj hk e = absurd (not-suc-le-zero hj)
+distinct-places (n ∷ ns) d zero zero hj hk e = refl
+distinct-places (n ∷ ns) d zero (suc k) hj hk e =
+    absurd
+    (member-not n ns (not-true (member n ns) (and-left (not (member n ns)) (distinct ns) d))
+    (subst (λ (x : ℕ). List·Memᴰ x ns) (sym e) (mem-getD ns k 0 (le-of-suc-le-suc hk))))
+distinct-places (n ∷ ns) d (suc j) zero hj hk e =
+    absurd
+    (member-not n ns (not-true (member n ns) (and-left (not (member n ns)) (distinct ns) d))
+    (subst (λ (x : ℕ). List·Memᴰ x ns) e (mem-getD ns j 0 (le-of-suc-le-suc hj))))
+distinct-places (n ∷ ns) d (suc j) (suc k) hj hk e =
+    ap suc
+    (distinct-places ns (and-right (not (member n ns)) (distinct ns) d) j k (le-of-suc-le-suc hj) (le-of-suc-le-suc hk) e)

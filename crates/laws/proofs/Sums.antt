@@ -123,3 +123,10 @@ unfolding standsAt
 standsAt-getD x i [] h = absurd (not-suc-le-zero h)
 standsAt-getD x zero (y ∷ ys) h = refl
 standsAt-getD x (suc i) (y ∷ ys) h = standsAt-getD x i ys (omega arith)
+
+-- what stands at a position is on the list
+pub standsAt-member : (x i : ℕ) (ys : List ℕ) → standsAt x i ys ≡ true → List·Memᴰ x ys
+unfolding standsAt
+standsAt-member x i [] e = never (sym e)
+standsAt-member x zero (y ∷ ys) e = List·Memᴰ·head (eqb-true x y e)
+standsAt-member x (suc i) (y ∷ ys) e = List·Memᴰ·tail (standsAt-member x i ys e)

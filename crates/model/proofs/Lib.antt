@@ -21,5 +21,6 @@ pub mod Chain
 pub mod ListedSpace
 pub mod Sections
 pub mod Totals
+pub mod ParameterRules
 pub mod Invariant
 pub mod ListingHolds
