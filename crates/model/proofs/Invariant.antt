@@ -138,7 +138,7 @@ abbrev pub amount : Task → State → ℕ → ℕ → ℕ
 amount t s o c = getD (bagOf (properties t) s o) c 0
 
 -- an object outside a space has none of each of its properties
-none-outside : (t : Task) (s : State) → Invariant t s → (u : Space) → List·Memᴰ u (spaces t) → (o : ℕ)
+pub none-outside : (t : Task) (s : State) → Invariant t s → (u : Space) → List·Memᴰ u (spaces t) → (o : ℕ)
     → member o (u .members) ≡ false → (c : ℕ) → member c (u .properties) ≡ true → amount t s o c ≡ 0
 unfolding condition
 none-outside t s inv u m o out c k =
@@ -147,7 +147,7 @@ none-outside t s inv u m o out c k =
     ap (λ (d : ℕ). amount t s o d) (sym (r .2)) ∙ sym (getD-restrict (u .properties) (bagOf (properties t) s o) (r .0) (r .1)) ∙ empty
 
 -- an object that has a property is a member of the property's space
-member-by-property : (t : Task) (s : State) → Invariant t s → (u : Space) → List·Memᴰ u (spaces t) → (o c : ℕ)
+pub member-by-property : (t : Task) (s : State) → Invariant t s → (u : Space) → List·Memᴰ u (spaces t) → (o c : ℕ)
     → member c (u .properties) ≡ true → 0 < amount t s o c → member o (u .members) ≡ true
 member-by-property t s inv u m o c k h =
     by-test (member o (u .members)) (λ e. e)
