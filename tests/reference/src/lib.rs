@@ -2,6 +2,7 @@
 //! It is what the proved library is compared with, and the speed that it is measured against.
 
 pub mod card;
+pub mod examples;
 pub mod listing;
 pub mod refusal;
 pub mod strips;
