@@ -4,9 +4,11 @@
 pub mod card;
 pub mod examples;
 pub mod listing;
+pub mod random;
 pub mod refusal;
 pub mod strips;
 pub mod tim;
+pub mod truth;
 pub mod vectors;
 
 pub use card::{decode, encode, Task};
