@@ -2,8 +2,10 @@
 //! It is what the proved library is compared with, and the speed that it is measured against.
 
 pub mod card;
+pub mod comparison;
 pub mod examples;
 pub mod listing;
+pub mod proved;
 pub mod random;
 pub mod refusal;
 pub mod strips;
