@@ -1,6 +1,6 @@
 //! Side-by-side timing of the proved library and the reference: medians of repeated runs, and their ratio.
 //!
-//!     bench [SECONDS]      the least time that each median is taken over, 0.3 if not given
+//!     bench [SECONDS]      the least time that each median is taken over, 0.3 if not given; at least five runs
 
 use reference::examples;
 use reference::proved::{Calls, Proved, Reference};
@@ -28,7 +28,7 @@ fn main() {
     for extreme in extremes() {
         bench.heading(&extreme.name);
         let card = extreme.card;
-        bench.check("decode", &[card.clone()]);
+        bench.check("decode", std::slice::from_ref(&card));
         bench.allowed_press("press", &card);
         bench.listing("listing, by sections", &[card]);
     }
@@ -153,9 +153,18 @@ impl Bench {
         self.listing(&format!("{name}, listing"), &[card]);
     }
 
+    /// Times the two in turn, so that whatever else the machine does meets both.
     fn row(&mut self, name: &str, mut work: impl FnMut(&dyn Calls)) {
-        let reference = median(self.least, || work(&Reference));
-        let proved = median(self.least, || work(&Proved));
+        let sides: [&dyn Calls; 2] = [&Reference, &Proved];
+        let batches = sides.map(|calls| (0.001 / time(1, &mut || work(calls)).max(1e-9)).clamp(1.0, 1e6) as u32);
+        let mut times = [Vec::new(), Vec::new()];
+        let started = Instant::now();
+        while times[0].len() < 5 || started.elapsed() < self.least * 2 {
+            for side in 0..2 {
+                times[side].push(time(batches[side], &mut || work(sides[side])));
+            }
+        }
+        let [reference, proved] = times.map(median);
         let ratio = proved / reference;
         self.ratios.push(ratio);
         println!("  {name:<28}{:>14}{:>14}{ratio:>9.2}", duration(reference), duration(proved));
@@ -167,23 +176,12 @@ impl Bench {
     }
 }
 
-/// The median time of a run in seconds. Short runs are timed in batches of about a millisecond.
-fn median(least: Duration, mut run: impl FnMut()) -> f64 {
-    let first = time(1, &mut run);
-    let batch = (0.001 / first.max(1e-9)).clamp(1.0, 1e6) as u32;
-    let started = Instant::now();
-    let mut times = Vec::new();
-    while times.len() < 5 || started.elapsed() < least {
-        times.push(time(batch, &mut run));
-        // Five runs of a slow one are enough.
-        if times.len() >= 3 && started.elapsed() > least * 20 {
-            break;
-        }
-    }
+fn median(mut times: Vec<f64>) -> f64 {
     times.sort_by(f64::total_cmp);
     times[times.len() / 2]
 }
 
+/// The time of a run in seconds, over a batch of them. Short runs are timed in batches of about a millisecond.
 fn time(batch: u32, run: &mut impl FnMut()) -> f64 {
     let started = Instant::now();
     (0..batch).for_each(|_| run());
