@@ -1,13 +1,12 @@
 -- Bags, for any number of properties: their operations property by property, containment as an order, the least bags of a list;
 -- and what lists of them, without repeats or made by folds, have.
 use Prim.Native.Nat.{ℕ, zero, suc, _+_, _-_, _≤_, _<_, min, zero-le, suc-le-suc}
-use native.Mathlib.Nat.{le-of-suc-le-suc, not-suc-le-zero, suc-inj, suc-ne-zero, le-refl}
+use native.Mathlib.Nat.{not-suc-le-zero, suc-inj, suc-ne-zero, le-refl}
 use native.Mathlib.Omega.{arith}
 use mathlib.Core.Path.{_≡_, refl, sym, ap, _∙_, subst}
 use mathlib.Core.Bool.{Bool, true, false, cond, not}
-use mathlib.Core.Logic.{⊎-elim}
-use mathlib.Core.List.{List, [], _∷_, _++_, map, zipWith, foldl, List·Memᴰ, List·Memᴰ·head, List·Memᴰ·tail, List·Memᴰ·cases-cons, List·Memᴰ·not-nil}
-use mathlib.Core.List.{List·Memᴰ·append-cases, List·Memᴰ·eq-of-singleton, Memᴰ·cast}
+use mathlib.Core.List.{List, [], _∷_, zipWith, List·Memᴰ}
+use mathlib.Core.List.{Memᴰ·cast}
 use lib.Dec.{leb, eqb, ltb}
 use lib.ListN.{length, getD, length-map, List·getD-eq-default}
 use lib.Seq.{ext-getD}
@@ -15,6 +14,7 @@ use borrow.Author.Tests.{eqb-true, eqb-false, eq-eqb, ne-eqb, leb-true, le-leb, 
 use Rattle.laws.specs.Lists.{any, all, keep, upTo, sum, same}
 use Rattle.laws.specs.Bags.{Bag, plus, less, meet, contains, strictlyContains, isEmpty, single, support, restrict, listed}
 use Rattle.laws.proofs.Tests.{never, and-left, and-right, and-intro, not-true, to-not-true, by-test, same-test, cond-true, cond-false}
+use Rattle.laws.proofs.Mapped.{getD-map}
 use Rattle.laws.proofs.Lists.{all-at, all-intro, any-at, any-intro, keep-at, keep-intro, mem-getD, place-of, length-upTo, upTo-at, upTo-intro}
 use Rattle.laws.proofs.Lists.{getD-upTo, same-eq, same-refl}
 
@@ -276,10 +276,6 @@ isEmpty-not (zero ∷ b) e = let r = isEmpty-not b e in (suc (r .0), suc-le-suc 
 isEmpty-not (suc x ∷ b) e = (0, suc-le-suc zero-le, suc-le-suc zero-le)
 
 -- the count at a place of a mapped list
-getD-map-in : {A : Type 0} (f : A → ℕ) (l : List A) (i : ℕ) (d : A) → i < length l → getD (map f l) i 0 ≡ f (getD l i d)
-getD-map-in f [] i d h = absurd (not-suc-le-zero h)
-getD-map-in f (x ∷ l) zero d h = refl
-getD-map-in f (x ∷ l) (suc i) d h = getD-map-in f l i d (le-of-suc-le-suc h)
 
 -- the bag of one occurrence: its length, and its count at its property and elsewhere
 pub length-single : (n c : ℕ) → length (single n c) ≡ n
@@ -289,7 +285,7 @@ length-single n c = length-map (upTo n) (λ d. cond (eqb c d) 1 0) ∙ length-up
 pub getD-single : (n c i : ℕ) → i < n → getD (single n c) i 0 ≡ cond (eqb c i) 1 0
 unfolding single
 getD-single n c i h =
-    getD-map-in (λ d. cond (eqb c d) 1 0) (upTo n) i 0 (subst (λ (m : ℕ). i < m) (sym (length-upTo n)) h)
+    getD-map (λ d. cond (eqb c d) 1 0) (upTo n) i 0 0 (subst (λ (m : ℕ). i < m) (sym (length-upTo n)) h)
     ∙ ap (λ (d : ℕ). cond (eqb c d) 1 0) (getD-upTo n i 0 h)
 
 pub single-here : (n c : ℕ) → c < n → getD (single n c) c 0 ≡ 1
@@ -342,7 +338,7 @@ length-restrict cs b = length-map cs (λ c. getD b c 0)
 
 pub getD-restrict : (cs : List ℕ) (b : Bag) (i : ℕ) → i < length cs → getD (restrict cs b) i 0 ≡ getD b (getD cs i 0) 0
 unfolding restrict
-getD-restrict cs b i h = getD-map-in (λ c. getD b c 0) cs i 0 h
+getD-restrict cs b i h = getD-map (λ c. getD b c 0) cs i 0 0 h
 
 -- the operations on some of the properties
 pub restrict-plus : (cs : List ℕ) (a b : Bag) → length a ≡ length b → restrict cs (plus a b) ≡ plus (restrict cs a) (restrict cs b)
@@ -390,104 +386,3 @@ restrict-single cs size i h below once =
         same-test (eqb (getD cs i 0) (getD cs j 0)) (eqb i j)
         (λ e. eq-eqb i j (once i j h k (eqb-true (getD cs i 0) (getD cs j 0) e)))
         (λ e. eq-eqb (getD cs i 0) (getD cs j 0) (ap (λ (c : ℕ). getD cs c 0) (eqb-true i j e)))
-
--- ---- lists of bags, or of anything else
-
-module _ {A : Type 0} where
-  -- each element is related to every later one
-  abbrev pub Pairwise : (A → A → Type 0) → List A → Type 0
-  Pairwise R [] = Unit {0}
-  Pairwise R (x ∷ xs) = ((y : A) → List·Memᴰ y xs → R x y) × Pairwise R xs
-
-  -- two such lists in sequence
-  pub pairwise-append : (R : A → A → Type 0) (xs ys : List A) → Pairwise R xs → Pairwise R ys
-      → ((x y : A) → List·Memᴰ x xs → List·Memᴰ y ys → R x y) → Pairwise R (xs ++ ys)
-  pairwise-append R [] ys p q h = q
-  pairwise-append R (x ∷ xs) ys p q h = (
-    λ y k. ⊎-elim (p .0 y) (h x y (List·Memᴰ·head refl)) (List·Memᴰ·append-cases xs k),
-    pairwise-append R xs ys (p .1) q (λ z y k. h z y (List·Memᴰ·tail k)),
-  )
-
-  -- no element stands twice
-  abbrev pub NoRepeat : List A → Type 0
-  NoRepeat xs = Pairwise (λ x y. x ≡ y → ⊥) xs
-
-  -- a new element at the end makes no repeat
-  pub no-repeat-append : (xs : List A) (x : A) → NoRepeat xs → (List·Memᴰ x xs → ⊥) → NoRepeat (xs ++ (x ∷ []))
-  no-repeat-append xs x p d =
-      pairwise-append (λ x y. x ≡ y → ⊥) xs (x ∷ []) p (λ y k. absurd (List·Memᴰ·not-nil k), tt)
-      (λ y z k j e. d (Memᴰ·cast (sym (e ∙ List·Memᴰ·eq-of-singleton j)) k))
-
-  -- a list without repeats is at most as long as a list that has all its elements
-  pub no-repeat-length : (xs ys : List A) → NoRepeat xs → ((x : A) → List·Memᴰ x xs → List·Memᴰ x ys) → length xs ≤ length ys
-  no-repeat-length [] ys p h = zero-le
-  no-repeat-length (x ∷ xs) ys p h =
-      let c = around ys (h x (List·Memᴰ·head refl)) in
-      let rest = no-repeat-length xs (c .0 ++ c .1) (p .1) (λ y k. c .3 y (h y (List·Memᴰ·tail k)) (p .0 y k)) in
-      omega arith
-    where
-      -- an element of a list, and the list without it
-      around : (l : List A) → List·Memᴰ x l
-          → (us : List A) × (vs : List A) × (length l ≡ suc (length (us ++ vs)))
-          × ((y : A) → List·Memᴰ y l → (x ≡ y → ⊥) → List·Memᴰ y (us ++ vs))
-      around [] k = absurd (List·Memᴰ·not-nil k)
-      around (z ∷ l) k =
-          ⊎-elim (λ e. ([], l, refl, λ y j d. ⊎-elim (λ q. absurd (d (e ∙ sym q))) (λ i. i) (List·Memᴰ·cases-cons j)))
-          (λ j.
-          let r = around l j in
-          (z ∷ r .0, r .1, ap suc (r .2), λ y i d. ⊎-elim List·Memᴰ·head (λ o. List·Memᴰ·tail (r .3 y o d)) (List·Memᴰ·cases-cons i)))
-          (List·Memᴰ·cases-cons k)
-
-module _ {A B : Type 0} where
-  -- two lists of one length whose elements are related place by place
-  abbrev pub Each : (A → B → Type 0) → List A → List B → Type 0
-  Each R [] [] = Unit {0}
-  Each R [] (y ∷ ys) = ⊥
-  Each R (x ∷ xs) [] = ⊥
-  Each R (x ∷ xs) (y ∷ ys) = R x y × Each R xs ys
-
-  -- they are as long, related at each place, and each of the first list has one of the second
-  pub each-length : (R : A → B → Type 0) (xs : List A) (ys : List B) → Each R xs ys → length ys ≡ length xs
-  each-length R [] [] e = refl
-  each-length R [] (y ∷ ys) e = absurd e
-  each-length R (x ∷ xs) [] e = absurd e
-  each-length R (x ∷ xs) (y ∷ ys) e = ap suc (each-length R xs ys (e .1))
-
-  pub each-at : (R : A → B → Type 0) (xs : List A) (ys : List B) → Each R xs ys
-      → (i : ℕ) (d : A) (c : B) → i < length xs → R (getD xs i d) (getD ys i c)
-  each-at R [] [] e i d c h = absurd (not-suc-le-zero h)
-  each-at R [] (y ∷ ys) e i d c h = absurd e
-  each-at R (x ∷ xs) [] e i d c h = absurd e
-  each-at R (x ∷ xs) (y ∷ ys) e zero d c h = e .0
-  each-at R (x ∷ xs) (y ∷ ys) e (suc i) d c h = each-at R xs ys (e .1) i d c (le-of-suc-le-suc h)
-
-  pub each-has : (R : A → B → Type 0) (xs : List A) (ys : List B) → Each R xs ys → (x : A) → List·Memᴰ x xs
-      → (y : B) × List·Memᴰ y ys × R x y
-  each-has R [] [] e x k = absurd (List·Memᴰ·not-nil k)
-  each-has R [] (y ∷ ys) e x k = absurd e
-  each-has R (z ∷ xs) [] e x k = absurd e
-  each-has R (z ∷ xs) (y ∷ ys) e x k =
-      ⊎-elim (λ p. (y, List·Memᴰ·head refl, subst (λ (w : A). R w y) (sym p) (e .0)))
-      (λ j. let r = each-has R xs ys (e .1) x j in (r .0, List·Memᴰ·tail (r .1), r .2))
-      (List·Memᴰ·cases-cons k)
-
-  -- what every step keeps, a fold keeps
-  pub fold-keeps : (Q : B → Type 0) (f : B → A → B) (xs : List A) → ((b : B) (x : A) → List·Memᴰ x xs → Q b → Q (f b x))
-      → (b : B) → Q b → Q (foldl f b xs)
-  fold-keeps Q f [] h b q = q
-  fold-keeps Q f (x ∷ xs) h b q =
-      fold-keeps Q f xs (λ c y k. h c y (List·Memᴰ·tail k)) (f b x) (h b x (List·Memᴰ·head refl) q)
-
-  -- a fold whose every step leads on, by a relation that is reflexive and transitive: it leads on as a whole, and for each
-  -- element on from some stage to its step, and from there to the end
-  module _ (R : B → B → Type 0) (same : (b : B) → R b b) (then : (b c d : B) → R b c → R c d → R b d) (f : B → A → B)
-      (step : (b : B) (x : A) → R b (f b x)) where
-    pub fold-leads : (b : B) (xs : List A) → R b (foldl f b xs)
-    fold-leads b xs = fold-keeps (R b) f xs (λ c x k r. then b c (f c x) r (step c x)) b (same b)
-
-    pub fold-at : (b : B) (xs : List A) (x : A) → List·Memᴰ x xs → (c : B) × R b c × R (f c x) (foldl f b xs)
-    fold-at b [] x k = absurd (List·Memᴰ·not-nil k)
-    fold-at b (y ∷ xs) x k =
-        ⊎-elim (λ e. (b, same b, subst (λ (z : A). R (f b z) (foldl f (f b y) xs)) (sym e) (fold-leads (f b y) xs)))
-        (λ j. let r = fold-at (f b y) xs x j in (r .0, then b (f b y) (r .0) (step b y) (r .1), r .2))
-        (List·Memᴰ·cases-cons k)

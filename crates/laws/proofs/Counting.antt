@@ -1,12 +1,13 @@
 -- Counting: how many elements of a list pass a test, where no element stands twice; and bags that are made by counting.
-use Prim.Native.Nat.{ℕ, suc, _+_, _-_, min, _≤_, zero-le}
-use native.Mathlib.Nat.{le-antisymm}
+use Prim.Native.Nat.{ℕ, suc, _+_, _-_, min, _≤_, zero-le, suc-le-suc}
+use native.Mathlib.Nat.{le-antisymm, le-of-suc-le-suc}
 use native.Mathlib.Omega.{arith}
 use mathlib.Core.Path.{_≡_, refl, sym, ap, _∙_, subst}
 use mathlib.Core.Bool.{Bool, true, false, cond, not}
 use mathlib.Core.Logic.{_⊎_, inl, inr, ⊎-elim}
-use mathlib.Core.List.{List, [], _∷_, _++_, map, List·Memᴰ, List·Memᴰ·head, List·Memᴰ·tail, List·Memᴰ·cases-cons, List·Memᴰ·not-nil, List·Memᴰ·append-cases, Memᴰ·append-left, Memᴰ·append-right, Memᴰ·of-map}
+use mathlib.Core.List.{List, [], _∷_, _++_, map, List·Memᴰ, List·Memᴰ·head, List·Memᴰ·tail, List·Memᴰ·cases-cons, List·Memᴰ·not-nil, List·Memᴰ·append-cases, List·Memᴰ·eq-of-singleton, Memᴰ·append-left, Memᴰ·append-right, Memᴰ·of-map}
 use lib.Dec.{leb}
+use lib.ListN.{length}
 use borrow.Author.Tests.{le-leb}
 use Rattle.laws.specs.Lists.{keep, count}
 use Rattle.laws.specs.Bags.{plus, less, meet, contains}
@@ -14,6 +15,57 @@ use Rattle.laws.proofs.Tests.{never, and-intro, by-test, not-true, to-n
 use Rattle.laws.proofs.Lists.{keep-at, keep-intro, count-append}
 
 module _ {A : Type 0} where
+  -- no more elements pass than there are
+  pub count-most : (f : A → Bool) (xs : List A) → count f xs ≤ length xs
+  unfolding count
+  count-most f [] = zero-le
+  count-most f (x ∷ xs) = go (f x) (count-most f xs)
+    where
+      go : (b : Bool) → count f xs ≤ length xs → cond b (suc (count f xs)) (count f xs) ≤ suc (length xs)
+      go true h = suc-le-suc h
+      go false h = omega arith
+
+  -- a test that passes whatever another passes counts as many or more; where it counts no more, the two agree
+  pub count-grows : (f g : A → Bool) (xs : List A) → ((x : A) → List·Memᴰ x xs → f x ≡ true → g x ≡ true) → count f xs ≤ count g xs
+  unfolding count
+  count-grows f g [] h = zero-le
+  count-grows f g (x ∷ xs) h = go (f x) (g x) (h x (List·Memᴰ·head refl)) (count-grows f g xs (λ y m. h y (List·Memᴰ·tail m)))
+    where
+      go : (b c : Bool) → (b ≡ true → c ≡ true) → count f xs ≤ count g xs
+          → cond b (suc (count f xs)) (count f xs) ≤ cond c (suc (count g xs)) (count g xs)
+      go true true k le = suc-le-suc le
+      go true false k le = never (sym (k refl))
+      go false true k le = omega arith
+      go false false k le = le
+
+  pub count-settles : (f g : A → Bool) (xs : List A) → ((x : A) → List·Memᴰ x xs → f x ≡ true → g x ≡ true)
+      → count g xs ≤ count f xs → (x : A) → List·Memᴰ x xs → g x ≡ f x
+  unfolding count
+  count-settles f g [] h le x m = absurd (List·Memᴰ·not-nil m)
+  count-settles f g (y ∷ ys) h le x m =
+      go (f y) refl (g y) refl (h y (List·Memᴰ·head refl)) (count-grows f g ys later) (λ less k. count-settles f g ys later less x k) le
+      (List·Memᴰ·cases-cons m)
+    where
+      later : (z : A) → List·Memᴰ z ys → f z ≡ true → g z ≡ true
+      later z k = h z (List·Memᴰ·tail k)
+
+      go : (b : Bool) → f y ≡ b → (c : Bool) → g y ≡ c → (b ≡ true → c ≡ true) → count f ys ≤ count g ys
+          → (count g ys ≤ count f ys → List·Memᴰ x ys → g x ≡ f x)
+          → cond c (suc (count g ys)) (count g ys) ≤ cond b (suc (count f ys)) (count f ys)
+          → (x ≡ y) ⊎ List·Memᴰ x ys → g x ≡ f x
+      go true p true q k grows rest most (inl e) = cc
+      go true p true q k grows rest most (inr j) = rest (le-of-suc-le-suc most) j
+      go true p false q k grows rest most e = never (sym (k refl))
+      go false p true q k grows rest most e = absurd (omega arith)
+      go false p false q k grows rest most (inl e) = cc
+      go false p false q k grows rest most (inr j) = rest most j
+
+  -- a test that always passes counts all
+  count-all : (xs : List A) → count (λ x. true) xs ≡ length xs
+  unfolding count
+  count-all [] = refl
+  count-all (x ∷ xs) = ap suc (count-all xs)
+
   -- no element stands twice
   abbrev pub NoRepeat : List A → Type 0
   NoRepeat [] = Unit {0}
@@ -131,6 +183,20 @@ module _ {A : Type 0} where
     no-repeat-append xs ys (p .1) q (λ y m. differ y (List·Memᴰ·tail m)),
   )
 
+  -- a new element at the end repeats nothing
+  pub no-repeat-end : (xs : List A) (x : A) → NoRepeat xs → (List·Memᴰ x xs → ⊥) → NoRepeat (xs ++ (x ∷ []))
+  no-repeat-end xs x p d =
+      no-repeat-append xs (x ∷ []) p (λ k. List·Memᴰ·not-nil k, tt)
+      (λ y m k. d (subst (λ (z : A). List·Memᴰ z xs) (List·Memᴰ·eq-of-singleton k) m))
+
+  -- a list that repeats nothing is at most as long as one that has all its elements
+  pub no-repeat-length : (xs ys : List A) → NoRepeat xs → ((x : A) → List·Memᴰ x xs → List·Memᴰ x ys) → length xs ≤ length ys
+  no-repeat-length xs ys apart inside =
+      let fewer = count-within (λ x. true) xs ys apart inside in
+      let first = count-all xs in
+      let second = count-all ys in
+      omega arith
+
   -- elements taken out of a list: the count falls by theirs
   pub count-removed : (f gone : A → Bool) (xs out : List A) → Picks gone out → NoRepeat xs → NoRepeat out
       → ((x : A) → List·Memᴰ x out → List·Memᴰ x xs) → count f (keep (λ x. not (gone x)) xs) + count f out ≡ count f xs
@@ -184,12 +250,6 @@ module _ {A B : Type 0} where
   unfolding count
   count-map f g [] = refl
   count-map f g (x ∷ xs) = ap (λ (n : ℕ). cond (f (g x)) (suc n) n) (count-map f g xs)
-
-  -- functions that agree give the same list
-  pub map-ext : (f g : A → B) (xs : List A) → ((x : A) → List·Memᴰ x xs → f x ≡ g x) → map f xs ≡ map g xs
-  map-ext f g [] e = refl
-  map-ext f g (x ∷ xs) e =
-      ap (λ (y : B). y ∷ map f xs) (e x (List·Memᴰ·head refl)) ∙ ap (λ (l : List B). g x ∷ l) (map-ext f g xs (λ y m. e y (List·Memᴰ·tail m)))
 
 -- bags over one list of properties: what is done to them is done property by property
 module _ {A : Type 0} where

@@ -109,3 +109,19 @@ module _ (low high : ℕ) where
   pub need-both-within : {A : Type 0} (test : Bool) (number : ℕ) (y : Answer A) → (leb low number && leb number high) ≡ true
       → RefusedWithin low high y → RefusedWithin low high (need test number >> y)
   need-both-within test number y h q = both-within (need test number) y (need-within test number h) q
+
+-- the parts of an accepted sequence, one by one
+pub not-accepted : {A C : Type 0} (n : ℕ) (a : A) → refused n ≡ accepted a → C
+not-accepted n a e = accepted-not-refused (sym e)
+
+pub first-passed : {A : Type 0} (x : Answer (Unit {0})) (y : Answer A) (a : A) → (x >> y) ≡ accepted a → x ≡ accepted tt
+first-passed x y a e = both-inv x y e λ p q. p
+
+pub then-passed : {A : Type 0} (x : Answer (Unit {0})) (y : Answer A) (a : A) → (x >> y) ≡ accepted a → y ≡ accepted a
+then-passed x y a e = both-inv x y e λ p q. q
+
+pub need-passed : {A : Type 0} (test : Bool) (number : ℕ) (y : Answer A) (a : A) → (need test number >> y) ≡ accepted a → test ≡ true
+need-passed test number y a e = need-both-inv test number y e λ p q. p
+
+pub need-then : {A : Type 0} (test : Bool) (number : ℕ) (y : Answer A) (a : A) → (need test number >> y) ≡ accepted a → y ≡ accepted a
+need-then test number y a e = then-passed (need test number) y a e

@@ -17,7 +17,7 @@ use Rattle.model.specs.Answer.{Answer, accepted}
 use Rattle.model.specs.Card.{Atom, Schema, Task, between}
 use Rattle.model.specs.Writer.{known, checkSchemaAtom, checkList, checkSchema, checkFact, checkTask, atomBytes, listBytes, roleBytes, bitFor, schemaBytes, taskBytes}
 use Rattle.model.proofs.Answers.{need-both-inv}
-use Rattle.model.proofs.CheckParts.{between-parts, known-parts, each-at, checkedSchema, checked}
+use Rattle.model.proofs.CheckParts.{between-parts, known-parts, each-at, schema-parts, task-parts}
 
 -- every number is a byte
 abbrev pub areBytes : List ℕ → Bool
@@ -116,7 +116,7 @@ module _ (arities : List ℕ) (few : between 1 20 (length arities) ≡ true) (sm
   schema-size : (s : Schema) → checkSchema arities s ≡ accepted tt → Bytes 101 (schemaBytes s)
   unfolding schemaBytes
   schema-size s e =
-      let c = checkedSchema arities s e in
+      let c = schema-parts arities s e in
       let n = s .parameters in
       let atoms = schemaAtom-size n (c .parameters) in
       let roles = roleBytes n in
@@ -134,7 +134,7 @@ module _ (arities : List ℕ) (few : between 1 20 (length arities) ≡ true) (sm
 pub card-size : (t : Task) → checkTask t ≡ accepted tt → Bytes 5305 (taskBytes t)
 unfolding taskBytes
 card-size t e =
-    let c = checked t e in
+    let c = task-parts t e in
     let predicates = between-parts 1 20 (length (t .arities)) (c .predicates) in
     let objects = between-parts 1 64 (t .objects) (c .objects) in
     let schemas = leb-true (length (t .schemas)) 32 (c .few-schemas) in

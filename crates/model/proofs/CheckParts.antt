@@ -48,7 +48,7 @@ unfolding known
 known-intro arities bound a k =
     and-intro _ _ (and-intro _ _ (k .predicate) (eq-eqb (length (a .arguments)) (getD arities (a .predicate) 0) (k .arity))) (k .arguments)
 
--- each item of a list that passes was checked, told some item before it
+-- each item of a list that passes was task-parts, told some item before it
 pub each-at : {A : Type 0} (check : Option A → A → Answer (Unit {0})) (previous : Option A) (xs : List A)
     → each check previous xs ≡ accepted tt → (x : A) → List·Memᴰ x xs → (earlier : Option A) × (check earlier x ≡ accepted tt)
 unfolding each
@@ -58,27 +58,27 @@ each-at check previous (y ∷ ys) e x m =
     ⊎-elim (λ p. (previous, rw p h)) (λ j. each-at check (some y) ys k x j) (List·Memᴰ·cases-cons m)
 
 -- an accepted schema
-pub record CheckedSchema (arities : List ℕ) (s : Schema) : Type 0 where
+pub record SchemaParts (arities : List ℕ) (s : Schema) : Type 0 where
   pub parameters : between 1 6 (s .parameters) ≡ true
   pub preconditions : checkList (checkSchemaAtom arities (s .parameters) (λ a. true) 8) (s .preconditions) ≡ accepted tt
   pub deletes : checkList (checkSchemaAtom arities (s .parameters) (has (s .preconditions)) 9) (s .deletes) ≡ accepted tt
   pub adds : checkList (checkSchemaAtom arities (s .parameters) (λ a. not (has (s .preconditions) a)) 10) (s .adds) ≡ accepted tt
 
-pub checkedSchema : (arities : List ℕ) (s : Schema) → checkSchema arities s ≡ accepted tt → CheckedSchema arities s
+pub schema-parts : (arities : List ℕ) (s : Schema) → checkSchema arities s ≡ accepted tt → SchemaParts arities s
 unfolding checkSchema
-checkedSchema arities s e =
+schema-parts arities s e =
     need-both-inv (between 1 6 (s .parameters)) 5 _ e λ h₁ e₁.
     both-inv (checkList _ (s .preconditions)) _ e₁ λ h₂ e₂.
     both-inv (checkList _ (s .deletes)) _ e₂ λ h₃ h₄.
     record { parameters = h₁; preconditions = h₂; deletes = h₃; adds = h₄ }
 
-pub checkSchema-intro : (arities : List ℕ) (s : Schema) → CheckedSchema arities s → checkSchema arities s ≡ accepted tt
+pub checkSchema-intro : (arities : List ℕ) (s : Schema) → SchemaParts arities s → checkSchema arities s ≡ accepted tt
 unfolding checkSchema
 checkSchema-intro arities s c =
     need-both 5 _ (c .parameters) ∙ both-accepted _ (c .preconditions) ∙ both-accepted _ (c .deletes) ∙ c .adds
 
 -- an accepted table
-pub record Checked (t : Task) : Type 0 where
+pub record TaskParts (t : Task) : Type 0 where
   pub predicates : between 1 20 (length (t .arities)) ≡ true
   pub arities : all (between 1 3) (t .arities) ≡ true
   pub objects : between 1 64 (t .objects) ≡ true
@@ -87,9 +87,9 @@ pub record Checked (t : Task) : Type 0 where
   pub few-facts : leb (length (t .facts)) 512 ≡ true
   pub facts : each (checkFact (t .arities) (t .objects)) none (t .facts) ≡ accepted tt
 
-pub checked : (t : Task) → checkTask t ≡ accepted tt → Checked t
+pub task-parts : (t : Task) → checkTask t ≡ accepted tt → TaskParts t
 unfolding checkTask
-checked t e =
+task-parts t e =
     need-both-inv (between 1 20 (length (t .arities))) 2 _ e λ h₁ e₁.
     need-both-inv (all (between 1 3) (t .arities)) 2 _ e₁ λ h₂ e₂.
     need-both-inv (between 1 64 (t .objects)) 3 _ e₂ λ h₃ e₃.
@@ -106,7 +106,7 @@ checked t e =
       facts = h₇;
     }
 
-pub checkTask-intro : (t : Task) → Checked t → checkTask t ≡ accepted tt
+pub checkTask-intro : (t : Task) → TaskParts t → checkTask t ≡ accepted tt
 unfolding checkTask
 checkTask-intro t c =
     need-both 2 _ (c .predicates) ∙ need-both 2 _ (c .arities) ∙ need-both 3 _ (c .objects) ∙ need-both 4 _ (c .few-schemas)

@@ -14,7 +14,8 @@ use Rattle.laws.specs.Lists.{from, upTo, before}
 use Rattle.laws.specs.Bags.{Bag, plus, less, meet, contains}
 use Rattle.laws.proofs.Tests.{never, and-left, and-right, and-intro, or-left, or-right}
 use Rattle.laws.proofs.Lists.{flatMap-at, flatMap-intro, from-at, upTo-at, upTo-intro}
-use Rattle.laws.proofs.Bags.{Pairwise, pairwise-append, contains-length}
+use Rattle.laws.proofs.Bags.{contains-length}
+use Rattle.laws.proofs.Relations.{Pairwise, pairwise-append}
 use Rattle.model.specs.Extension.{Move, choices, results}
 
 -- the choices below the caps are the bags that the caps contain

@@ -11,7 +11,9 @@ use Rattle.laws.specs.Lists.{any, all, keep, upTo, member}
 use Rattle.laws.specs.Bags.{isEmpty, support}
 use Rattle.laws.proofs.Tests.{and-left, and-right, and-intro, or-cases, or-left, or-right}
 use Rattle.laws.proofs.Lists.{all-at, all-intro, any-at, keep-at, upTo-at, member-at}
-use Rattle.laws.proofs.Groups.{map-ext, any-map, any-ext, all-ext, keep-ext, member-keep-upTo, repeat, repeat-closes}
+use Rattle.laws.proofs.Mapped.{map-ext, any-map, any-ext, all-ext, keep-ext}
+use Rattle.laws.proofs.Numbers.{member-keep-upTo}
+use Rattle.laws.proofs.Closure.{repeat, repeat-closes}
 use Rattle.model.specs.Card.{Task}
 use Rattle.model.specs.Transitions.{Transition, properties, transitions}
 use Rattle.model.specs.Spaces.{Space, grouping, moves, condition, initialSpace, initialSpaces, hasMember, admits, gain, round, rounds, spaces}

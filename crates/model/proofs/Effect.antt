@@ -10,7 +10,8 @@ use lib.ListN.{length, getD, length-map}
 use Rattle.laws.specs.Lists.{all, keep, count, member, distinct}
 use Rattle.laws.specs.Bags.{Bag, plus, less, meet, contains}
 use Rattle.laws.proofs.Lists.{all-at, keep-at}
-use Rattle.laws.proofs.Counting.{NoRepeat, count-within, count-split, count-removed, count-joined, count-map, no-repeat-keep, map-ext, less-map, plus-map, meet-map, contains-map}
+use Rattle.laws.proofs.Counting.{NoRepeat, count-within, count-split, count-removed, count-joined, count-map, no-repeat-keep, less-map, plus-map, meet-map, contains-map}
+use Rattle.laws.proofs.Mapped.{map-ext}
 use Rattle.model.specs.Answer.{accepted}
 use Rattle.model.specs.Card.{Atom, Schema, Task, has}
 use Rattle.model.specs.Writer.{checkTask}
@@ -19,10 +20,11 @@ use Rattle.model.specs.Transitions.{Property, properties, occurs, bagOf}
 use Rattle.model.specs.Lines.{ofPredicate}
 use Rattle.model.specs.Truth.{Allowed}
 use Rattle.model.proofs.Valid.{Valid}
-use Rattle.model.proofs.Putting.{putAll, has-picks, ascending-no-repeat, putAll-ascending, putAll-stays, putAll-there, putAll-at}
+use Rattle.model.proofs.Putting.{putAll, has-picks, putAll-ascending, putAll-stays, putAll-there, putAll-at}
+use Rattle.model.proofs.Order.{ascending-no-repeat, known-arguments}
 use Rattle.model.proofs.Binding.{bounded, ground-no-repeat, count-bound, count-elsewhere}
-use Rattle.model.proofs.Order.{known-arguments}
-use Rattle.model.proofs.Buffer.{CheckedList, CheckedSchema, CheckedAction, checked, schemaAt-right, checked-action, keep-ascending}
+use Rattle.model.proofs.Checked.{CheckedSchema, checked, CheckedList, CheckedAction, schemaAt-right, checked-action}
+use Rattle.model.proofs.States.{keep-ascending}
 
 -- Some atoms of a schema with an action's objects: every parameter has an object, and the facts they become differ.
 pub record Grounded (objects : List ℕ) (atoms : List Atom) : Type 0 where

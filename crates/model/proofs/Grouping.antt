@@ -14,7 +14,10 @@ use Rattle.laws.specs.Lists.{upTo}
 use Rattle.laws.specs.Bags.{Bag, plus, less, meet, isEmpty, single, support}
 use Rattle.laws.proofs.Tests.{or-cases, or-left, or-right, cond-true, cond-false, by-test}
 use Rattle.laws.proofs.Lists.{length-upTo, getD-upTo, flatMap-at}
-use Rattle.laws.proofs.Groups.{foldl-keeps, foldl-reaches, getD-map, min-cases, length-plus, length-less, length-meet, length-single, support-below}
+use Rattle.laws.proofs.Folds.{foldl-keeps, foldl-reaches}
+use Rattle.laws.proofs.Mapped.{getD-map}
+use Rattle.laws.proofs.Closure.{min-cases}
+use Rattle.laws.proofs.Bags.{length-plus, length-less, length-meet, length-single, support-at}
 use Rattle.model.specs.Card.{Atom, Task}
 use Rattle.model.specs.Transitions.{Property, Transition, properties, bagOf, exchanges, remaining, rulesOf, parameterRules, transitions}
 use Rattle.model.specs.Spaces.{moved, unite, uniteAll, grouping}
@@ -269,7 +272,7 @@ exchanges-sized p x r m =
     let q = Memᴰ·of-map _ (support x) m in
     subst (Sized (length p)) (q .2)
     (record {
-      enablers = length-less p (single (length p) (q .0)) (sym (length-single (length p) (q .0)));
+      enablers = length-less (length p) p (single (length p) (q .0)) refl (length-single (length p) (q .0));
       start = length-single (length p) (q .0);
       finish = length-single (length p) (q .0);
     })
@@ -287,19 +290,19 @@ remaining-sized p start finish es ef r = go (isEmpty start)
     go true m =
         let q = Memᴰ·of-map _ (support finish) m in
         subst (Sized (length p)) (q .2)
-        (record { enablers = length-less p start (sym es); start = es; finish = length-single (length p) (q .0) })
+        (record { enablers = length-less (length p) p start refl es; start = es; finish = length-single (length p) (q .0) })
     go false m =
         subst (Sized (length p)) (sym (List·Memᴰ·eq-of-singleton m))
-        (record { enablers = length-less p start (sym es); start = es; finish = ef })
+        (record { enablers = length-less (length p) p start refl es; start = es; finish = ef })
 
 rulesOf-sized : (p d a : Bag) → length d ≡ length p → length a ≡ length p
     → (r : Transition) → List·Memᴰ r (rulesOf p d a) → Sized (length p) r
 unfolding rulesOf
 rulesOf-sized p d a ed ea r m =
-    let common : length (meet d a) ≡ length p = length-meet d a (ed ∙ sym ea) ∙ ed in
+    let common : length (meet d a) ≡ length p = length-meet (length p) d a ed ea in
     ⊎-elim (exchanges-sized p (meet d a) r)
     (remaining-sized p (less d (meet d a)) (less a (meet d a))
-    (length-less d (meet d a) (ed ∙ sym common) ∙ ed) (length-less a (meet d a) (ea ∙ sym common) ∙ ea) r)
+    (length-less (length p) d (meet d a) ed common) (length-less (length p) a (meet d a) ea common) r)
     (List·Memᴰ·append-cases (exchanges p (meet d a)) m)
 
 length-bagOf : (cs : List Property) (atoms : List Atom) (x : ℕ) → length (bagOf cs atoms x) ≡ length cs
@@ -324,5 +327,5 @@ pub moved-known : (t : Task) (r : Transition) → List·Memᴰ r (transitions t)
 unfolding moved
 moved-known t r m c k =
     let sized = transitions-sized t r m in
-    subst (λ (n : ℕ). c < n) (length-plus (r .start) (r .finish) (sized .start ∙ sym (sized .finish)) ∙ sized .start)
-    (support-below (plus (r .start) (r .finish)) c k)
+    subst (λ (n : ℕ). c < n) (length-plus (length (properties t)) (r .start) (r .finish) (sized .start) (sized .finish))
+    (support-at (plus (r .start) (r .finish)) c k .0)

@@ -1,36 +1,38 @@
 -- The invariant of a history: what is so of the initial state and stays so under every allowed action.
-use Prim.Native.Nat.{ℕ, zero, suc, _+_, _-_, _≤_, _<_, min}
+use Prim.Native.Nat.{ℕ, _+_, _-_, _≤_, _<_, min}
 use native.Mathlib.Nat.{le-refl}
 use native.Mathlib.Omega.{arith}
 use mathlib.Core.Path.{_≡_, refl, sym, ap, _∙_, subst}
 use mathlib.Core.Bool.{Bool, true, false, _&&_}
-use mathlib.Core.Logic.{_⊎_, inl, inr, ⊎-elim}
-use mathlib.Core.List.{List, [], _∷_, map, foldl, List·Memᴰ, Memᴰ·map}
+use mathlib.Core.Logic.{_⊎_, inl, inr}
+use mathlib.Core.List.{List, [], map, List·Memᴰ, Memᴰ·map}
 use lib.Dec.{leb, ltb, eqb}
 use lib.ListN.{length, getD, length-map}
-use borrow.Author.Tests.{leb-true, ltb-true, ltb-false, eqb-true}
-use Rattle.laws.specs.Lists.{all, any, count, upTo, member, distinct, standsAt}
+use borrow.Author.Tests.{leb-true, ltb-true, ltb-false}
+use Rattle.laws.specs.Lists.{all, any, count, upTo, member, standsAt}
 use Rattle.laws.specs.Bags.{Bag, plus, less, meet, contains, isEmpty, single, support, restrict}
-use Rattle.laws.proofs.Tests.{never, by-test, and-left, and-right}
+use Rattle.laws.proofs.Tests.{never, by-test}
 use Rattle.laws.proofs.Lists.{all-at, any-at, any-none, count-none, member-at, member-intro, mem-getD, place-of, length-upTo}
 use Rattle.laws.proofs.Sums.{count-members, standsAt-member}
-use Rattle.laws.proofs.Groups.{count-most, getD-map, distinct-places}
-use Rattle.laws.proofs.Bags.{length-less, length-meet, getD-plus, getD-less, getD-meet, length-plus, contains-at, contains-length, isEmpty-at, isEmpty-intro, isEmpty-not, less-empty, length-single, single-here, support-at, length-restrict, getD-restrict, restrict-plus, restrict-less, restrict-meet, restrict-contains, restrict-isEmpty, restrict-single}
+use Rattle.laws.proofs.Counting.{count-most}
+use Rattle.laws.proofs.Mapped.{getD-map}
+use Rattle.laws.proofs.Numbers.{distinct-places}
+use Rattle.laws.proofs.Bags.{length-less, getD-plus, getD-less, getD-meet, length-plus, contains-at, isEmpty-at, isEmpty-intro, isEmpty-not, length-single, single-here, support-at, length-restrict, getD-restrict, restrict-plus, restrict-less, restrict-meet, restrict-contains, restrict-isEmpty, restrict-single}
 use Rattle.model.specs.Answer.{accepted}
 use Rattle.model.specs.Card.{Atom, Task, Schema}
 use Rattle.model.specs.Writer.{known, checkTask}
 use Rattle.model.specs.Strips.{State, Action, schemaAt, successor}
 use Rattle.model.specs.Transitions.{Property, Transition, properties, occurs, bagOf, transitions}
 use Rattle.model.specs.Spaces.{Space, property, condition, moved, spaces, kindOf}
-use Rattle.model.specs.Extension.{Move, mostConditions, adjoin}
+use Rattle.model.specs.Extension.{mostConditions}
 use Rattle.model.specs.Lines.{movesOf, initialConditions, ofPredicate}
 use Rattle.model.specs.Truth.{Allowed}
 use Rattle.model.proofs.Valid.{Valid}
 use Rattle.model.proofs.Order.{known-arguments}
-use Rattle.model.proofs.Buffer.{Checked, checked, CheckedAction, checked-action}
+use Rattle.model.proofs.Checked.{checked, CheckedAction, checked-action}
 use Rattle.model.proofs.ListedSpace.{Listed, extensionOf}
 use Rattle.model.proofs.Sections.{Capped}
-use Rattle.model.proofs.SpaceFacts.{space-of, rule-in-one-space, increasing-members, initial-members, members-known, members-distinct, properties-distinct, properties-known, property-rules}
+use Rattle.model.proofs.SpaceFacts.{rule-in-one-space, increasing-members, initial-members, members-known, members-distinct, properties-distinct, properties-known, property-rules}
 use Rattle.model.proofs.OwnLists.{own-list-at, adjoin-all-has, adjoin-all-length}
 use Rattle.model.proofs.Chain.{chain, exchange, rest}
 use Rattle.model.proofs.Effect.{Effect, effect-on-parameter, effect-elsewhere, effect-on-predicate}

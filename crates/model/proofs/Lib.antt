@@ -2,7 +2,10 @@ pub mod Vectors
 pub mod Valid
 pub mod Order
 pub mod Window
+pub mod Checked
+pub mod States
 pub mod Buffer
+pub mod History
 pub mod Answers
 pub mod CheckParts
 pub mod Codec

@@ -3,38 +3,38 @@
 -- listing-holds: for every run of bytes C that decode accepts, every buffer that the opening call accepts, and every list of press
 -- calls on C (any schema number, any list of object numbers, each accepted or refused by any number), `Holds` of specs/Truth.antt is so
 -- of the state in the buffer up to the count last answered.
-use Prim.Native.Nat.{ℕ, zero, suc, _*_, _≤_, _<_, max}
+use Prim.Native.Nat.{ℕ, _≤_, _<_}
 use native.Mathlib.Nat.{le-trans}
 use native.Mathlib.Omega.{arith}
 use mathlib.Core.Path.{_≡_, refl, sym, ap, _∙_, subst}
 use mathlib.Core.Bool.{Bool, true, false, cond, not, _&&_}
-use mathlib.Core.Logic.{_⊎_, inl, inr, ⊎-elim}
-use mathlib.Core.List.{List, [], _∷_, map, List·Memᴰ, List·Memᴰ·head, List·Memᴰ·tail, List·Memᴰ·cases-cons, List·Memᴰ·not-nil, List·Memᴰ·eq-of-singleton, Memᴰ·map, Memᴰ·of-map}
-use lib.Dec.{leb, ltb, eqb}
+use mathlib.Core.Logic.{⊎-elim}
+use mathlib.Core.List.{List, [], _∷_, map, List·Memᴰ, List·Memᴰ·head, List·Memᴰ·cases-cons, List·Memᴰ·not-nil, List·Memᴰ·eq-of-singleton, Memᴰ·map, Memᴰ·of-map}
+use lib.Dec.{ltb, eqb}
 use lib.ListN.{length, getD}
 use borrow.Author.Tests.{eqb-true, ltb-true}
-use Rattle.laws.specs.Lists.{any, all, keep, upTo, member, distinct}
-use Rattle.laws.specs.Bags.{Bag, contains, strictlyContains, isEmpty, support}
-use Rattle.laws.proofs.Tests.{never, by-test, and-left, and-right, and-intro, not-true, to-not-true}
-use Rattle.laws.proofs.Lists.{all-at, all-intro, any-intro, any-none, keep-intro, member-at, member-intro, mem-getD, place-of, upTo-intro}
+use Rattle.laws.specs.Lists.{any, all, upTo, member, distinct}
+use Rattle.laws.specs.Bags.{Bag, contains, strictlyContains, support}
+use Rattle.laws.proofs.Tests.{by-test, and-intro, not-true, to-not-true}
+use Rattle.laws.proofs.Lists.{all-at, all-intro, any-intro, any-none, keep-intro, member-intro, mem-getD, place-of, upTo-intro}
 use Rattle.laws.proofs.Bags.{least-below, contains-at, support-at}
 use Rattle.model.specs.Answer.{accepted}
 use Rattle.model.specs.Card.{Task, decode}
 use Rattle.model.specs.Writer.{checkTask}
-use Rattle.model.specs.Strips.{State, Action, schemaAt, successor}
+use Rattle.model.specs.Strips.{State, Action, schemaAt}
 use Rattle.model.specs.Transitions.{properties, bagOf}
 use Rattle.model.specs.Spaces.{Space, Kind, property, condition, spaces, hasMember}
-use Rattle.model.specs.Lines.{Line, space, state, limit, membership, exclusion, total, ceiling, types, Analysis, analysis, analyse, countOf, largest, minimal, excluded, spaceLines, propertyNumber, oneNumber, ofPredicate}
-use Rattle.model.specs.Extension.{joined}
+use Rattle.model.specs.Lines.{Line, space, state, limit, membership, exclusion, total, ceiling, Analysis, analysis, analyse, countOf, largest, minimal, excluded, spaceLines, propertyNumber, oneNumber, ofPredicate}
 use Rattle.model.specs.Calls.{initial, history, stateOf}
 use Rattle.model.specs.Truth.{_isOn_, _isSectionOf_, statesOf, countIn, Allowed, Holds}
 use Rattle.model.proofs.Valid.{Valid}
-use Rattle.model.proofs.Buffer.{history-induction, checked, checked-action}
+use Rattle.model.proofs.Checked.{checked, checked-action}
+use Rattle.model.proofs.History.{history-induction}
 use Rattle.model.proofs.RoundTrip.{decode-checks}
-use Rattle.model.proofs.ListedSpace.{Listed, extensionOf, listed-as-property, conditions-listed, space-of-analysis, analysed, spaces-of-analysis}
+use Rattle.model.proofs.ListedSpace.{extensionOf, listed-as-property, conditions-listed, space-of-analysis, analysed, spaces-of-analysis}
 use Rattle.model.proofs.OwnLists.{joined-has, own-lists-length}
 use Rattle.model.proofs.SpaceFacts.{space-of, members-known, members-distinct}
-use Rattle.model.proofs.Sections.{on-space, on-limit, on-exclusion, on-total, on-ceiling, on-types, types-on, typed, states-of-space, state-on, membership-on, TotalLine}
+use Rattle.model.proofs.Sections.{on-space, on-limit, on-exclusion, on-total, on-ceiling, on-types, types-on, typed, states-of-space, state-on, membership-on}
 use Rattle.model.proofs.Totals.{total-by-members, count-of-condition}
 use Rattle.model.proofs.Effect.{effect-on-parameter}
 use Rattle.model.proofs.ParameterRules.{length-bagOf}

@@ -12,7 +12,8 @@ use Rattle.laws.specs.Lists.{all, same, before}
 use Rattle.laws.proofs.Tests.{never, and-left, and-right, and-intro, by-test}
 use Rattle.laws.proofs.Lists.{any-at, any-intro, same-eq, same-refl}
 use Rattle.laws.proofs.Orders.{before-cases, before-first, before-rest, before-irreflexive, before-transitive, before-total, before-head}
-use Rattle.laws.proofs.Orders.{before-append, NoRepeat, none-twice, one-more}
+use Rattle.laws.proofs.Orders.{before-append}
+use Rattle.laws.proofs.Counting.{NoRepeat}
 use Rattle.model.specs.Card.{Atom, below, sameAtom, has, above}
 use Rattle.model.specs.Writer.{known, atomBytes}
 use Rattle.model.specs.Strips.{State, filler, factBytes, ascending}
@@ -205,6 +206,6 @@ ascending-distinct f fs e = has-none fs f (ascending-absent f fs e)
 
 -- in an ascending list no fact stands twice
 pub ascending-no-repeat : (previous : Option Atom) (s : State) → ascending previous s ≡ true → NoRepeat s
-ascending-no-repeat previous [] e = none-twice
+ascending-no-repeat previous [] e = tt
 ascending-no-repeat previous (f ∷ fs) e =
-    one-more (ascending-absent f fs (ascending-tail previous f fs e)) (ascending-no-repeat (some f) fs (ascending-tail previous f fs e))
+    let later = ascending-tail previous f fs e in (ascending-absent f fs later, ascending-no-repeat (some f) fs later)

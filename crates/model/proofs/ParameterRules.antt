@@ -1,15 +1,15 @@
 -- The rules that a parameter of a schema gives: its exchanges, and the remaining rule or the increasing ones.
-use Prim.Native.Nat.{ℕ, _+_, _<_, _≤_}
+use Prim.Native.Nat.{ℕ, _<_}
 use native.Mathlib.Omega.{arith}
-use mathlib.Core.Path.{_≡_, refl, sym, ap, _∙_, subst}
-use mathlib.Core.Bool.{Bool, true, false, cond}
-use mathlib.Core.List.{List, [], _∷_, _++_, map, List·Memᴰ, List·Memᴰ·head, Memᴰ·append-left, Memᴰ·append-right, Memᴰ·map}
+use mathlib.Core.Path.{_≡_, refl, sym, _∙_, subst}
+use mathlib.Core.Bool.{true, false}
+use mathlib.Core.List.{List, [], _∷_, map, List·Memᴰ, List·Memᴰ·head, Memᴰ·append-left, Memᴰ·append-right, Memᴰ·map}
 use lib.ListN.{length, getD, length-map}
 use Rattle.laws.specs.Lists.{upTo}
 use Rattle.laws.specs.Bags.{Bag, plus, less, meet, isEmpty, single, support}
 use Rattle.laws.proofs.Tests.{cond-true, cond-false}
 use Rattle.laws.proofs.Lists.{flatMap-intro, upTo-intro}
-use Rattle.laws.proofs.Bags.{length-plus, length-less, length-meet, getD-plus, support-intro, length-single, single-here}
+use Rattle.laws.proofs.Bags.{length-plus, length-less, length-meet, getD-plus, support-intro}
 use Rattle.model.specs.Card.{Atom, Task, Schema}
 use Rattle.model.specs.Transitions.{Transition, properties, bagOf, exchanges, remaining, rulesOf, parameterRules, transitions}
 use Rattle.model.specs.Spaces.{moved}

@@ -1,16 +1,15 @@
--- A state repeats no fact, and what it has after facts are put in one after the other.
+-- What a state has after facts are put in one after the other.
 use mathlib.Core.Path.{_≡_, refl, sym, subst}
 use mathlib.Core.Bool.{true}
 use mathlib.Core.Logic.{_⊎_, inl, inr, ⊎-elim}
 use mathlib.Core.List.{List, [], _∷_, foldl, List·Memᴰ, List·Memᴰ·head, List·Memᴰ·tail, List·Memᴰ·cases-cons, List·Memᴰ·not-nil}
-use mathlib.Core.Option.{Option, none, some}
-use Rattle.laws.proofs.Tests.{and-right}
+use mathlib.Core.Option.{none}
 use Rattle.laws.proofs.Lists.{any-at, any-intro}
-use Rattle.laws.proofs.Counting.{NoRepeat, Picks}
+use Rattle.laws.proofs.Counting.{Picks}
 use Rattle.model.specs.Card.{Atom, sameAtom, has, above}
 use Rattle.model.specs.Strips.{State, ascending, put}
-use Rattle.model.proofs.Order.{sameAtom-eq, sameAtom-refl, ascending-absent}
-use Rattle.model.proofs.Buffer.{put-ascending, put-there, put-stays, put-at}
+use Rattle.model.proofs.Order.{sameAtom-eq, sameAtom-refl}
+use Rattle.model.proofs.States.{put-ascending, put-there, put-stays, put-at}
 
 -- the test for an atom on a list is membership
 pub has-picks : (atoms : List Atom) → Picks (has atoms) atoms
@@ -21,14 +20,6 @@ has-picks atoms = record {
       subst (λ (b : Atom). List·Memᴰ b atoms) (sym (sameAtom-eq a (r .0) (r .2))) (r .1);
   picks = λ a m. any-intro (sameAtom a) atoms a m (sameAtom-refl a);
 }
-
--- an ascending list repeats nothing
-pub ascending-no-repeat : (previous : Option Atom) (s : State) → ascending previous s ≡ true → NoRepeat s
-unfolding ascending
-ascending-no-repeat previous [] e = tt
-ascending-no-repeat previous (f ∷ s) e =
-    let later = and-right (above previous f) (ascending (some f) s) e in
-    (ascending-absent f s later, ascending-no-repeat (some f) s later)
 
 -- facts put in one after the other
 abbrev pub putAll : State → List Atom → State

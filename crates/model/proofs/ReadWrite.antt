@@ -16,7 +16,7 @@ use Rattle.model.specs.Answer.{Answer, accepted, _>>=_, _>>_, need}
 use Rattle.model.specs.Card.{Atom, Schema, Reader, above, between, has, byte, byteThat, many, atom, schemaAtom, list, roleCount, bit, schema, fact, factCount}
 use Rattle.model.specs.Writer.{each, known, checkSchemaAtom, checkList, checkSchema, checkFact, atomBytes, listBytes, roleBytes, bitFor, schemaBytes}
 use Rattle.model.proofs.Answers.{accepted-not-refused, one-value, need-inv, need-accepted, need-both-inv, need-both}
-use Rattle.model.proofs.CheckParts.{known-parts, known-intro, between-parts, between-intro, checkedSchema, checkSchema-intro}
+use Rattle.model.proofs.CheckParts.{known-parts, known-intro, between-parts, between-intro, schema-parts, checkSchema-intro}
 use Rattle.model.proofs.Codec.{Codec, answered, absent-codec, reads-then, back-then, refit, byteThat-codec, many-codec, bytes-codec}
 
 -- an atom
@@ -234,7 +234,7 @@ schema-codec arities = record {
         cc (schema-fields x s₅, map-of-bits bits h₁),
       );
   back = λ s rest e.
-      let c = checkedSchema arities s e in
+      let c = schema-parts arities s e in
       let m = schemaMap s in
       let n = s .parameters in
       let pre = s .preconditions in

@@ -18,7 +18,7 @@ use Rattle.model.specs.Card.{Task, between, factCount, isEnd, decode}
 use Rattle.model.specs.Writer.{checkTask, atomBytes, schemaBytes, taskBytes}
 use Rattle.model.specs.Calls.{Call, outputBytes, finish, output, encode}
 use Rattle.model.proofs.Answers.{then-inv, then-accepted, both-accepted, need-both-inv, need-both, one-value, one-number, accepted-not-refused, by-answer, both-refused, need-refused}
-use Rattle.model.proofs.CheckParts.{Checked, checked, checkTask-intro, checkTask-within}
+use Rattle.model.proofs.CheckParts.{TaskParts, task-parts, checkTask-intro, checkTask-within}
 use Rattle.model.proofs.CardSize.{areBytes, card-size}
 use Rattle.model.proofs.Codec.{reads-then, back-then, back-end, byteThat-codec, many-codec, bytes-codec}
 use Rattle.model.proofs.ReadWrite.{fact-codec, schema-codec, factCount-reads, factCount-back, high-byte, low-byte}
@@ -35,7 +35,7 @@ frontBytes t = length (t .arities) ∷ t .arities ++ (t .objects ∷ length (t .
 
 -- What a card says of its table: the writer accepts it, and but for the two bytes of the fact count the card is as written.
 record Decoded (card : List ℕ) (t : Task) : Type 0 where
-  checks : Checked t
+  checks : TaskParts t
   high : ℕ
   low : ℕ
   value : length (t .facts) ≡ high * 256 + low
@@ -90,7 +90,7 @@ decode-writes card h t e =
 pub writes-decode : (t : Task) → checkTask t ≡ accepted tt → decode (taskBytes t) ≡ accepted t
 unfolding decode taskBytes isEnd
 writes-decode t e =
-    let c = checked t e in
+    let c = task-parts t e in
     let counts : List ℕ = length (t .facts) / 256 ∷ length (t .facts) % 256 ∷ flatMap atomBytes (t .facts) in
     let schemas = many-codec (λ previous. schema-codec (t .arities)) none (length (t .schemas)) in
     let facts = many-codec (fact-codec (t .arities) (t .objects)) none (length (t .facts)) in

@@ -1,23 +1,23 @@
 -- The lines of a section: which lines stand in the section of a space, and which in the closing section.
-use Prim.Native.Nat.{ℕ, zero, suc, _+_, _*_, _≤_, _<_, zero-le, suc-le-suc}
+use Prim.Native.Nat.{ℕ, zero, suc, _+_, _*_, _<_, zero-le, suc-le-suc}
 use native.Mathlib.Nat.{zero-add, add-zero, not-suc-le-zero, le-of-suc-le-suc}
 use native.Mathlib.Omega.{arith}
 use mathlib.Core.Path.{_≡_, refl, sym, ap, _∙_, subst}
-use mathlib.Core.Bool.{Bool, true, false, cond, not}
-use mathlib.Core.Logic.{_⊎_, inl, inr, ⊎-elim}
+use mathlib.Core.Bool.{Bool, true, false, cond}
+use mathlib.Core.Logic.{⊎-elim}
 use mathlib.Core.List.{List, [], _∷_, _++_, map, flatMap, List·Memᴰ, List·Memᴰ·head, List·Memᴰ·tail, List·Memᴰ·cases-cons, List·Memᴰ·not-nil, List·Memᴰ·append-cases, List·Memᴰ·eq-of-singleton, Memᴰ·append-left, Memᴰ·append-right, Memᴰ·map, Memᴰ·of-map, append-nil}
 use lib.Dec.{leb, eqb}
 use lib.ListN.{length, getD, take}
 use borrow.Author.Tests.{eq-eqb}
 use Rattle.laws.specs.Lists.{all, keep, from, upTo, member}
 use Rattle.laws.specs.Bags.{Bag, support}
-use Rattle.laws.proofs.Tests.{never, by-test}
+use Rattle.laws.proofs.Tests.{never}
 use Rattle.laws.proofs.Lists.{keep-at, flatMap-at, upTo-at, upTo-intro, mem-take}
 use Rattle.model.specs.Card.{Task, Schema}
 use Rattle.model.specs.Strips.{schemaAt}
 use Rattle.model.specs.Transitions
 use Rattle.model.specs.Transitions.{bagOf}
-use Rattle.model.specs.Spaces.{Space, Kind, property, hasMember, spaces}
+use Rattle.model.specs.Spaces.{Space, Kind, property, hasMember}
 use Rattle.model.specs.Lines.{Line, space, state, limit, membership, exclusion, total, ceiling, types, Analysis, analysis, countOf, largest, arityOf, limits, minimal, excluded, exclusions, spaceLines, spaceSections, propertyNumber, oneNumber, totalsBy, totals, ofPredicate, ceilings, typesOf, typeLines, closingLines, sections}
 use Rattle.model.specs.Truth.{_isOn_, _isSectionOf_, statesOf}
 

@@ -9,9 +9,12 @@ use native.Mathlib.Omega.{arith}
 use borrow.Author.Tests.{eqb-true, eq-eqb}
 use Rattle.laws.specs.Lists.{any, all, upTo, member, distinct}
 use Rattle.laws.specs.Bags.{isEmpty, support}
-use Rattle.laws.proofs.Tests.{cond-true, and-intro, and-false-left, or-right, or-false-left, or-false-right, not-true, to-not-true, by-test}
+use Rattle.laws.proofs.Tests.{cond-true, and-intro, and-false-left, or-right, or-false-left, or-false-right, not-true, to-not-true, by-test, or-neutral}
 use Rattle.laws.proofs.Lists.{all-intro, any-at, any-intro, any-false, keep-at, keep-intro, upTo-intro}
-use Rattle.laws.proofs.Groups.{or-neutral, map-fixed, distinct-keep, distinct-upTo, member-keep-upTo, kept-below, repeat-adds, repeat-leaves, support-below}
+use Rattle.laws.proofs.Bags.{support-at}
+use Rattle.laws.proofs.Mapped.{map-fixed}
+use Rattle.laws.proofs.Numbers.{distinct-keep, distinct-upTo, member-keep-upTo, kept-below}
+use Rattle.laws.proofs.Closure.{repeat-adds, repeat-leaves}
 use Rattle.model.specs.Card.{Task}
 use Rattle.model.specs.Transitions.{Transition, properties, transitions}
 use Rattle.model.specs.Spaces.{Space, static, attribute, property, moved, moves, condition, hasMember, admits, gain, round, spaces, kindOf}
@@ -165,7 +168,7 @@ module _ (t : Task) where
     -- the enablers of its rules are properties of the task
     enabler-known : (r : Transition) → List·Memᴰ r (s .rules) → (c : ℕ) → List·Memᴰ c (support (r .enablers)) → c < length (properties t)
     enabler-known r k c j =
-        subst (λ (n : ℕ). c < n) (transitions-sized t r (rules-of-space r k .0) .enablers) (support-below (r .enablers) c j)
+        subst (λ (n : ℕ). c < n) (transitions-sized t r (rules-of-space r k .0) .enablers) (support-at (r .enablers) c j .0)
 
     -- an object that a rule of a space admits is a member
     pub closing-closed : (r : Transition) → List·Memᴰ r (s .rules) → (o : ℕ) → o < t .objects

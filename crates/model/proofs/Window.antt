@@ -14,7 +14,7 @@ use Rattle.laws.proofs.Tests.{and-left, and-right, and-intro}
 use Rattle.model.specs.Answer.{Answer, refused, accepted, _>>=_, _>>_, need}
 use Rattle.model.specs.Card.{Atom, Task, Reader, has, above, between, byte, byteThat, many, atom, schemaAtom, list, roleCount, bit, schema}
 use Rattle.model.specs.Card.{fact, factCount, isEnd, decode}
-use Rattle.model.proofs.Buffer.{between-high}
+use Rattle.model.proofs.Checked.{between-high}
 
 -- The answers of a reader on some bytes and on the first of them: one refusal, or one value, which passes a test, with at least k of the bytes
 -- that are left.

@@ -1,7 +1,7 @@
 -- How the code keeps bags and rules: tables of rows of 60 counts, one row a bag, 0 in the places past its properties.
 use Prim.Native.Nat.{ℕ, _-_, _*_}
 use mathlib.Core.Path.{_≡_}
-use mathlib.Core.List.{List, [], _∷_, _++_, map, flatMap}
+use mathlib.Core.List.{List, _++_, map, flatMap}
 use lib.ListN.{length, drop, replicate}
 use Rattle.laws.specs.Bags.{Bag}
 use Rattle.model.specs.Transitions.{Transition}

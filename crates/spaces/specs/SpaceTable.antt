@@ -1,13 +1,12 @@
 -- What the code's spaces say: the grouping of the properties, and masks for the members.
-use Prim.Native.Nat.{ℕ, _+_, _*_, _^_, _-_}
+use Prim.Native.Nat.{ℕ, _^_}
 use mathlib.Core.Path.{_≡_}
-use mathlib.Core.Bool.{Bool, cond}
-use mathlib.Core.List.{List, [], _∷_, _++_, map}
+use mathlib.Core.List.{List, map}
 use lib.Dec.{eqb}
-use lib.ListN.{length, getD, replicate}
-use Rattle.laws.specs.Lists.{keep, upTo, sum, member}
+use lib.ListN.{length, getD}
+use Rattle.laws.specs.Lists.{keep, upTo, sum}
 use Rattle.model.specs.Card.{Task}
-use Rattle.model.specs.Transitions.{Transition, properties, transitions}
+use Rattle.model.specs.Transitions.{properties, transitions}
 use Rattle.model.specs.Spaces as model
 use Rattle.card.specs.Represents.{padded}
 use Rattle.spaces.specs.declared.Spaces.{Spaces}
