@@ -150,6 +150,14 @@ module _ (t : Task) (ok : checkTask t ≡ accepted tt) (s : State) (valid : Vali
       omega arith)
       (λ k. let none = none-of a (r .of-listed) o c k there in omega arith)
 
+  -- a condition contains what stands at a place of a list, wherever properties and list are given from
+  contained : (ps own : List ℕ) (bags listed : List Bag) (i o : ℕ) (b : Bag) → ps ≡ own → bags ≡ listed → getD listed i [] ≡ b
+      → contains (condition t own s o) b ≡ true → contains (condition t ps s o) (getD bags i []) ≡ true
+  contained ps own bags listed i o b p q e h =
+      subst (λ (x : List ℕ). contains (condition t x s o) (getD bags i []) ≡ true) (sym p)
+      (subst (λ (x : List Bag). contains (condition t own s o) (getD x i []) ≡ true) (sym q)
+      (subst (λ (x : Bag). contains (condition t own s o) x ≡ true) (sym e) h))
+
   -- D: below a member's condition there is a least one
   membership-holds : (lines : List Line) (n : ℕ) (ps ms : List ℕ) (o : ℕ) → lines isSectionOf t → space n property ps ms isOn lines
       → member o ms ≡ true
@@ -169,10 +177,7 @@ module _ (t : Task) (ok : checkTask t ≡ accepted tt) (s : State) (valid : Vali
             (keep-intro (λ i. not (any (strictlyContains (getD bags i [])) bags)) (upTo (length bags)) (at .0) (upTo-intro (length bags) (at .0) (at .1))
             (to-not-true (any (strictlyContains (getD bags (at .0) [])) bags)
             (ap (λ (b : Bag). any (strictlyContains b) bags) (at .2) ∙ least .3)))),
-        ap (λ (x : List ℕ). contains (condition t x s o) (getD (statesOf lines) (at .0) [])) (r .properties-are)
-            ∙ ap (λ (x : List Bag). contains (condition t (r .of .space .properties) s o) (getD x (at .0) [])) states
-            ∙ ap (contains (condition t (r .of .space .properties) s o)) (at .2)
-            ∙ least .2,
+        contained ps (r .of .space .properties) (statesOf lines) bags (at .0) o (least .0) (r .properties-are) states (at .2) (least .2),
       )
 
   -- X: a listed condition does not contain both
