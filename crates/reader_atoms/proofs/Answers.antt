@@ -1,0 +1,47 @@
+-- How an answer of the definitions goes on: a value goes to what follows, a refusal is handed on, a check passes or refuses.
+use Prim.Native.Nat.{ℕ}
+use mathlib.Core.Bool.{Bool, true, false}
+use mathlib.Core.List.{List}
+use mathlib.Core.Path.{_≡_, refl, ap, _∙_}
+use Rattle.model.specs.Answer.{Answer, refused, accepted, _>>=_, _>>_, need}
+use Rattle.model.specs.Card.{byte, byteThat}
+
+-- a value goes to what follows
+pub goes : {A B : Type 0} {x : Answer A} {a : A} (f : A → Answer B) → x ≡ accepted a → (x >>= f) ≡ f a
+unfolding _>>=_
+goes f e = ap (λ x. x >>= f) e
+
+-- a refusal is handed on
+pub halts : {A B : Type 0} {x : Answer A} {n : ℕ} (f : A → Answer B) → x ≡ refused n → (x >>= f) ≡ refused n
+unfolding _>>=_
+halts f e = ap (λ x. x >>= f) e
+
+-- a check whose test holds
+pub passes : {A : Type 0} {t : Bool} (n : ℕ) (y : Answer A) → t ≡ true → (need t n >> y) ≡ y
+unfolding _>>_ need
+passes n y e = ap (λ t. need t n >> y) e
+
+-- a check whose test fails
+pub fails : {A : Type 0} {t : Bool} (n : ℕ) (y : Answer A) → t ≡ false → (need t n >> y) ≡ refused n
+unfolding _>>_ need
+fails n y e = ap (λ t. need t n >> y) e
+
+-- what follows in two parts follows whole
+pub regroup : {A B C : Type 0} (x : Answer A) (f : A → Answer B) (g : B → Answer C) → ((x >>= f) >>= g) ≡ (x >>= λ a. f a >>= g)
+unfolding _>>=_
+regroup (refused n) f g = refl
+regroup (accepted a) f g = refl
+
+-- a byte that has to pass a test: the card ends, the byte passes, or it fails
+module _ (test : ℕ → Bool) (number : ℕ) (s : List ℕ) where
+  pub byteThat-ends : {n : ℕ} → byte s ≡ refused n → byteThat test number s ≡ refused n
+  unfolding byteThat
+  byteThat-ends e = halts _ e
+
+  pub byteThat-passes : {b : ℕ} {rest : List ℕ} → byte s ≡ accepted (b, rest) → test b ≡ true → byteThat test number s ≡ accepted (b, rest)
+  unfolding byteThat
+  byteThat-passes e t = goes _ e ∙ passes _ _ t
+
+  pub byteThat-fails : {b : ℕ} {rest : List ℕ} → byte s ≡ accepted (b, rest) → test b ≡ false → byteThat test number s ≡ refused number
+  unfolding byteThat
+  byteThat-fails e t = goes _ e ∙ fails _ _ t
