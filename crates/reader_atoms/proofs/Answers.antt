@@ -1,8 +1,9 @@
 -- How an answer of the definitions goes on: a value goes to what follows, a refusal is handed on, a check passes or refuses.
 use Prim.Native.Nat.{ℕ}
+use native.Mathlib.Omega.{arith}
 use mathlib.Core.Bool.{Bool, true, false}
-use mathlib.Core.List.{List}
-use mathlib.Core.Path.{_≡_, refl, ap, _∙_}
+use mathlib.Core.List.{List, [], _∷_}
+use mathlib.Core.Path.{_≡_, refl, ap, _∙_, sym, subst}
 use Rattle.model.specs.Answer.{Answer, refused, accepted, _>>=_, _>>_, need}
 use Rattle.model.specs.Card.{byte, byteThat}
 
@@ -45,3 +46,20 @@ module _ (test : ℕ → Bool) (number : ℕ) (s : List ℕ) where
   pub byteThat-fails : {b : ℕ} {rest : List ℕ} → byte s ≡ accepted (b, rest) → test b ≡ false → byteThat test number s ≡ refused number
   unfolding byteThat
   byteThat-fails e t = goes _ e ∙ fails _ _ t
+
+-- answers that are the same have the same value
+pub value-of : {A : Type 0} {a b : A} → accepted a ≡ accepted b → a ≡ b
+value-of e = cc
+
+-- a byte that was accepted passes the test
+pub byteThat-held : (test : ℕ → Bool) (number : ℕ) (s : List ℕ) {b : ℕ} {rest : List ℕ} → byteThat test number s ≡ accepted (b, rest)
+  → test b ≡ true
+unfolding byteThat byte _>>=_ _>>_ need
+byteThat-held test number [] e = absurd (let o : _≡_ {A = ℕ} 0 1 = cc in omega arith)
+byteThat-held test number (x ∷ xs) {b} {rest} e = tested (test x) refl e
+  where
+    checked : Bool → Answer (ℕ × List ℕ)
+    checked t = need t number >> accepted (x, xs)
+    tested : (t : Bool) → test x ≡ t → checked t ≡ accepted (b, rest) → test b ≡ true
+    tested true h e = subst (λ y. test y ≡ true) (ap (λ v. v .0) (value-of e)) h
+    tested false h e = absurd (let o : _≡_ {A = ℕ} 0 1 = cc in omega arith)

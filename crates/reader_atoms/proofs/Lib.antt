@@ -1,2 +1,5 @@
 pub mod Answers
 pub mod Reading
+pub mod Many
+pub mod ArgumentBytes
+pub mod Orders

@@ -15,7 +15,7 @@ use Rattle.reader_atoms.specs.declared.Step.{Step}
 use Rattle.reader_atoms.specs.declared.Step.the-variants.{At, Refused}
 use Rattle.reader_atoms.specs.declared.ByteRead.{ByteRead}
 use Rattle.reader_atoms.specs.declared.ByteRead.the-variants.{Byte, Refused as NoByte}
-use Rattle.reader_atoms.specs.Reads.{Reads, told, place, beside, ByteReads, byteStep, byteIn}
+use Rattle.reader_atoms.specs.Reads.{Reads, told, place, beside, ByteReads, byteStep, byteIn, refusalOfByte}
 
 module _ {A B : Type 0} {value : B → A} {keep : A → B} {blank : B} {card : List ℕ} {answer : Answer (A × List ℕ)} where
   -- a value read: its place is on the card, and it is kept as values are
@@ -50,6 +50,11 @@ module _ {A B : Type 0} {value : B → A} {keep : A → B} {blank : B} {card : L
   unfolding told
   refused-by {kept = kept} r e = r .says ∙ ap (λ s. told card s (value kept)) e
 
+  -- the blank stands beside a refusal
+  pub blank-by : {step : Step} {kept : B} {k : Refusal} → Reads value keep blank card answer step kept → step ≡ Refused k → kept ≡ blank
+  unfolding beside
+  blank-by r e = r .keeps ∙ ap (beside keep blank) (refused-by r e)
+
 -- a byte was read: what that tells
 module _ {card : List ℕ} {answer : Answer (ℕ × List ℕ)} {r : ByteRead} {b : ℕ} {c : Cursor} (w : ByteReads card answer r) (e : r ≡ Byte b c) where
   pub byte-read : answer ≡ accepted (b, drop (c .at) card)
@@ -62,6 +67,11 @@ module _ {card : List ℕ} {answer : Answer (ℕ × List ℕ)} {r : ByteRead} {b
 pub byte-refused : {card : List ℕ} {answer : Answer (ℕ × List ℕ)} {r : ByteRead} {k : Refusal} → ByteReads card answer r → r ≡ NoByte k
   → answer ≡ refused (refusalNumber k)
 byte-refused w e = refused-by w (ap byteStep e)
+
+-- no byte was read, and the refusal is taken out
+pub byte-refusal : {card : List ℕ} {answer : Answer (ℕ × List ℕ)} {r : ByteRead} {k k′ : Refusal} → ByteReads card answer r → r ≡ NoByte k
+  → k′ ≡ refusalOfByte r → answer ≡ refused (refusalNumber k′)
+byte-refusal w e t = byte-refused w e ∙ ap (λ k. refused (refusalNumber k)) (sym (t ∙ ap refusalOfByte e))
 
 -- a refused byte is the whole answer
 pub hands-on : {card : List ℕ} {answer : Answer (ℕ × List ℕ)} {r : ByteRead} {k : Refusal} → r ≡ NoByte k → answer ≡ refused (refusalNumber k)

@@ -3,12 +3,15 @@ use card::Atom;
 use card::AtomList;
 use card::Refusal;
 ghost use Prim.Native.Nat.{ℕ, _≤_};
+ghost use mathlib.Core.Bool.{true};
 ghost use mathlib.Core.Path.{_≡_};
 ghost use lib.Dec.{ltb};
 ghost use lib.ListN.{length, drop};
 ghost use Rattle.card.specs.Represents.{refusalNumber};
-ghost use Rattle.model.specs.Card.{byte, byteThat, between};
+ghost use Rattle.laws.specs.Lists.{same, before};
+ghost use Rattle.model.specs.Card.{byte, byteThat, between, atom};
 ghost use Rattle.reader_atoms.specs.Reads.{ByteReads, refusalOfByte};
+ghost use Rattle.reader_atoms.specs.Atoms.{AtomReads, ArgumentsRead, refusalOfAtom, argumentBytes, inRange, bytesOf, hasBytes};
 
 // A place on the card.
 pub struct Cursor {
@@ -84,4 +87,112 @@ pub fn byte_between(card: &[u8], c: Cursor, low: u8, high: u8, refusal: Refusal)
     } else {
         ByteRead::Refused(refusal)
     }
+}
+
+pub enum AtomRead {
+    Found(Atom, Cursor),
+    Refused(Refusal),
+}
+
+impl AtomRead {
+    // The refusal of a refused read.
+    pub fn refusal(self) -> Refusal
+        ensures { λ r. ⌜ r ≡ refusalOfAtom self ⌝ }
+    {
+        match self {
+            AtomRead::Found(_, _) => Refusal::CardEnds,
+            AtomRead::Refused(r) => r,
+        }
+    }
+}
+
+// The arguments of an atom, one byte each, below the bound. Places past the arity hold 0.
+fn arguments(card: &[u8], c: Cursor, predicate: u8, arity: u8, bound: usize, refusal: Refusal) -> AtomRead
+    requires { ⌜ (1 ≤ arity) × (arity ≤ 3) ⌝ }
+    ensures {
+        λ r. ⌜ ArgumentsRead predicate arity (now (card .entry)) (argumentBytes arity bound (refusalNumber refusal) (drop (c .at) (now (card .entry)))) r ⌝
+    }
+{
+    let read = byte_below(card, c, bound, refusal);
+    let ByteRead::Byte(first, c) = read else {
+        return AtomRead::Refused(read.refusal());
+    };
+    if arity == 1 {
+        return AtomRead::Found(Atom { predicate, first, second: 0, third: 0 }, c);
+    }
+    let read = byte_below(card, c, bound, refusal);
+    let ByteRead::Byte(second, c) = read else {
+        return AtomRead::Refused(read.refusal());
+    };
+    if arity == 2 {
+        return AtomRead::Found(Atom { predicate, first, second, third: 0 }, c);
+    }
+    let read = byte_below(card, c, bound, refusal);
+    let ByteRead::Byte(third, c) = read else {
+        return AtomRead::Refused(read.refusal());
+    };
+    AtomRead::Found(Atom { predicate, first, second, third }, c)
+}
+
+// An atom: a predicate byte, and its arguments.
+pub fn atom(card: &[u8], c: Cursor, arities: &[u8], bound: usize, refusal: Refusal) -> AtomRead
+    requires { ⌜ inRange (now arities) ≡ true ⌝ }
+    ensures {
+        λ r. ⌜ AtomReads (now (arities .entry)) (now (card .entry)) (atom (now (arities .entry)) bound (refusalNumber refusal) (drop (c .at) (now (card .entry)))) r ⌝
+    }
+{
+    let read = byte_below(card, c, arities.len(), refusal);
+    let ByteRead::Byte(predicate, c) = read else {
+        return AtomRead::Refused(read.refusal());
+    };
+    let arity = arities[predicate as usize];
+    arguments(card, c, predicate, arity, bound, refusal)
+}
+
+// The first atom stands below the second, byte by byte.
+pub fn is_below(a: Atom, b: Atom) -> bool
+    ensures { λ r. ⌜ r ≡ before (bytesOf a) (bytesOf b) ⌝ }
+{
+    if a.predicate != b.predicate {
+        return a.predicate < b.predicate;
+    }
+    if a.first != b.first {
+        return a.first < b.first;
+    }
+    if a.second != b.second {
+        return a.second < b.second;
+    }
+    a.third < b.third
+}
+
+pub fn is_same(a: Atom, b: Atom) -> bool
+    ensures { λ r. ⌜ r ≡ same (bytesOf a) (bytesOf b) ⌝ }
+{
+    if a.predicate != b.predicate {
+        return false;
+    }
+    if a.first != b.first {
+        return false;
+    }
+    if a.second != b.second {
+        return false;
+    }
+    a.third == b.third
+}
+
+// The atom is on the list.
+pub fn has(list: AtomList, a: Atom) -> bool
+    requires { ⌜ list .count ≤ 8 ⌝ }
+    ensures { λ r. ⌜ r ≡ hasBytes list a ⌝ }
+{
+    let count = list.count;
+    let mut i = 0;
+    while i < count {
+        let b = list.atoms[i];
+        if is_same(a, b) {
+            return true;
+        }
+        i = i + 1;
+    }
+    false
 }
