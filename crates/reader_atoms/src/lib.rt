@@ -182,7 +182,7 @@ pub fn is_same(a: Atom, b: Atom) -> bool
 
 // The atom is on the list.
 pub fn has(list: AtomList, a: Atom) -> bool
-    requires { ⌜ list .count ≤ 8 ⌝ }
+    requires { ⌜ (list .count ≤ 8) × (length (list .atoms) ≡ 8) ⌝ }
     ensures { λ r. ⌜ r ≡ hasBytes list a ⌝ }
 {
     let count = list.count;
