@@ -4,3 +4,5 @@ pub mod Many
 pub mod Filling
 pub mod ArgumentBytes
 pub mod Orders
+pub mod AtomReading
+pub mod Checks

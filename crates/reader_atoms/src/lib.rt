@@ -7,11 +7,12 @@ ghost use mathlib.Core.Bool.{true};
 ghost use mathlib.Core.Path.{_≡_};
 ghost use lib.Dec.{ltb};
 ghost use lib.ListN.{length, drop};
-ghost use Rattle.card.specs.Represents.{refusalNumber};
+ghost use Rattle.card.specs.Represents.{refusalNumber, atomsOf};
 ghost use Rattle.laws.specs.Lists.{same, before};
-ghost use Rattle.model.specs.Card.{byte, byteThat, between, atom};
+ghost use Rattle.model.specs.Card.{byte, byteThat, between, atom, fact};
 ghost use Rattle.reader_atoms.specs.Reads.{ByteReads, refusalOfByte};
 ghost use Rattle.reader_atoms.specs.Atoms.{AtomReads, ArgumentsRead, refusalOfAtom, argumentBytes, inRange, bytesOf, hasBytes};
+ghost use Rattle.reader_atoms.specs.Atoms.{aboveBytes, belongsBytes, sectionRefusal, sectionAtom, previousOf, AtomsKept, PreviousKept};
 
 // A place on the card.
 pub struct Cursor {
@@ -195,4 +196,96 @@ pub fn has(list: AtomList, a: Atom) -> bool
         i = i + 1;
     }
     false
+}
+
+// The atom before, on a list.
+pub enum Previous {
+    Nothing,
+    Atom(Atom),
+}
+
+// The atom stands above the one before it, if there is one.
+pub fn is_above(previous: Previous, a: Atom) -> bool
+    ensures { λ r. ⌜ r ≡ aboveBytes previous a ⌝ }
+{
+    match previous {
+        Previous::Nothing => true,
+        Previous::Atom(b) => is_below(b, a),
+    }
+}
+
+// The three lists of a schema.
+pub enum Section {
+    Preconditions,
+    Deletes,
+    Adds,
+}
+
+// The atom passes the check of its own list: a deleted atom is a precondition, an added one is none.
+pub fn belongs(section: Section, preconditions: AtomList, a: Atom) -> bool
+    requires { ⌜ (preconditions .count ≤ 8) × (length (preconditions .atoms) ≡ 8) ⌝ }
+    ensures { λ r. ⌜ r ≡ belongsBytes section preconditions a ⌝ }
+{
+    match section {
+        Section::Preconditions => true,
+        Section::Deletes => has(preconditions, a),
+        Section::Adds => !has(preconditions, a),
+    }
+}
+
+// The refusal of an atom that does not pass it.
+pub fn refusal_of(section: Section) -> Refusal
+    ensures { λ r. ⌜ r ≡ sectionRefusal section ⌝ }
+{
+    match section {
+        Section::Preconditions => Refusal::AtomOrder,
+        Section::Deletes => Refusal::DeleteNotPrecondition,
+        Section::Adds => Refusal::AddIsPrecondition,
+    }
+}
+
+// An atom of a list of a schema.
+pub fn schema_atom(
+    card: &[u8],
+    c: Cursor,
+    arities: &[u8],
+    parameters: usize,
+    section: Section,
+    preconditions: AtomList,
+    previous: Previous,
+) -> AtomRead
+    requires { ⌜ (inRange (now arities) ≡ true) × AtomsKept (now arities) preconditions × PreviousKept (now arities) previous ⌝ }
+    ensures {
+        λ r. ⌜ AtomReads (now (arities .entry)) (now (card .entry)) (sectionAtom (now (arities .entry)) parameters section (atomsOf (now (arities .entry)) preconditions) (previousOf (now (arities .entry)) previous) (drop (c .at) (now (card .entry)))) r ⌝
+    }
+{
+    let read = atom(card, c, arities, parameters, Refusal::AtomUnknown);
+    let AtomRead::Found(a, _) = read else {
+        return read;
+    };
+    if !is_above(previous, a) {
+        return AtomRead::Refused(Refusal::AtomOrder);
+    }
+    if !belongs(section, preconditions, a) {
+        return AtomRead::Refused(refusal_of(section));
+    }
+    read
+}
+
+// A fact.
+pub fn fact(card: &[u8], c: Cursor, arities: &[u8], objects: usize, previous: Previous) -> AtomRead
+    requires { ⌜ (inRange (now arities) ≡ true) × PreviousKept (now arities) previous ⌝ }
+    ensures {
+        λ r. ⌜ AtomReads (now (arities .entry)) (now (card .entry)) (fact (now (arities .entry)) objects (previousOf (now (arities .entry)) previous) (drop (c .at) (now (card .entry)))) r ⌝
+    }
+{
+    let read = atom(card, c, arities, objects, Refusal::FactUnknown);
+    let AtomRead::Found(a, _) = read else {
+        return read;
+    };
+    if is_above(previous, a) {
+        read
+    } else {
+        AtomRead::Refused(Refusal::FactOrder)
+    }
 }
