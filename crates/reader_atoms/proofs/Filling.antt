@@ -76,6 +76,15 @@ module _ {A B : Type 0} (value : B → A) (keep : A → B) (blank : B) (size : �
         sym (f .left) ∙ ap (λ m. prepend (map value (take i array)) (many read (lastOf none (map value (take i array))) m s)) one
         ∙ ap (prepend (map value (take i array))) (many-stops _ _ _ _ e)
 
+    -- the item that is stored is then the last
+    pub filling-last : (b : B) → i < n → lastOf none (map value (take (i + 1) (set array i b))) ≡ some (value b)
+    filling-last b more =
+        let there : i < length array = omega (arith, f .long, f .room) in
+        let taken : take (i + 1) (set array i b) ≡ take i array ++ b ∷ [] = rw (add-one i) (take-suc-set array i b there) in
+        ap (λ xs. lastOf none (map value xs)) taken
+        ∙ ap (lastOf none) (map-append value (take i array) (b ∷ []))
+        ∙ lastOf-snoc none (map value (take i array)) (value b)
+
     -- an item is read and stored
     pub filling-goes-on : {b : B} {s₁ : List ℕ} → i < n → read (lastOf none (map value (take i array))) s ≡ accepted (value b, s₁)
       → b ≡ keep (value b) → Filling (set array i b) (i + 1) s₁

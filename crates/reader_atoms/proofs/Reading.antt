@@ -29,6 +29,10 @@ module _ {A B : Type 0} {value : B → A} {keep : A → B} {blank : B} {card : L
   unfolding told place beside
   refuses e = record { says = e; within = omega arith; keeps = ap (beside keep blank) (sym e) }
 
+  -- a refusal, with a value beside it that is the blank
+  pub refuses-beside : {r : Refusal} {kept : B} → answer ≡ refused (refusalNumber r) → kept ≡ blank → Reads value keep blank card answer (Refused r) kept
+  refuses-beside {r} e k = subst (λ b. Reads value keep blank card answer (Refused r) b) (sym k) (refuses e)
+
   -- what is told by a read that ended at a place
   pub accepted-by : {step : Step} {kept : B} {c : Cursor} → Reads value keep blank card answer step kept → step ≡ At c
     → answer ≡ accepted (value kept, drop (c .at) card)

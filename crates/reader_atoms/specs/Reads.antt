@@ -42,6 +42,11 @@ pub record Reads
   pub within : place step ≤ length card
   pub keeps : kept ≡ beside keep blank answer
 
+-- the refusal that a refused read carries
+abbrev pub refusalOfStep : Step → Refusal
+refusalOfStep (At c) = CardEnds
+refusalOfStep (Refused r) = r
+
 abbrev pub byteStep : ByteRead → Step
 byteStep (Byte b c) = At c
 byteStep (NoByte r) = Refused r
@@ -53,7 +58,6 @@ byteIn (NoByte r) = 0
 abbrev pub ByteReads : List ℕ → Answer (ℕ × List ℕ) → ByteRead → Type 0
 ByteReads card answer r = Reads (λ b. b) (λ b. b) 0 card answer (byteStep r) (byteIn r)
 
--- the refusal that a refused read carries
 abbrev pub refusalOfByte : ByteRead → Refusal
 refusalOfByte (Byte b c) = CardEnds
 refusalOfByte (NoByte r) = r

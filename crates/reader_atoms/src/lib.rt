@@ -10,7 +10,7 @@ ghost use lib.ListN.{length, drop};
 ghost use Rattle.card.specs.Represents.{refusalNumber, atomsOf};
 ghost use Rattle.laws.specs.Lists.{same, before};
 ghost use Rattle.model.specs.Card.{byte, byteThat, between, atom, fact};
-ghost use Rattle.reader_atoms.specs.Reads.{ByteReads, refusalOfByte};
+ghost use Rattle.reader_atoms.specs.Reads.{ByteReads, refusalOfByte, refusalOfStep};
 ghost use Rattle.reader_atoms.specs.Atoms.{AtomReads, ArgumentsRead, refusalOfAtom, argumentBytes, inRange, bytesOf, hasBytes};
 ghost use Rattle.reader_atoms.specs.Atoms.{aboveBytes, belongsBytes, sectionRefusal, sectionAtom, previousOf, AtomsKept, PreviousKept};
 
@@ -23,6 +23,18 @@ pub struct Cursor {
 pub enum Step {
     At(Cursor),
     Refused(Refusal),
+}
+
+impl Step {
+    // The refusal of a refused read.
+    pub fn refusal(self) -> Refusal
+        ensures { λ r. ⌜ r ≡ refusalOfStep self ⌝ }
+    {
+        match self {
+            Step::At(_) => Refusal::CardEnds,
+            Step::Refused(r) => r,
+        }
+    }
 }
 
 pub enum ByteRead {

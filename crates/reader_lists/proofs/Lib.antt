@@ -1,0 +1,4 @@
+pub mod Ordered
+pub mod Plain
+pub mod Blanks
+pub mod FactCount
