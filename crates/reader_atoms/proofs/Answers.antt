@@ -1,11 +1,13 @@
 -- How an answer of the definitions goes on: a value goes to what follows, a refusal is handed on, a check passes or refuses.
-use Prim.Native.Nat.{ℕ}
+use Prim.Native.Nat.{ℕ, _≤_}
 use native.Mathlib.Omega.{arith}
-use mathlib.Core.Bool.{Bool, true, false}
+use mathlib.Core.Bool.{Bool, true, false, _&&_, false≢true}
 use mathlib.Core.List.{List, [], _∷_}
 use mathlib.Core.Path.{_≡_, refl, ap, _∙_, sym, subst}
+use lib.Dec.{leb}
+use borrow.Author.Tests.{leb-true}
 use Rattle.model.specs.Answer.{Answer, refused, accepted, _>>=_, _>>_, need}
-use Rattle.model.specs.Card.{byte, byteThat}
+use Rattle.model.specs.Card.{byte, byteThat, between}
 
 -- a value goes to what follows
 pub goes : {A B : Type 0} {x : Answer A} {a : A} (f : A → Answer B) → x ≡ accepted a → (x >>= f) ≡ f a
@@ -63,3 +65,14 @@ byteThat-held test number (x ∷ xs) {b} {rest} e = tested (test x) refl e
     tested : (t : Bool) → test x ≡ t → checked t ≡ accepted (b, rest) → test b ≡ true
     tested true h e = subst (λ y. test y ≡ true) (ap (λ v. v .0) (value-of e)) h
     tested false h e = absurd (let o : _≡_ {A = ℕ} 0 1 = cc in omega arith)
+
+-- a byte that was accepted between two bounds is between them
+pub between-held : (low high number : ℕ) (s : List ℕ) {b : ℕ} {rest : List ℕ} → byteThat (between low high) number s ≡ accepted (b, rest)
+  → (low ≤ b) × (b ≤ high)
+unfolding between
+between-held low high number s {b} e = both (leb low b) (leb b high) refl refl (byteThat-held (between low high) number s e)
+  where
+    both : (t u : Bool) → leb low b ≡ t → leb b high ≡ u → (t && u) ≡ true → (low ≤ b) × (b ≤ high)
+    both true true l h e = (leb-true low b l, leb-true b high h)
+    both true false l h e = absurd (false≢true e)
+    both false u l h e = absurd (false≢true e)
