@@ -15,7 +15,7 @@ use Rattle.reader_atoms.specs.declared.Step.{Step}
 use Rattle.reader_atoms.specs.declared.Step.the-variants.{At, Refused}
 use Rattle.reader_atoms.specs.declared.ByteRead.{ByteRead}
 use Rattle.reader_atoms.specs.declared.ByteRead.the-variants.{Byte, Refused as NoByte}
-use Rattle.reader_atoms.specs.Reads.{Reads, told, place, beside, ByteReads, byteStep, byteIn, refusalOfByte}
+use Rattle.reader_atoms.specs.Reads.{Reads, told, place, beside, ByteReads, byteStep, byteIn, refusalOfByte, refusalOfStep}
 
 module _ {A B : Type 0} {value : B → A} {keep : A → B} {blank : B} {card : List ℕ} {answer : Answer (A × List ℕ)} where
   -- a value read: its place is on the card, and it is kept as values are
@@ -32,6 +32,18 @@ module _ {A B : Type 0} {value : B → A} {keep : A → B} {blank : B} {card : L
   -- a refusal, with a value beside it that is the blank
   pub refuses-beside : {r : Refusal} {kept : B} → answer ≡ refused (refusalNumber r) → kept ≡ blank → Reads value keep blank card answer (Refused r) kept
   refuses-beside {r} e k = subst (λ b. Reads value keep blank card answer (Refused r) b) (sym k) (refuses e)
+
+  -- an answer to the same reading
+  pub reads-as : {answer′ : Answer (A × List ℕ)} {step : Step} {kept : B} → answer ≡ answer′ → Reads value keep blank card answer′ step kept
+    → Reads value keep blank card answer step kept
+  reads-as {step = step} {kept} e r = subst (λ a. Reads value keep blank card a step kept) (sym e) r
+
+  -- what is told by a refused read whose refusal is taken out
+  pub refusal-by : {step : Step} {kept : B} {k k′ : Refusal} → Reads value keep blank card answer step kept → step ≡ Refused k → k′ ≡ refusalOfStep step
+    → answer ≡ refused (refusalNumber k′)
+  unfolding told
+  refusal-by {kept = kept} r e t =
+      r .says ∙ ap (λ s. told card s (value kept)) e ∙ ap (λ k. refused (refusalNumber k)) (sym (t ∙ ap refusalOfStep e))
 
   -- what is told by a read that ended at a place
   pub accepted-by : {step : Step} {kept : B} {c : Cursor} → Reads value keep blank card answer step kept → step ≡ At c
