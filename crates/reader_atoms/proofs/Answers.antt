@@ -1,11 +1,11 @@
 -- How an answer of the definitions goes on: a value goes to what follows, a refusal is handed on, a check passes or refuses.
-use Prim.Native.Nat.{ℕ, _≤_}
+use Prim.Native.Nat.{ℕ, _≤_, _<_}
 use native.Mathlib.Omega.{arith}
-use mathlib.Core.Bool.{Bool, true, false, _&&_, false≢true}
+use mathlib.Core.Bool.{Bool, true, false, _&&_, false≢true, and-false}
 use mathlib.Core.List.{List, [], _∷_}
 use mathlib.Core.Path.{_≡_, refl, ap, _∙_, sym, subst}
 use lib.Dec.{leb}
-use borrow.Author.Tests.{leb-true}
+use borrow.Author.Tests.{leb-true, le-leb, lt-leb}
 use Rattle.model.specs.Answer.{Answer, refused, accepted, _>>=_, _>>_, need}
 use Rattle.model.specs.Card.{byte, byteThat, between}
 
@@ -80,3 +80,16 @@ between-held low high number s {b} e = both (leb low b) (leb b high) refl refl (
     both true true l h e = (leb-true low b l, leb-true b high h)
     both true false l h e = absurd (false≢true e)
     both false u l h e = absurd (false≢true e)
+
+-- a number is between its bounds, below the low one or above the high one
+pub in-bounds : (low high n : ℕ) → low ≤ n → n ≤ high → between low high n ≡ true
+unfolding between
+in-bounds low high n l h = rw (le-leb low n l, le-leb n high h)
+
+pub below-low : (low high n : ℕ) → n < low → between low high n ≡ false
+unfolding between
+below-low low high n l = rw (lt-leb low n l)
+
+pub above-high : (low high n : ℕ) → high < n → between low high n ≡ false
+unfolding between
+above-high low high n h = rw (lt-leb n high h) (and-false (leb low n))

@@ -1,9 +1,7 @@
 -- `byte_between` reads as the definition does.
 use mathlib.Core.Path.{refl}
-use Rattle.model.specs.Card.{between}
 use borrow.Author.Needs.{needs}
-use borrow.Author.Tests.{le-leb, lt-leb}
-use Rattle.reader_atoms.proofs.Answers.{byteThat-ends, byteThat-passes, byteThat-fails}
+use Rattle.reader_atoms.proofs.Answers.{byteThat-ends, byteThat-passes, byteThat-fails, in-bounds, below-low, above-high}
 use Rattle.reader_atoms.proofs.Reading.{accepts, refuses, byte-read, byte-within, byte-refused, hands-on}
 use Rattle.reader_atoms.proofs.byte_between.Statement.{statement}
 use Rattle.reader_atoms.proofs.byte_between.Tie as tie
@@ -22,24 +20,21 @@ returns c =
     hands-on (c .enum-told .given .1) (byteThat-ends _ _ _ (byte-refused (c .before .before .byte .ensures) (c .enum-told .given .1)))
 
 returns-2 : tie.Need-returns-2
-unfolding between
 returns-2 c =
     let w = c .before .before .before .before .byte .ensures in
-    refuses (byteThat-fails _ _ _ (byte-read w (c .before .before .read .given .1)) (rw (lt-leb _ _ (c .if1 .taken))))
+    refuses (byteThat-fails _ _ _ (byte-read w (c .before .before .read .given .1)) (below-low _ _ _ (c .if1 .taken)))
 
 returns-3 : tie.Need-returns-3
-unfolding between
 returns-3 c =
     let w = c .before .before .before .before .before .byte .ensures in
     let e = c .before .before .before .read .given .1 in
-    accepts (byteThat-passes _ _ _ (byte-read w e) (rw (le-leb _ _ (c .before .if1 .left), le-leb _ _ (c .if2 .taken)))) (byte-within w e) refl
+    accepts (byteThat-passes _ _ _ (byte-read w e) (in-bounds _ _ _ (c .before .if1 .left) (c .if2 .taken))) (byte-within w e) refl
 
 returns-4 : tie.Need-returns-4
-unfolding between
 returns-4 c =
     let w = c .before .before .before .before .before .byte .ensures in
     let e = c .before .before .before .read .given .1 in
-    refuses (byteThat-fails _ _ _ (byte-read w e) (rw (le-leb _ _ (c .before .if1 .left), lt-leb _ _ (c .if2 .left))))
+    refuses (byteThat-fails _ _ _ (byte-read w e) (above-high _ _ _ (c .if2 .left)))
 
 pub byte-between-spec : {M : Type 1} → statement M
 byte-between-spec = tie.close (tie.spec byte-requires enum-known-read enum-told returns returns-2 returns-3 returns-4)
