@@ -1,0 +1,25 @@
+-- `is_same` compares atoms by their bytes.
+use mathlib.Core.Path.{sym, _∙_}
+use Rattle.reader_atoms.proofs.Orders.{same-differs, same-equal, same-last}
+
+use Rattle.reader_atoms.proofs.is_same.Statement.{statement}
+use Rattle.reader_atoms.proofs.is_same.Tie as tie
+
+returns : tie.Need-returns
+returns c =
+    sym (same-differs _ _ _ _ (c .if1 .taken))
+
+returns-2 : tie.Need-returns-2
+returns-2 c =
+    sym (same-equal _ _ _ _ (c .before .before .before .if1 .left) ∙ same-differs _ _ _ _ (c .if2 .taken))
+
+returns-3 : tie.Need-returns-3
+returns-3 c =
+    sym (same-equal _ _ _ _ (c .before .before .before .before .before .before .if1 .left) ∙ same-equal _ _ _ _ (c .before .before .before .if2 .left) ∙ same-differs _ _ _ _ (c .if3 .taken))
+
+returns-4 : tie.Need-returns-4
+returns-4 c =
+    sym (same-equal _ _ _ _ (c .before .before .before .before .before .before .before .before .if1 .left) ∙ same-equal _ _ _ _ (c .before .before .before .before .before .if2 .left) ∙ same-equal _ _ _ _ (c .before .before .if3 .left) ∙ same-last _ _)
+
+pub is-same-spec : {M : Type 1} → statement M
+is-same-spec = tie.close (tie.spec returns returns-2 returns-3 returns-4)
