@@ -27,7 +27,7 @@ module _ {A : Type 0} where
       length-take-le count (xs ++ replicate (count - length xs) blank)
       (rw (length-append, length-replicate) (omega arith))
 
-  getD-entries : (count : ℕ) (blank : A) (xs : List A) (i : ℕ) → i < count → getD (entries count blank xs) i blank ≡ getD xs i blank
+  pub getD-entries : (count : ℕ) (blank : A) (xs : List A) (i : ℕ) → i < count → getD (entries count blank xs) i blank ≡ getD xs i blank
   unfolding entries padded
   getD-entries count blank xs i h = getD-take count (xs ++ replicate (count - length xs) blank) i blank h ∙ getD-filled xs (count - length xs) i blank
 
@@ -40,12 +40,15 @@ module _ {A B : Type 0} (f : A → B) (count : ℕ) (blank : A) (xs : List A) wh
   pub length-table : length (map f (entries count blank xs)) ≡ count
   length-table = length-map (entries count blank xs) f ∙ length-entries count blank xs
 
+  pub item-at : (i : ℕ) → i < count → getD (map f (entries count blank xs)) i (f blank) ≡ f (getD xs i blank)
+  item-at i h = List·getD-map f (entries count blank xs) i blank ∙ ap f (getD-entries count blank xs i h)
+
   -- the next item at place i
   pub next-item : (i : ℕ) → i < count
       → drop i (map f (entries count blank xs)) ≡ f (getD xs i blank) ∷ drop (i + 1) (map f (entries count blank xs))
   next-item i h =
       drop-cons (map f (entries count blank xs)) i (f blank) (rw length-table h)
-      ∙ rw (List·getD-map f (entries count blank xs) i blank, getD-entries count blank xs i h, add-one)
+      ∙ rw (item-at i h, add-one)
 
   -- no item is left at the count
   pub no-item : (i : ℕ) → count ≤ i → drop i (map f (entries count blank xs)) ≡ []

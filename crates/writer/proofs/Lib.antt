@@ -4,3 +4,6 @@ pub mod Entries
 pub mod Loops
 pub mod SchemaLaws
 pub mod TaskLaws
+pub mod WriteLaws
+pub mod CardBytes
+pub mod Encoding

@@ -2,7 +2,7 @@
 use Prim.Native.Nat.{ℕ, _≤_, _<_}
 use mathlib.Core.Path.{_≡_, refl, sym, ap, _∙_}
 use mathlib.Core.Bool.{Bool, true, false}
-use mathlib.Core.List.{List}
+use mathlib.Core.List.{List, []}
 use mathlib.Core.Option.{Option, none}
 use lib.Dec.{leb}
 use lib.ListN.{length}
@@ -10,12 +10,12 @@ use borrow.Author.Tests.{le-leb, lt-leb, leb-true}
 use Rattle.model.specs.Answer.{Answer, refused, accepted, _>>_, need}
 use Rattle.model.specs.Card as model
 use Rattle.model.specs.Writer.{each, checkSchemaAtom, checkList, checkSchema}
-use Rattle.card.specs.Represents.{atomOf, blankAtom, refusalNumber}
+use Rattle.card.specs.Represents.{atomOf, blankAtom, blankSchema, atomsFor, refusalNumber}
 use Rattle.card.specs.declared.AtomList.{AtomList}
 use Rattle.card.specs.declared.Schema.{Schema}
 use Rattle.card.specs.declared.Refusal.{Refusal}
 use Rattle.card.specs.declared.Refusal.the-variants.{HeaderRange, ListRange}
-use Rattle.writer.specs.Tables.{atomTable, schemaTable}
+use Rattle.writer.specs.Tables.{entries, atomTable, schemaTable}
 use Rattle.writer.specs.Checking.{checkedSays, placeTest, placeNumber}
 use Rattle.writer.specs.declared.checking.Checked.{Checked}
 use Rattle.writer.specs.declared.checking.Checked.the-variants.{Passed, Refused}
@@ -24,6 +24,16 @@ use Rattle.writer.specs.declared.checking.Place.the-variants.{Preconditi
 use Rattle.writer.proofs.Entries.{length-table}
 use Rattle.writer.proofs.Ranges.{below-range, above-range, in-range}
 use Rattle.writer.proofs.Loops.{then-left, need-passed, then-refused, then-passed}
+
+-- the schema of zeros, which stands past the end of a list of schemas
+abbrev pub zeros : Schema
+zeros =
+    let empty : AtomList = record { count = 0; atoms = [] } in
+    record { parameters = 0; preconditions = empty; deletes = empty; adds = empty }
+
+pub zeros-blank : (arities : List ℕ) → schemaTable arities zeros ≡ schemaTable arities blankSchema
+unfolding schemaTable blankSchema atomsFor atomTable entries
+zeros-blank arities = refl
 
 pub length-atoms : (arities : List ℕ) (list : AtomList) → length (atomTable arities list) ≡ list .count
 unfolding atomTable

@@ -67,7 +67,7 @@ module _ (arities : List ℕ) (objects : ℕ) (schemas : SchemaList) (facts : Fa
         few-facts h answer e = from-schemas _ (then-passed _ _ _ says passed answer (rw (le-leb (facts .count) 512 h) e))
 
 -- the first part of the array of arities is the list of arities
-arities-part : (t : Task) → t .predicates .count ≤ length (t .predicates .arities)
+pub arities-part : (t : Task) → t .predicates .count ≤ length (t .predicates .arities)
     → take (t .predicates .count - 0) (drop 0 (t .predicates .arities)) ≡ entries (t .predicates .count) 0 (t .predicates .arities)
 arities-part t h = rw sub-zero (sym (entries-within (t .predicates .count) 0 (t .predicates .arities) h))
 

@@ -18,19 +18,10 @@ use Rattle.writer.specs.declared.checking.Checked.{Checked}
 use Rattle.writer.specs.declared.checking.Checked.the-variants.{Passed, Refused}
 use Rattle.card.specs.declared.Schema.{Schema}
 use Rattle.writer.proofs.Entries.{default-alike}
+use Rattle.writer.proofs.SchemaLaws.{zeros, zeros-blank}
 use Rattle.writer.proofs.Loops.{item-refused, item-passed, items-passed}
 use Rattle.writer.proofs.checking.check_schemas.Statement.{statement}
 use Rattle.writer.proofs.checking.check_schemas.Tie as tie
-
--- the schema of zeros, which stands past the end of a list of schemas
-abbrev zeros : Schema
-zeros =
-    let empty : AtomList = record { count = 0; atoms = [] } in
-    record { parameters = 0; preconditions = empty; deletes = empty; adds = empty }
-
-zeros-blank : (arities : List ℕ) → schemaTable arities zeros ≡ schemaTable arities blankSchema
-unfolding schemaTable blankSchema atomsFor atomTable entries
-zeros-blank arities = refl
 
 -- a check that does not look at the item before is the same after any
 alike : {A : Type 0} (check : A → Answer (Unit {0})) (p : Option A) (xs : List A) → each (λ before. check) none xs ≡ each (λ before. check) p xs
