@@ -1,26 +1,26 @@
 -- The whole call: a table that passed its check fits, and what the writer answers and leaves is what document 01's writer does.
-use Prim.Native.Nat.{ℕ, _+_, _≤_, _<_}
+use Prim.Native.Nat.{ℕ, _≤_, _<_}
 use native.Mathlib.Nat.{zero-add}
-use mathlib.Core.Path.{_≡_, refl, sym, ap, _∙_}
-use mathlib.Core.Bool.{Bool, true}
-use mathlib.Core.Option.{Option, none, some}
+use mathlib.Core.Path.{_≡_, refl, ap, _∙_}
+use mathlib.Core.Bool.{true}
+use mathlib.Core.Option.{Option, none}
 use mathlib.Core.List.{List, [], _∷_, _++_, map}
 use lib.Dec.{leb}
-use lib.ListN.{length, take, drop}
+use lib.ListN.{length, drop}
 use borrow.Author.Tests.{leb-true, le-leb, lt-leb}
 use Rattle.laws.specs.Lists.{all}
 use Rattle.laws.proofs.Tests.{and-right, and-intro}
-use Rattle.model.specs.Answer.{Answer, refused, accepted, _>>_, need}
+use Rattle.model.specs.Answer.{Answer, accepted, _>>_, need}
 use Rattle.model.specs.Card as model
-use Rattle.model.specs.Writer.{each, checkSchemaAtom, checkList, checkSchema, checkFact, checkTask, taskBytes}
+use Rattle.model.specs.Writer.{each, checkSchema, checkTask, taskBytes}
 use Rattle.model.specs.Calls.{finish, output, encode}
-use Rattle.card.specs.Represents.{atomOf, blankAtom, blankSchema, refusalNumber}
+use Rattle.card.specs.Represents.{atomOf, blankAtom, blankSchema}
 use Rattle.card.specs.declared.Refusal.{Refusal}
 use Rattle.card.specs.declared.Schema.{Schema}
 use Rattle.card.specs.declared.Task.{Task}
-use Rattle.writer.specs.Tables.{entries, atomTable, schemaTable, tableOf, writingSays, Encodes}
+use Rattle.writer.specs.Tables.{entries, schemaTable, tableOf, writingSays, Encodes}
 use Rattle.writer.specs.Checking.{checkedSays}
-use Rattle.writer.specs.Bytes.{Writes, schemaFits, Fits}
+use Rattle.writer.specs.Bytes.{cardRoom, Writes, schemaFits, Fits}
 use Rattle.writer.specs.declared.checking.Checked.{Checked}
 use Rattle.writer.specs.declared.checking.Checked.the-variants as checked
 use Rattle.writer.specs.declared.Writing.the-variants as writing
@@ -45,9 +45,9 @@ passed-schema arities s e =
     let later = then-right _ _ lists in
     and-intro _ _
     (and-intro _ _
-      (and-intro _ _ (le-leb (s .parameters) 6 (ranged 1 6 (s .parameters) 5 _ e))
-        (le-leb (s .preconditions .count) 8 (passed-list _ arities (s .preconditions) (then-left _ _ lists))))
-      (le-leb (s .deletes .count) 8 (passed-list _ arities (s .deletes) (then-left _ _ later))))
+    (and-intro _ _ (le-leb (s .parameters) 6 (ranged 1 6 (s .parameters) 5 _ e))
+    (le-leb (s .preconditions .count) 8 (passed-list _ arities (s .preconditions) (then-left _ _ lists))))
+    (le-leb (s .deletes .count) 8 (passed-list _ arities (s .deletes) (then-left _ _ later))))
     (le-leb (s .adds .count) 8 (passed-list _ arities (s .adds) (then-right _ _ later)))
 
 passed-schemas : (arities : List ℕ) (p : Option model.Schema) (xs : List Schema)
@@ -91,7 +91,7 @@ module _ (t : Task) (out : List ℕ) (c : Checked) (says : checkedSays c ≡ che
   encode-short e h = record { answer = rw (← says, e, lt-leb 65536 (length out) h); buffer = rw (← says, e, lt-leb 65536 (length out) h) }
 
   pub encode-written : c ≡ checked.Passed → 65536 ≤ length out → (after : List ℕ) (n : ℕ)
-      → Writes 5305 0 (taskBytes (tableOf t)) out after n → Encodes t out after (writing.Written n)
+      → Writes cardRoom 0 (taskBytes (tableOf t)) out after n → Encodes t out after (writing.Written n)
   unfolding encode finish output writingSays checkedSays _>>_ need
   encode-written e h after n w =
       record {

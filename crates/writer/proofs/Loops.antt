@@ -1,16 +1,15 @@
 -- Loops over the items of a list that say, at each place, what is left to do there: where they stop, go on and end.
-use Prim.Native.Nat.{ℕ, zero, suc, _+_, _≤_, _<_}
+use Prim.Native.Nat.{ℕ, _+_, _≤_, _<_}
 use mathlib.Core.Path.{_≡_, refl, sym, ap, _∙_}
-use mathlib.Core.Bool.{Bool, true, false, cond, _&&_, _||_}
+use mathlib.Core.Bool.{Bool, true, false}
 use native.Mathlib.Omega.{arith}
 use native.Mathlib.Numerals.{add-one}
-use mathlib.Core.List.{List, [], _∷_, map}
-use mathlib.Core.Option.{Option, none, some}
+use mathlib.Core.List.{List, _∷_, map}
+use mathlib.Core.Option.{Option, none}
 use lib.ListN.{getD, drop}
 use Rattle.laws.specs.Lists.{any, all}
 use Rattle.model.specs.Answer.{Answer, refused, accepted, _>>_, need}
 use Rattle.model.specs.Writer.{each}
-use Rattle.card.specs.Represents.{refusalNumber}
 use Rattle.card.specs.declared.Refusal.{Refusal}
 use Rattle.writer.specs.Tables.{entries}
 use Rattle.writer.proofs.Entries.{next-item, no-item}

@@ -1,13 +1,11 @@
 -- The check of a schema: its header, then its three lists, each by its count and then atom by atom.
 use Prim.Native.Nat.{ℕ, _≤_, _<_}
-use mathlib.Core.Path.{_≡_, refl, sym, ap, _∙_}
-use mathlib.Core.Bool.{Bool, true, false}
+use mathlib.Core.Path.{_≡_, refl}
 use mathlib.Core.List.{List, []}
 use mathlib.Core.Option.{Option, none}
-use lib.Dec.{leb}
 use lib.ListN.{length}
 use borrow.Author.Tests.{le-leb, lt-leb, leb-true}
-use Rattle.model.specs.Answer.{Answer, refused, accepted, _>>_, need}
+use Rattle.model.specs.Answer.{Answer, accepted, _>>_, need}
 use Rattle.model.specs.Card as model
 use Rattle.model.specs.Writer.{each, checkSchemaAtom, checkList, checkSchema}
 use Rattle.card.specs.Represents.{atomOf, blankAtom, blankSchema, atomsFor, refusalNumber}
@@ -23,7 +21,7 @@ use Rattle.writer.specs.declared.checking.Place.{Place}
 use Rattle.writer.specs.declared.checking.Place.the-variants.{Preconditions, Deletes, Adds}
 use Rattle.writer.proofs.Entries.{length-table}
 use Rattle.writer.proofs.Ranges.{below-range, above-range, in-range}
-use Rattle.writer.proofs.Loops.{then-left, need-passed, then-refused, then-passed}
+use Rattle.writer.proofs.Loops.{passed-says, then-left, need-passed, then-refused, then-passed}
 
 -- the schema of zeros, which stands past the end of a list of schemas
 abbrev pub zeros : Schema
@@ -82,6 +80,9 @@ module _ (arities : List ℕ) (s : Schema) where
     module _ (c₁ : Checked) (says₁ : checkedSays c₁ ≡ listCheck arities s Preconditions (s .preconditions)) where
       pub preconditions-refused : (r : Refusal) → c₁ ≡ Refused r → checkedSays c₁ ≡ checkSchema arities (schemaTable arities s)
       preconditions-refused r e = three-lists _ (then-refused _ _ _ says₁ r e)
+
+      pub preconditions-short : c₁ ≡ Passed → s .preconditions .count ≤ 8
+      preconditions-short e = passed-list _ arities (s .preconditions) (passed-says c₁ _ says₁ e)
 
       module _ (passed₁ : c₁ ≡ Passed) (c₂ : Checked) (says₂ : checkedSays c₂ ≡ listCheck arities s Deletes (s .deletes)) where
         pub deletes-refused : (r : Refusal) → c₂ ≡ Refused r → checkedSays c₂ ≡ checkSchema arities (schemaTable arities s)

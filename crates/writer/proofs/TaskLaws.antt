@@ -2,7 +2,7 @@
 use Prim.Native.Nat.{ℕ, _-_, _≤_, _<_}
 use native.Mathlib.Nat.{sub-zero}
 use native.Mathlib.Omega.{arith}
-use mathlib.Core.Path.{_≡_, refl, sym, ap, _∙_}
+use mathlib.Core.Path.{_≡_, sym, _∙_}
 use mathlib.Core.Bool.{Bool, true, false}
 use mathlib.Core.List.{List, map}
 use mathlib.Core.Option.{none}
@@ -10,7 +10,7 @@ use lib.Dec.{leb}
 use lib.ListN.{length, take, drop}
 use borrow.Author.Tests.{le-leb, lt-leb}
 use Rattle.laws.specs.Lists.{all}
-use Rattle.model.specs.Answer.{Answer, refused, accepted, _>>_, need}
+use Rattle.model.specs.Answer.{Answer, _>>_, need}
 use Rattle.model.specs.Card.{between}
 use Rattle.model.specs.Writer.{each, checkSchema, checkFact, checkTask}
 use Rattle.card.specs.Represents.{atomOf, blankAtom, blankSchema, refusalNumber}

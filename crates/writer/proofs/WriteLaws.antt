@@ -1,5 +1,5 @@
 -- Writing at a place of a buffer: nothing, bytes, one piece after another, and the items of a table one by one.
-use Prim.Native.Nat.{ℕ, zero, suc, _+_, _*_, _-_, _≤_, _<_, zero-le}
+use Prim.Native.Nat.{ℕ, _+_, _*_, _≤_, _<_, zero-le}
 use native.Mathlib.Nat.{add-zero, mul-suc, mul-le-mul-left}
 use native.Mathlib.Numerals.{add-one, add-two, add-three}
 use native.Mathlib.Omega.{arith}
@@ -10,7 +10,7 @@ use lib.Seq.{length-take-le, take-at, drop-at, drop-drop, take-suc, take-all, se
 use Rattle.laws.proofs.Lists.{flatMap-append}
 use Rattle.writer.specs.Tables.{entries}
 use Rattle.writer.specs.Bytes.{Writes}
-use Rattle.writer.proofs.Entries.{item-at, next-item, length-table}
+use Rattle.writer.proofs.Entries.{item-at, length-table}
 
 -- the buffer keeps its length
 pub length-written : (room at : ℕ) (bytes x y : List ℕ) (n : ℕ) → Writes room at bytes x y n → at + room ≤ length x → length y ≡ length x
@@ -51,19 +51,23 @@ pub writes-then : (r q at : ℕ) (b d x y z : List ℕ) (m n : ℕ) → Writes r
 writes-then r q at b d x y z m n v w fits =
     record {
       stands = w .stands ∙ ap (λ (l : List ℕ). l ++ d ++ drop (m + length d) y) front
-        ∙ ap (λ (l : List ℕ). take at x ++ b ++ d ++ l) back ∙ ap (λ (l : List ℕ). l ++ drop (at + length (b ++ d)) x) (append-assoc (take at x) b d);
+          ∙ ap (λ (l : List ℕ). take at x ++ b ++ d ++ l) back ∙ ap (λ (l : List ℕ). l ++ drop (at + length (b ++ d)) x) (append-assoc (take at x) b d);
       place = rw length-append (omega arith);
       within = rw length-append (omega arith);
     }
   where
     seam : length (take at x ++ b) ≡ m
     seam = simp (length-append, length-take-le at x (omega arith)) (omega arith)
+
     front : take m y ≡ take at x ++ b
     front = rw (v .stands) (take-at (take at x ++ b) (drop (at + length b) x) m seam)
+
     rest : drop m y ≡ drop (at + length b) x
     rest = rw (v .stands) (drop-at (take at x ++ b) (drop (at + length b) x) m seam)
+
     end : at + length b + length d ≡ at + length (b ++ d)
     end = rw length-append (omega arith)
+
     back : drop (m + length d) y ≡ drop (at + length (b ++ d)) x
     back =
         sym (drop-drop (length d) m y) ∙ ap (drop (length d)) rest ∙ drop-drop (length d) (at + length b) x ∙ ap (λ (k : ℕ). drop k x) end
@@ -90,6 +94,7 @@ module _ {A B : Type 0} (bytesOf : B → List ℕ) (f : A → B) (count : ℕ) (
     where
       rooms : room * (i + 1) ≡ room * i + room
       rooms = rw add-one (mul-suc room i)
+
       room-so-far : at + room * i ≤ length x
       room-so-far = omega (arith, mul-le-mul-left {m = i} {n = count} room (omega arith))
 
@@ -100,5 +105,6 @@ module _ {A B : Type 0} (bytesOf : B → List ℕ) (f : A → B) (count : ℕ) (
     where
       there : i ≡ count
       there = omega arith
+
       all-taken : length (map f (entries count blank xs)) ≤ count
       all-taken = rw length-table (omega arith)

@@ -1,5 +1,5 @@
 -- What writing at a place of the output buffer leaves there, and which tables the writer writes.
-use Prim.Native.Nat.{ℕ, _+_, _≤_}
+use Prim.Native.Nat.{ℕ, _+_, _*_, _≤_}
 use mathlib.Core.Path.{_≡_}
 use mathlib.Core.Bool.{Bool, true, cond, not, _&&_}
 use mathlib.Core.List.{List, _++_}
@@ -10,6 +10,27 @@ use Rattle.card.specs.Represents.{blankSchema}
 use Rattle.card.specs.declared.Schema.{Schema}
 use Rattle.card.specs.declared.Task.{Task}
 use Rattle.writer.specs.Tables.{entries}
+
+-- how many bytes a piece of a card takes at most.
+-- An atom: its predicate and three arguments
+abbrev pub atomRoom : ℕ
+atomRoom = 1 + 3
+
+-- a list: its count and eight atoms
+abbrev pub listRoom : ℕ
+listRoom = 1 + 8 * atomRoom
+
+-- a schema: its map, its role count and three lists
+abbrev pub schemaRoom : ℕ
+schemaRoom = 1 + 1 + 3 * listRoom
+
+-- the predicates with their count, the objects, and the count of the schemas
+abbrev pub headerRoom : ℕ
+headerRoom = 1 + 20 + 1 + 1
+
+-- a card: its header, 32 schemas, and 512 facts with their count
+abbrev pub cardRoom : ℕ
+cardRoom = headerRoom + 32 * schemaRoom + 2 + 512 * atomRoom
 
 -- bytes stand at the place, and what stood before and after them still does; the next place is answered; `room` bounds the bytes
 pub record Writes (room at : ℕ) (bytes buffer after : List ℕ) (next : ℕ) : Type 0 where

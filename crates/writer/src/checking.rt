@@ -2,7 +2,6 @@
 use crate::atoms::is_below;
 use crate::atoms::is_known;
 use crate::atoms::is_same;
-use card::ArityList;
 use card::Atom;
 use card::AtomList;
 use card::FactList;
@@ -30,14 +29,14 @@ pub enum Checked {
 }
 
 // The list of a schema that an atom stands on.
-pub enum Place {
+enum Place {
     Preconditions,
     Deletes,
     Adds,
 }
 
 // The atom is on the list.
-pub fn has_atom(arities: &[u8], list: AtomList, a: Atom) -> bool
+fn has_atom(arities: &[u8], list: AtomList, a: Atom) -> bool
     requires { ⌜ list .count ≤ 8 ⌝ }
     ensures { λ r. ⌜ r ≡ model.has (atomTable (now (arities .entry)) list) (atomOf (now (arities .entry)) a) ⌝ }
 {
@@ -54,7 +53,7 @@ pub fn has_atom(arities: &[u8], list: AtomList, a: Atom) -> bool
 }
 
 // An atom, item i of its list, after the one before it.
-pub fn check_atom(
+fn check_atom(
     arities: &[u8],
     bound: usize,
     unknown: Refusal,
@@ -80,7 +79,7 @@ pub fn check_atom(
 }
 
 // 9 and 10: an atom beside the preconditions of its schema.
-pub fn check_place(arities: &[u8], place: Place, preconditions: AtomList, a: Atom) -> Checked
+fn check_place(arities: &[u8], place: Place, preconditions: AtomList, a: Atom) -> Checked
     requires { ⌜ preconditions .count ≤ 8 ⌝ }
     ensures { λ r.
         ⌜ checkedSays r ≡ need
@@ -107,7 +106,7 @@ pub fn check_place(arities: &[u8], place: Place, preconditions: AtomList, a: Ato
 }
 
 // 7 to 10: an atom of a schema, item i of its list.
-pub fn check_schema_atom(
+fn check_schema_atom(
     arities: &[u8],
     parameters: usize,
     place: Place,
@@ -138,7 +137,7 @@ pub fn check_schema_atom(
 }
 
 // The atoms of one list of a schema.
-pub fn check_atoms(
+fn check_atoms(
     arities: &[u8],
     parameters: usize,
     place: Place,
@@ -168,7 +167,7 @@ pub fn check_atoms(
 }
 
 // 6: one list of a schema.
-pub fn check_list(
+fn check_list(
     arities: &[u8],
     parameters: usize,
     place: Place,
@@ -189,7 +188,7 @@ pub fn check_list(
 }
 
 // 5: a schema.
-pub fn check_schema(arities: &[u8], s: Schema) -> Checked
+fn check_schema(arities: &[u8], s: Schema) -> Checked
     ensures { λ r. ⌜ checkedSays r ≡ writer.checkSchema (now (arities .entry)) (schemaTable (now (arities .entry)) s) ⌝ }
 {
     let parameters = s.parameters;
@@ -219,7 +218,7 @@ pub fn check_schema(arities: &[u8], s: Schema) -> Checked
     check_list(arities, parameters, Place::Adds, preconditions, adds)
 }
 
-pub fn check_schemas(arities: &[u8], list: SchemaList) -> Checked
+fn check_schemas(arities: &[u8], list: SchemaList) -> Checked
     requires { ⌜ list .count ≤ 32 ⌝ }
     ensures { λ r.
         ⌜ checkedSays r ≡ writer.each (λ before. writer.checkSchema (now (arities .entry))) none
@@ -239,7 +238,7 @@ pub fn check_schemas(arities: &[u8], list: SchemaList) -> Checked
 }
 
 // 12 and 13.
-pub fn check_facts(arities: &[u8], objects: usize, list: FactList) -> Checked
+fn check_facts(arities: &[u8], objects: usize, list: FactList) -> Checked
     requires { ⌜ list .count ≤ 512 ⌝ }
     ensures { λ r.
         ⌜ checkedSays r ≡ writer.each (writer.checkFact (now (arities .entry)) objects) none
@@ -269,7 +268,7 @@ pub fn check_facts(arities: &[u8], objects: usize, list: FactList) -> Checked
 }
 
 // Every arity is 1 to 3.
-pub fn arities_within(arities: &[u8]) -> bool
+fn arities_within(arities: &[u8]) -> bool
     ensures { λ r. ⌜ r ≡ all (model.between 1 3) (now (arities .entry)) ⌝ }
 {
     let mut i = 0;
@@ -286,7 +285,7 @@ pub fn arities_within(arities: &[u8]) -> bool
 }
 
 // 3, 4 and 11 to 13: what follows the arities.
-pub fn check_rest(arities: &[u8], objects: usize, schemas: SchemaList, facts: FactList) -> Checked
+fn check_rest(arities: &[u8], objects: usize, schemas: SchemaList, facts: FactList) -> Checked
     ensures { λ r. ⌜ checkedSays r ≡ checkRest (now (arities .entry)) objects schemas facts ⌝ }
 {
     if objects < 1 {

@@ -8,7 +8,6 @@ use card::Task;
 use checking::Checked;
 use checking::check_task;
 use output::write_task;
-
 ghost use Rattle.writer.specs.Tables.{Encodes};
 
 // What writing answers: the length, the refusal of a table that no card can carry, or that the output buffer is short.
@@ -18,6 +17,9 @@ pub enum Writing {
     OutputShort,
 }
 
+// How many bytes every call asks of its output buffer. Document 01, refusal 21.
+const OUTPUT_BYTES: usize = 65536;
+
 // The card of a table, written from byte 0 of `out`; the bytes after it are left. A refusal changes no byte.
 pub fn encode(task: Task, out: &mut [u8]) -> Writing
     ensures { λ r. ⌜ Encodes task (now (out .entry)) (now (out .exit)) r ⌝ }
@@ -26,7 +28,7 @@ pub fn encode(task: Task, out: &mut [u8]) -> Writing
     if let Checked::Refused(r) = checked {
         return Writing::Refused(r);
     }
-    if out.len() < 65536 {
+    if out.len() < OUTPUT_BYTES {
         return Writing::OutputShort;
     }
     Writing::Written(write_task(out, task))

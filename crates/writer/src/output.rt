@@ -1,25 +1,24 @@
 // The card of a table that was checked, written from byte 0 of the output buffer.
+use crate::atoms::arity;
 use card::Atom;
 use card::AtomList;
 use card::FactList;
 use card::Schema;
 use card::SchemaList;
 use card::Task;
-use crate::atoms::arity;
-
 ghost use mathlib.Core.Path.{_≡_};
 ghost use Prim.Native.Nat.{_+_, _*_, _/_, _%_, _≤_};
 ghost use mathlib.Core.Bool.{true};
-ghost use mathlib.Core.List.{List, [], _∷_, _++_, map, flatMap};
+ghost use mathlib.Core.List.{[], _∷_, _++_, map, flatMap};
 ghost use lib.ListN.{length};
 ghost use Rattle.laws.specs.Lists.{all};
 ghost use Rattle.model.specs.Writer.{atomBytes, listBytes, roleBytes, schemaBytes, taskBytes};
 ghost use Rattle.card.specs.Represents.{atomOf, blankAtom, blankSchema};
 ghost use Rattle.writer.specs.Tables.{entries, atomTable, schemaTable, tableOf};
-ghost use Rattle.writer.specs.Bytes.{Writes, bitWhere, mapOf, schemaFits, Fits};
+ghost use Rattle.writer.specs.Bytes.{atomRoom, listRoom, schemaRoom, headerRoom, cardRoom, Writes, bitWhere, mapOf, schemaFits, Fits};
 
 // One byte.
-pub fn write_byte(out: &mut [u8], at: usize, b: u8) -> usize
+fn write_byte(out: &mut [u8], at: usize, b: u8) -> usize
     requires { ⌜ at + 1 ≤ length (now out) ⌝ }
     ensures { λ r. ⌜ Writes 1 at (b ∷ []) (now (out .entry)) (now (out .exit)) r ⌝ }
 {
@@ -28,11 +27,9 @@ pub fn write_byte(out: &mut [u8], at: usize, b: u8) -> usize
 }
 
 // The predicate and as many arguments as its arity says.
-pub fn write_atom(out: &mut [u8], at: usize, arities: &[u8], a: Atom) -> usize
-    requires { ⌜ at + 4 ≤ length (now out) ⌝ }
-    ensures {
-        λ r. ⌜ Writes 4 at (atomBytes (atomOf (now (arities .entry)) a)) (now (out .entry)) (now (out .exit)) r ⌝
-    }
+fn write_atom(out: &mut [u8], at: usize, arities: &[u8], a: Atom) -> usize
+    requires { ⌜ at + atomRoom ≤ length (now out) ⌝ }
+    ensures { λ r. ⌜ Writes atomRoom at (atomBytes (atomOf (now (arities .entry)) a)) (now (out .entry)) (now (out .exit)) r ⌝ }
 {
     let n = arity(arities, a.predicate);
     out[at] = a.predicate;
@@ -52,13 +49,11 @@ pub fn write_atom(out: &mut [u8], at: usize, arities: &[u8], a: Atom) -> usize
 }
 
 // The atoms of a list.
-pub fn write_atoms(out: &mut [u8], at: usize, arities: &[u8], list: AtomList) -> usize
-    requires { ⌜ (list .count ≤ 8) × (at + 4 * list .count ≤ length (now out)) ⌝ }
-    ensures {
-        λ r.
-        ⌜ Writes (4 * list .count) at (flatMap atomBytes (atomTable (now (arities .entry)) list))
-          (now (out .entry)) (now (out .exit)) r ⌝
-    }
+fn write_atoms(out: &mut [u8], at: usize, arities: &[u8], list: AtomList) -> usize
+    requires { ⌜ (list .count ≤ 8) × (at + atomRoom * list .count ≤ length (now out)) ⌝ }
+    ensures { λ r.
+        ⌜ Writes (atomRoom * list .count) at (flatMap atomBytes (atomTable (now (arities .entry)) list))
+        (now (out .entry)) (now (out .exit)) r ⌝ }
 {
     let count = list.count;
     let mut next = at;
@@ -72,12 +67,10 @@ pub fn write_atoms(out: &mut [u8], at: usize, arities: &[u8], list: AtomList) ->
 }
 
 // A list that is not empty: its count and its atoms.
-pub fn write_list(out: &mut [u8], at: usize, arities: &[u8], list: AtomList) -> usize
-    requires { ⌜ (list .count ≤ 8) × (at + 33 ≤ length (now out)) ⌝ }
-    ensures {
-        λ r.
-        ⌜ Writes 33 at (listBytes (atomTable (now (arities .entry)) list)) (now (out .entry)) (now (out .exit)) r ⌝
-    }
+fn write_list(out: &mut [u8], at: usize, arities: &[u8], list: AtomList) -> usize
+    requires { ⌜ (list .count ≤ 8) × (at + listRoom ≤ length (now out)) ⌝ }
+    ensures { λ r.
+        ⌜ Writes listRoom at (listBytes (atomTable (now (arities .entry)) list)) (now (out .entry)) (now (out .exit)) r ⌝ }
 {
     let count = list.count;
     if count == 0 {
@@ -88,7 +81,7 @@ pub fn write_list(out: &mut [u8], at: usize, arities: &[u8], list: AtomList) -> 
 }
 
 // The role count, where it is not 1.
-pub fn write_roles(out: &mut [u8], at: usize, parameters: usize) -> usize
+fn write_roles(out: &mut [u8], at: usize, parameters: usize) -> usize
     requires { ⌜ (parameters ≤ 6) × (at + 1 ≤ length (now out)) ⌝ }
     ensures { λ r. ⌜ Writes 1 at (roleBytes parameters) (now (out .entry)) (now (out .exit)) r ⌝ }
 {
@@ -98,14 +91,14 @@ pub fn write_roles(out: &mut [u8], at: usize, parameters: usize) -> usize
     write_byte(out, at, parameters as u8)
 }
 
-pub fn bit_where(stands: bool, value: u8) -> u8
+fn bit_where(stands: bool, value: u8) -> u8
     ensures { λ r. ⌜ r ≡ bitWhere stands value ⌝ }
 {
     if stands { value } else { 0 }
 }
 
 // The map: a bit for each field that has bytes.
-pub fn map_of(s: Schema) -> u8
+fn map_of(s: Schema) -> u8
     ensures { λ r. ⌜ r ≡ mapOf s ⌝ }
 {
     let parameters = s.parameters;
@@ -118,12 +111,10 @@ pub fn map_of(s: Schema) -> u8
         + bit_where(adds.count != 0, 8)
 }
 
-pub fn write_schema(out: &mut [u8], at: usize, arities: &[u8], s: Schema) -> usize
-    requires { ⌜ (schemaFits s ≡ true) × (at + 101 ≤ length (now out)) ⌝ }
-    ensures {
-        λ r.
-        ⌜ Writes 101 at (schemaBytes (schemaTable (now (arities .entry)) s)) (now (out .entry)) (now (out .exit)) r ⌝
-    }
+fn write_schema(out: &mut [u8], at: usize, arities: &[u8], s: Schema) -> usize
+    requires { ⌜ (schemaFits s ≡ true) × (at + schemaRoom ≤ length (now out)) ⌝ }
+    ensures { λ r.
+        ⌜ Writes schemaRoom at (schemaBytes (schemaTable (now (arities .entry)) s)) (now (out .entry)) (now (out .exit)) r ⌝ }
 {
     let parameters = s.parameters;
     let preconditions = s.preconditions;
@@ -136,18 +127,14 @@ pub fn write_schema(out: &mut [u8], at: usize, arities: &[u8], s: Schema) -> usi
     write_list(out, after_deletes, arities, adds)
 }
 
-pub fn write_schemas(out: &mut [u8], at: usize, arities: &[u8], list: SchemaList) -> usize
-    requires {
-        ⌜ (list .count ≤ 32)
-          × (all schemaFits (entries (list .count) blankSchema (list .schemas)) ≡ true)
-          × (at + 101 * list .count ≤ length (now out)) ⌝
-    }
-    ensures {
-        λ r.
-        ⌜ Writes (101 * list .count) at
-          (flatMap schemaBytes (map (schemaTable (now (arities .entry))) (entries (list .count) blankSchema (list .schemas))))
-          (now (out .entry)) (now (out .exit)) r ⌝
-    }
+fn write_schemas(out: &mut [u8], at: usize, arities: &[u8], list: SchemaList) -> usize
+    requires { ⌜ (list .count ≤ 32)
+        × (all schemaFits (entries (list .count) blankSchema (list .schemas)) ≡ true)
+        × (at + schemaRoom * list .count ≤ length (now out)) ⌝ }
+    ensures { λ r.
+        ⌜ Writes (schemaRoom * list .count) at
+        (flatMap schemaBytes (map (schemaTable (now (arities .entry))) (entries (list .count) blankSchema (list .schemas))))
+        (now (out .entry)) (now (out .exit)) r ⌝ }
 {
     let count = list.count;
     let mut next = at;
@@ -160,14 +147,12 @@ pub fn write_schemas(out: &mut [u8], at: usize, arities: &[u8], list: SchemaList
     next
 }
 
-pub fn write_facts(out: &mut [u8], at: usize, arities: &[u8], list: FactList) -> usize
-    requires { ⌜ (list .count ≤ 512) × (at + 4 * list .count ≤ length (now out)) ⌝ }
-    ensures {
-        λ r.
-        ⌜ Writes (4 * list .count) at
-          (flatMap atomBytes (map (atomOf (now (arities .entry))) (entries (list .count) blankAtom (list .facts))))
-          (now (out .entry)) (now (out .exit)) r ⌝
-    }
+fn write_facts(out: &mut [u8], at: usize, arities: &[u8], list: FactList) -> usize
+    requires { ⌜ (list .count ≤ 512) × (at + atomRoom * list .count ≤ length (now out)) ⌝ }
+    ensures { λ r.
+        ⌜ Writes (atomRoom * list .count) at
+        (flatMap atomBytes (map (atomOf (now (arities .entry))) (entries (list .count) blankAtom (list .facts))))
+        (now (out .entry)) (now (out .exit)) r ⌝ }
 {
     let count = list.count;
     let mut next = at;
@@ -181,7 +166,7 @@ pub fn write_facts(out: &mut [u8], at: usize, arities: &[u8], list: FactList) ->
 }
 
 // The fact count, high byte first.
-pub fn write_count(out: &mut [u8], at: usize, count: usize) -> usize
+fn write_count(out: &mut [u8], at: usize, count: usize) -> usize
     requires { ⌜ (count ≤ 512) × (at + 2 ≤ length (now out)) ⌝ }
     ensures { λ r. ⌜ Writes 2 at (count / 256 ∷ count % 256 ∷ []) (now (out .entry)) (now (out .exit)) r ⌝ }
 {
@@ -190,11 +175,9 @@ pub fn write_count(out: &mut [u8], at: usize, count: usize) -> usize
     at + 2
 }
 
-pub fn write_arities(out: &mut [u8], at: usize, arities: &[u8]) -> usize
+fn write_arities(out: &mut [u8], at: usize, arities: &[u8]) -> usize
     requires { ⌜ at + length (now arities) ≤ length (now out) ⌝ }
-    ensures {
-        λ r. ⌜ Writes (length (now (arities .entry))) at (now (arities .entry)) (now (out .entry)) (now (out .exit)) r ⌝
-    }
+    ensures { λ r. ⌜ Writes (length (now (arities .entry))) at (now (arities .entry)) (now (out .entry)) (now (out .exit)) r ⌝ }
 {
     let mut next = at;
     let mut i = 0;
@@ -206,15 +189,11 @@ pub fn write_arities(out: &mut [u8], at: usize, arities: &[u8]) -> usize
 }
 
 // The predicates, the objects and how many schemas follow.
-pub fn write_header(out: &mut [u8], arities: &[u8], objects: usize, schemas: usize) -> usize
-    requires {
-        ⌜ (length (now arities) ≤ 20) × (objects ≤ 64) × (schemas ≤ 32) × (23 ≤ length (now out)) ⌝
-    }
-    ensures {
-        λ r.
-        ⌜ Writes 23 0 (length (now (arities .entry)) ∷ now (arities .entry) ++ (objects ∷ schemas ∷ []))
-          (now (out .entry)) (now (out .exit)) r ⌝
-    }
+fn write_header(out: &mut [u8], arities: &[u8], objects: usize, schemas: usize) -> usize
+    requires { ⌜ (length (now arities) ≤ 20) × (objects ≤ 64) × (schemas ≤ 32) × (headerRoom ≤ length (now out)) ⌝ }
+    ensures { λ r.
+        ⌜ Writes headerRoom 0 (length (now (arities .entry)) ∷ now (arities .entry) ++ (objects ∷ schemas ∷ []))
+        (now (out .entry)) (now (out .exit)) r ⌝ }
 {
     let first = write_byte(out, 0, arities.len() as u8);
     let after_arities = write_arities(out, first, arities);
@@ -224,8 +203,8 @@ pub fn write_header(out: &mut [u8], arities: &[u8], objects: usize, schemas: usi
 
 // The whole card.
 pub fn write_task(out: &mut [u8], task: Task) -> usize
-    requires { ⌜ (Fits task) × (5305 ≤ length (now out)) ⌝ }
-    ensures { λ r. ⌜ Writes 5305 0 (taskBytes (tableOf task)) (now (out .entry)) (now (out .exit)) r ⌝ }
+    requires { ⌜ (Fits task) × (cardRoom ≤ length (now out)) ⌝ }
+    ensures { λ r. ⌜ Writes cardRoom 0 (taskBytes (tableOf task)) (now (out .entry)) (now (out .exit)) r ⌝ }
 {
     let predicates = task.predicates;
     let schemas = task.schemas;

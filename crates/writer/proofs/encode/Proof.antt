@@ -1,3 +1,4 @@
+-- `encode` meets its contract: a law for each return.
 use native.Mathlib.Omega.{arith}
 use Rattle.writer.proofs.Encoding.{checked-fits, encode-refused, encode-short, encode-written}
 use borrow.Author.Needs.{needs}

@@ -1,3 +1,4 @@
+-- `atoms::arity` meets its contract: past the end of the arities stands 0.
 use mathlib.Core.Path.{sym}
 use native.Mathlib.Omega.{arith}
 use denote.Ref.{now}

@@ -1,3 +1,4 @@
+-- `atoms::is_below` meets its contract: each return is decided by the first difference, as the laws on atoms say.
 use Rattle.writer.proofs.AtomLaws.{below-by-predicate, below-by-none, below-by-first, below-by-one, below-by-second, below-by-two, below-by-third}
 use borrow.Author.Needs.{needs}
 use Rattle.writer.proofs.atoms.is_below.Statement.{statement}

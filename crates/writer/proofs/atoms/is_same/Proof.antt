@@ -1,3 +1,4 @@
+-- `atoms::is_same` meets its contract: each return is decided by the first difference, as the laws on atoms say.
 use Rattle.writer.proofs.AtomLaws.{same-by-predicate, same-by-none, same-by-first, same-by-one, same-by-second, same-by-two, same-by-third}
 use borrow.Author.Needs.{needs}
 use Rattle.writer.proofs.atoms.is_same.Statement.{statement}

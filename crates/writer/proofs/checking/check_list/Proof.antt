@@ -1,3 +1,4 @@
+-- `checking::check_list` meets its contract.
 use Rattle.writer.proofs.SchemaLaws.{long-list, short-list}
 use Rattle.writer.proofs.checking.check_list.Statement.{statement}
 use Rattle.writer.proofs.checking.check_list.Tie as tie

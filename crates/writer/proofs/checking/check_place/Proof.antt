@@ -1,7 +1,4 @@
-use Prim.Native.Nat.{ℕ, zero, suc, _+_, _≤_, _<_, _-_}
-use mathlib.Core.Path.{_≡_, refl, sym, ap, _∙_}
-use mathlib.Core.Bool.{Bool, true, false}
-use mathlib.Core.List.{List}
+-- `checking::check_place` meets its contract: a case for each list that the atom may stand on.
 use borrow.Author.Needs.{needs}
 use Rattle.model.specs.Answer.{need}
 use Rattle.card.specs.Represents.{refusalNumber}

@@ -1,3 +1,4 @@
+-- `checking::check_rest` meets its contract: a law for each return.
 use Rattle.writer.proofs.TaskLaws.{few-objects, many-objects, many-schemas, schemas-refused, many-facts, few-facts}
 use borrow.Author.Needs.{needs}
 use Rattle.writer.proofs.checking.check_rest.Statement.{statement}

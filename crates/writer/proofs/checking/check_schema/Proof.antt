@@ -1,5 +1,5 @@
-use Rattle.writer.proofs.Loops.{passed-says}
-use Rattle.writer.proofs.SchemaLaws.{low-header, high-header, preconditions-refused, deletes-refused, deletes-passed, passed-list}
+-- `checking::check_schema` meets its contract: a law for each return.
+use Rattle.writer.proofs.SchemaLaws.{low-header, high-header, preconditions-refused, deletes-refused, deletes-passed, preconditions-short}
 use borrow.Author.Needs.{needs}
 use Rattle.writer.proofs.checking.check_schema.Statement.{statement}
 use Rattle.writer.proofs.checking.check_schema.Tie as tie
@@ -23,7 +23,7 @@ returns-3 : tie.Need-returns-3
 returns-3 c = search preconditions-refused
 
 check-list-requires-2 : tie.Need-check-list-requires-2
-check-list-requires-2 c κs short = passed-list _ _ _ (passed-says _ _ (c .before .before .check-list .ensures) (c .enum-told .given .1))
+check-list-requires-2 c κs short = search preconditions-short
 
 enum-told-3 : tie.Need-enum-told-3
 enum-told-3 c = search needs
@@ -35,9 +35,7 @@ returns-4 : tie.Need-returns-4
 returns-4 c = search deletes-refused
 
 check-list-requires-3 : tie.Need-check-list-requires-3
-check-list-requires-3 c κs short =
-    let first = c .before .before .before in
-    passed-list _ _ _ (passed-says _ _ (first .before .before .check-list .ensures) (first .enum-told .given .1))
+check-list-requires-3 c κs short = search preconditions-short
 
 returns-5 : tie.Need-returns-5
 returns-5 c = search deletes-passed

@@ -1,3 +1,4 @@
+-- `checking::check_schemas` meets its contract. The invariant: what is left to check is the answer.
 use Prim.Native.Nat.{ℕ, _+_, _≤_, _<_, _-_}
 use native.Mathlib.Omega.{arith}
 use mathlib.Core.Path.{_≡_, refl, ap, _∙_}
@@ -8,9 +9,8 @@ use borrow.Author.Needs.{needs}
 use Rattle.model.specs.Answer.{Answer}
 use Rattle.model.specs.Card as model
 use Rattle.model.specs.Writer.{each, checkSchema}
-use Rattle.card.specs.Represents.{blankAtom, blankSchema, atomsFor, padded}
-use Rattle.writer.specs.Tables.{entries, atomTable, schemaTable}
-use Rattle.card.specs.declared.AtomList.{AtomList}
+use Rattle.card.specs.Represents.{blankSchema}
+use Rattle.writer.specs.Tables.{entries, schemaTable}
 use Rattle.card.specs.declared.SchemaList.{SchemaList}
 use Rattle.card.specs.declared.Refusal.{Refusal}
 use Rattle.writer.specs.Checking.{checkedSays}

@@ -1,3 +1,4 @@
+-- `checking::check_task` meets its contract: a law for each return.
 use mathlib.Core.Path.{_≡_}
 use lib.ListN.{length}
 use native.Mathlib.Omega.{arith}

@@ -1,3 +1,4 @@
+-- `output::bit_where` meets its contract.
 use Rattle.writer.specs.Bytes.{bitWhere}
 use Rattle.writer.proofs.output.bit_where.Statement.{statement}
 use Rattle.writer.proofs.output.bit_where.Tie as tie

@@ -1,3 +1,4 @@
+-- `output::map_of` meets its contract: the four bits add up within a byte.
 use Prim.Native.Nat.{ℕ, _≤_}
 use native.Mathlib.Omega.{arith}
 use mathlib.Core.Path.{_≡_}
@@ -26,9 +27,12 @@ bit-where-requires-3 c κs = search needs
 
 add-result-2 : tie.Need-add-result-2
 add-result-2 c =
-    omega
-    (arith, bit-at-most _ _ _ (c .before .before .before .before .bit-where .ensures), bit-at-most _ _ _ (c .before .before .bit-where2 .ensures),
-      bit-at-most _ _ _ (c .bit-where3 .ensures))
+    omega (
+      arith,
+      bit-at-most _ _ _ (c .before .before .before .before .bit-where .ensures),
+      bit-at-most _ _ _ (c .before .before .bit-where2 .ensures),
+      bit-at-most _ _ _ (c .bit-where3 .ensures),
+    )
 
 bit-where-requires-4 : tie.Need-bit-where-requires-4
 bit-where-requires-4 c κs = search needs
@@ -36,9 +40,13 @@ bit-where-requires-4 c κs = search needs
 add-result-3 : tie.Need-add-result-3
 add-result-3 c =
     let three = c .before .before in
-    omega
-    (arith, bit-at-most _ _ _ (three .before .before .before .before .bit-where .ensures), bit-at-most _ _ _ (three .before .before .bit-where2 .ensures),
-      bit-at-most _ _ _ (three .bit-where3 .ensures), bit-at-most _ _ _ (c .bit-where4 .ensures))
+    omega (
+      arith,
+      bit-at-most _ _ _ (three .before .before .before .before .bit-where .ensures),
+      bit-at-most _ _ _ (three .before .before .bit-where2 .ensures),
+      bit-at-most _ _ _ (three .bit-where3 .ensures),
+      bit-at-most _ _ _ (c .bit-where4 .ensures),
+    )
 
 returns : tie.Need-returns
 unfolding mapOf

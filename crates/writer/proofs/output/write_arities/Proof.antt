@@ -1,14 +1,11 @@
-use Prim.Native.Nat.{ℕ, _+_, _*_, _-_, _≤_}
+-- `output::write_arities` meets its contract. The invariant: the first i arities are written.
+use Prim.Native.Nat.{ℕ, _+_, _-_, _≤_, _<_}
 use native.Mathlib.Omega.{arith}
-use mathlib.Core.Path.{_≡_, refl, sym, _∙_}
-use mathlib.Core.List.{map, flatMap}
-use lib.ListN.{length, take}
-use borrow.Author.Needs.{needs}
+use mathlib.Core.Path.{_≡_, refl}
+use lib.ListN.{length, take, getD}
 use mathlib.Core.List.{List, [], _∷_, _++_}
-use lib.ListN.{getD}
 use lib.Seq.{take-suc, take-all}
 use native.Mathlib.Numerals.{add-one}
-use Prim.Native.Nat.{_<_}
 use Rattle.writer.specs.Bytes.{Writes}
 use Rattle.writer.proofs.WriteLaws.{writes-none, writes-then}
 use Rattle.writer.proofs.output.write_arities.Statement.{statement}

@@ -1,3 +1,4 @@
+-- `output::write_atom` meets its contract: the stores up to each return are the bytes of the atom.
 use Prim.Native.Nat.{ℕ, zero, suc, _+_, _≤_}
 use native.Mathlib.Omega.{arith}
 use mathlib.Core.Path.{_≡_, refl}
@@ -7,32 +8,32 @@ use lib.Seq.{take-nil}
 use Rattle.model.specs.Writer.{atomBytes}
 use Rattle.card.specs.Represents.{atomOf}
 use Rattle.card.specs.declared.Atom.{Atom}
-use Rattle.writer.specs.Bytes.{Writes}
+use Rattle.writer.specs.Bytes.{atomRoom, Writes}
 use Rattle.writer.proofs.WriteLaws.{stores-1, stores-2, stores-3, stores-4}
 use borrow.Author.Needs.{needs}
 use Rattle.writer.proofs.output.write_atom.Statement.{statement}
 use Rattle.writer.proofs.output.write_atom.Tie as tie
 
 -- as many arguments as the arity n says
-module _ (arities : List ℕ) (a : Atom) (n at : ℕ) (x : List ℕ) (fits : at + 4 ≤ length x) (arity : n ≡ getD arities (a .predicate) 0) where
-  written-none : n ≡ 0 → Writes 4 at (atomBytes (atomOf arities a)) x (set x at (a .predicate)) (at + 1)
+module _ (arities : List ℕ) (a : Atom) (n at : ℕ) (x : List ℕ) (fits : at + atomRoom ≤ length x) (arity : n ≡ getD arities (a .predicate) 0) where
+  written-none : n ≡ 0 → Writes atomRoom at (atomBytes (atomOf arities a)) x (set x at (a .predicate)) (at + 1)
   unfolding atomBytes atomOf
-  written-none z = rw (← arity, z) (stores-1 4 at x fits _ 0 0 0 (omega arith))
+  written-none z = rw (← arity, z) (stores-1 atomRoom at x fits _ 0 0 0 (omega arith))
 
-  written-one : n ≡ 1 → Writes 4 at (atomBytes (atomOf arities a)) x (set (set x at (a .predicate)) (at + 1) (a .first)) (at + 2)
+  written-one : n ≡ 1 → Writes atomRoom at (atomBytes (atomOf arities a)) x (set (set x at (a .predicate)) (at + 1) (a .first)) (at + 2)
   unfolding atomBytes atomOf
-  written-one z = rw (← arity, z) (stores-2 4 at x fits _ _ 0 0 (omega arith))
+  written-one z = rw (← arity, z) (stores-2 atomRoom at x fits _ _ 0 0 (omega arith))
 
   written-two : n ≡ 2
-      → Writes 4 at (atomBytes (atomOf arities a)) x (set (set (set x at (a .predicate)) (at + 1) (a .first)) (at + 2) (a .second)) (at + 3)
+      → Writes atomRoom at (atomBytes (atomOf arities a)) x (set (set (set x at (a .predicate)) (at + 1) (a .first)) (at + 2) (a .second)) (at + 3)
   unfolding atomBytes atomOf
-  written-two z = rw (← arity, z) (stores-3 4 at x fits _ _ _ 0 (omega arith))
+  written-two z = rw (← arity, z) (stores-3 atomRoom at x fits _ _ _ 0 (omega arith))
 
   written-three : (n ≡ 0 → ⊥) → (n ≡ 1 → ⊥) → (n ≡ 2 → ⊥)
-      → Writes 4 at (atomBytes (atomOf arities a)) x
-        (set (set (set (set x at (a .predicate)) (at + 1) (a .first)) (at + 2) (a .second)) (at + 3) (a .third)) (at + 4)
+      → Writes atomRoom at (atomBytes (atomOf arities a)) x
+      (set (set (set (set x at (a .predicate)) (at + 1) (a .first)) (at + 2) (a .second)) (at + 3) (a .third)) (at + 4)
   unfolding atomBytes atomOf
-  written-three d e f = rw (← arity, all-three n d e f) (stores-4 4 at x fits _ _ _ _ (omega arith))
+  written-three d e f = rw (← arity, all-three n d e f) (stores-4 atomRoom at x fits _ _ _ _ (omega arith))
     where
       all-three : (n : ℕ) → (n ≡ 0 → ⊥) → (n ≡ 1 → ⊥) → (n ≡ 2 → ⊥)
           → take n (a .first ∷ a .second ∷ a .third ∷ []) ≡ a .first ∷ a .second ∷ a .third ∷ []

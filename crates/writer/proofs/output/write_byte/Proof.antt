@@ -1,3 +1,4 @@
+-- `output::write_byte` meets its contract.
 use native.Mathlib.Omega.{arith}
 use Rattle.writer.proofs.WriteLaws.{stores-1}
 use borrow.Author.Needs.{needs}

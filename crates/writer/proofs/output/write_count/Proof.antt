@@ -1,3 +1,4 @@
+-- `output::write_count` meets its contract.
 use native.Mathlib.Omega.{arith}
 use lib.ListN.{length-set}
 use Rattle.writer.proofs.WriteLaws.{stores-2}

@@ -1,3 +1,4 @@
+-- `output::write_header` meets its contract: its pieces are the header.
 use Rattle.writer.proofs.CardBytes.{whole-header}
 use borrow.Author.Needs.{needs}
 use Rattle.writer.proofs.output.write_header.Statement.{statement}

@@ -1,3 +1,4 @@
+-- `output::write_list` meets its contract: its pieces are the list.
 use Rattle.writer.proofs.CardBytes.{empty-list, whole-list}
 use borrow.Author.Needs.{needs}
 use Rattle.writer.proofs.output.write_list.Statement.{statement}

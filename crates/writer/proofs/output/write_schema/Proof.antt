@@ -1,3 +1,4 @@
+-- `output::write_schema` meets its contract: its pieces are the schema.
 use native.Mathlib.Omega.{arith}
 use Rattle.writer.proofs.CardBytes.{parameters-fit, preconditions-fit, deletes-fit, adds-fit, whole-schema}
 use borrow.Author.Needs.{needs}

@@ -1,14 +1,14 @@
+-- `output::write_schemas` meets its contract. The invariant: the first i schemas are written.
 use Prim.Native.Nat.{ℕ, _+_, _*_, _-_, _≤_, _<_}
 use native.Mathlib.Omega.{arith}
-use mathlib.Core.Path.{_≡_, refl, sym, _∙_}
+use mathlib.Core.Path.{_≡_, refl, _∙_}
 use mathlib.Core.List.{List, map, flatMap}
 use lib.ListN.{length, getD, take}
-use borrow.Author.Needs.{needs}
 use Rattle.model.specs.Writer.{schemaBytes}
 use Rattle.card.specs.Represents.{blankSchema}
 use Rattle.card.specs.declared.SchemaList.{SchemaList}
 use Rattle.writer.specs.Tables.{entries, schemaTable}
-use Rattle.writer.specs.Bytes.{Writes}
+use Rattle.writer.specs.Bytes.{schemaRoom, Writes}
 use Rattle.writer.proofs.Entries.{default-alike}
 use Rattle.writer.proofs.SchemaLaws.{zeros, zeros-blank}
 use Rattle.writer.proofs.CardBytes.{schema-fits}
@@ -19,13 +19,13 @@ use Rattle.writer.proofs.output.write_schemas.Tie as tie
 -- the schemas before place i are written
 abbrev Written : List ℕ → SchemaList → ℕ → List ℕ → ℕ → List ℕ → ℕ → Type 0
 Written arities list at x i y m =
-    Writes (101 * i) at (flatMap schemaBytes (take i (map (schemaTable arities) (entries (list .count) blankSchema (list .schemas))))) x y m
+    Writes (schemaRoom * i) at (flatMap schemaBytes (take i (map (schemaTable arities) (entries (list .count) blankSchema (list .schemas))))) x y m
 
 schema-written : (arities : List ℕ) (list : SchemaList) (at i : ℕ) (x y z : List ℕ) (m n : ℕ) → i < list .count
-    → at + 101 * list .count ≤ length x → Written arities list at x i y m
-    → Writes 101 m (schemaBytes (schemaTable arities (getD (list .schemas) i zeros))) y z n → Written arities list at x (i + 1) z n
+    → at + schemaRoom * list .count ≤ length x → Written arities list at x i y m
+    → Writes schemaRoom m (schemaBytes (schemaTable arities (getD (list .schemas) i zeros))) y z n → Written arities list at x (i + 1) z n
 schema-written arities list at i x y z m n h fits v w =
-    item-written schemaBytes (schemaTable arities) (list .count) blankSchema (list .schemas) 101 at x i y z m n h fits v
+    item-written schemaBytes (schemaTable arities) (list .count) blankSchema (list .schemas) schemaRoom at x i y z m n h fits v
     (rw (default-alike (schemaTable arities) zeros blankSchema (zeros-blank arities) (list .schemas) i) at w)
 
 abbrev Inv-loop : tie.InvT-loop
@@ -63,7 +63,7 @@ same-length : tie.Need-same-length Inv-loop μ-loop
 same-length c = omega arith
 
 returns : tie.Need-returns Inv-loop μ-loop
-returns c = items-written _ _ _ _ _ 101 _ _ _ _ _ (c .loop-test .left) (c .before .loop .inv .0) (c .before .loop .inv .2)
+returns c = items-written _ _ _ _ _ schemaRoom _ _ _ _ _ (c .loop-test .left) (c .before .loop .inv .0) (c .before .loop .inv .2)
 
 pub write-schemas-spec : {M : Type 1} → statement M
 write-schemas-spec =

@@ -1,3 +1,4 @@
+-- `output::write_task` meets its contract: its pieces are the card.
 use mathlib.Core.Path.{_≡_}
 use lib.ListN.{length}
 use native.Mathlib.Omega.{arith}
