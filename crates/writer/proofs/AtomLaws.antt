@@ -197,7 +197,14 @@ module _ (arities : List ℕ) (bound : ℕ) (a : Atom) where
         module _ (some-second : n ≡ 1 → ⊥) where
           pub unknown-second : bound ≤ a .second → false ≡ known arities bound (atomOf arities a)
           unknown-second h =
-              known-at false (rw (known-places n bound a, ne-eqb _ _ some-first, lt-ltb (a .first) bound first, ne-eqb _ _ some-second, le-ltb (a .second) bound h))
+              known-at false
+              (rw (
+                known-places n bound a,
+                ne-eqb _ _ some-first,
+                lt-ltb (a .first) bound first,
+                ne-eqb _ _ some-second,
+                le-ltb (a .second) bound h,
+              ))
 
           module _ (second : a .second < bound) where
             pub known-by-two : n ≡ 2 → true ≡ known arities bound (atomOf arities a)

@@ -40,7 +40,8 @@ module _ (arities : List ℕ) (list : AtomList) (at : ℕ) (x : List ℕ) where
       → Writes listRoom at (listBytes (atomTable arities list)) x z n
   whole-list d short fits y z m n v w =
       rw (list-bytes (atomTable arities list) (λ e. d (sym (length-atoms arities list) ∙ e)), length-atoms)
-      (writes-within (1 + atomRoom * list .count) listRoom at _ x z n (writes-then 1 (atomRoom * list .count) at _ _ x y z m n v w (omega arith)) (omega arith))
+      (writes-within (1 + atomRoom * list .count) listRoom at _ x z n
+      (writes-then 1 (atomRoom * list .count) at _ _ x y z m n v w (omega arith)) (omega arith))
 
 -- a schema
 bit-of-list : (value : ℕ) (xs : List model.Atom) → bitFor value (listBytes xs) ≡ bitWhere (not (eqb (length xs) 0)) value

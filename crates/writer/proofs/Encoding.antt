@@ -13,7 +13,7 @@ use Rattle.laws.proofs.Tests.{and-right, and-intro}
 use Rattle.model.specs.Answer.{Answer, accepted, _>>_, need}
 use Rattle.model.specs.Card as model
 use Rattle.model.specs.Writer.{each, checkSchema, checkTask, taskBytes}
-use Rattle.model.specs.Calls.{finish, output, encode}
+use Rattle.model.specs.Calls.{outputBytes, finish, output, encode}
 use Rattle.card.specs.Represents.{atomOf, blankAtom, blankSchema}
 use Rattle.card.specs.declared.Refusal.{Refusal}
 use Rattle.card.specs.declared.Schema.{Schema}
@@ -25,7 +25,7 @@ use Rattle.writer.specs.declared.checking.Checked.{Checked}
 use Rattle.writer.specs.declared.checking.Checked.the-variants as checked
 use Rattle.writer.specs.declared.Writing.the-variants as writing
 use Rattle.writer.proofs.Entries.{length-entries, length-table}
-use Rattle.writer.proofs.Loops.{then-left, then-right, need-passed, passed-says}
+use Rattle.writer.proofs.Sequence.{then-left, then-right, need-passed, passed-says}
 use Rattle.writer.proofs.SchemaLaws.{passed-list}
 
 -- a number that passed a test against a bound
@@ -81,20 +81,22 @@ module _ (t : Task) (c : Checked) (says : checkedSays c ≡ checkTask (tableOf t
   pub checked-fits : c ≡ checked.Passed → Fits t
   checked-fits e = passed-task t (passed-says c (checkTask (tableOf t)) says e)
 
+-- the three answers of the call
 module _ (t : Task) (out : List ℕ) (c : Checked) (says : checkedSays c ≡ checkTask (tableOf t)) where
   pub encode-refused : (r : Refusal) → c ≡ checked.Refused r → Encodes t out out (writing.Refused r)
   unfolding encode finish writingSays checkedSays _>>_
   encode-refused r e = record { answer = rw (← says, e); buffer = rw (← says, e) }
 
-  pub encode-short : c ≡ checked.Passed → length out < 65536 → Encodes t out out writing.OutputShort
+  pub encode-short : c ≡ checked.Passed → length out < outputBytes → Encodes t out out writing.OutputShort
   unfolding encode finish writingSays checkedSays _>>_ need
-  encode-short e h = record { answer = rw (← says, e, lt-leb 65536 (length out) h); buffer = rw (← says, e, lt-leb 65536 (length out) h) }
+  encode-short e h = record { answer = rw (← says, e, lt-leb outputBytes (length out) h); buffer = rw (← says, e, lt-leb outputBytes (length out) h) }
 
-  pub encode-written : c ≡ checked.Passed → 65536 ≤ length out → (after : List ℕ) (n : ℕ)
+  pub encode-written : c ≡ checked.Passed → outputBytes ≤ length out → (after : List ℕ) (n : ℕ)
       → Writes cardRoom 0 (taskBytes (tableOf t)) out after n → Encodes t out after (writing.Written n)
   unfolding encode finish output writingSays checkedSays _>>_ need
   encode-written e h after n w =
+      let bytes = taskBytes (tableOf t) in
       record {
-        answer = rw (← says, e, le-leb 65536 (length out) h) (ap accepted (w .place ∙ zero-add _));
-        buffer = rw (← says, e, le-leb 65536 (length out) h) (w .stands ∙ ap (λ (k : ℕ). taskBytes (tableOf t) ++ drop k out) (zero-add (length (taskBytes (tableOf t)))));
+        answer = rw (← says, e, le-leb outputBytes (length out) h) (ap accepted (w .place ∙ zero-add _));
+        buffer = rw (← says, e, le-leb outputBytes (length out) h) (w .stands ∙ ap (λ (k : ℕ). bytes ++ drop k out) (zero-add (length bytes)));
       }

@@ -2,6 +2,7 @@ pub mod Ranges
 pub mod AtomLaws
 pub mod Entries
 pub mod Loops
+pub mod Sequence
 pub mod SchemaLaws
 pub mod TaskLaws
 pub mod WriteLaws

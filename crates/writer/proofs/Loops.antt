@@ -1,14 +1,13 @@
 -- Loops over the items of a list that say, at each place, what is left to do there: where they stop, go on and end.
 use Prim.Native.Nat.{ℕ, _+_, _≤_, _<_}
-use mathlib.Core.Path.{_≡_, refl, sym, ap, _∙_}
+use mathlib.Core.Path.{_≡_, ap, _∙_}
 use mathlib.Core.Bool.{Bool, true, false}
-use native.Mathlib.Omega.{arith}
 use native.Mathlib.Numerals.{add-one}
 use mathlib.Core.List.{List, _∷_, map}
 use mathlib.Core.Option.{Option, none}
 use lib.ListN.{getD, drop}
 use Rattle.laws.specs.Lists.{any, all}
-use Rattle.model.specs.Answer.{Answer, refused, accepted, _>>_, need}
+use Rattle.model.specs.Answer.{Answer, _>>_}
 use Rattle.model.specs.Writer.{each}
 use Rattle.card.specs.declared.Refusal.{Refusal}
 use Rattle.writer.specs.Tables.{entries}
@@ -21,20 +20,20 @@ use Rattle.writer.specs.declared.checking.Checked.the-variants.{Passed, 
 module _ {A : Type 0} (test : A → Bool) (whole : Bool) where
   pub any-found : (x : A) (rest : List A) → any test (x ∷ rest) ≡ whole → test x ≡ true → true ≡ whole
   unfolding any
-  any-found x rest so-far e = (rw e at so-far)
+  any-found x rest so-far e = rw e at so-far
 
   pub any-next : (x : A) (rest : List A) → any test (x ∷ rest) ≡ whole → test x ≡ false → any test rest ≡ whole
   unfolding any
-  any-next x rest so-far e = (rw e at so-far)
+  any-next x rest so-far e = rw e at so-far
 
-  -- a test of every item
+  -- and a test of every item
   pub all-failed : (x : A) (rest : List A) → all test (x ∷ rest) ≡ whole → test x ≡ false → false ≡ whole
   unfolding all
-  all-failed x rest so-far e = (rw e at so-far)
+  all-failed x rest so-far e = rw e at so-far
 
   pub all-next : (x : A) (rest : List A) → all test (x ∷ rest) ≡ whole → test x ≡ true → all test rest ≡ whole
   unfolding all
-  all-next x rest so-far e = (rw e at so-far)
+  all-next x rest so-far e = rw e at so-far
 
 -- checks of the items of a table one after the other, each told the item before it: what is left to check at place i is the answer
 module _ {A B : Type 0} (check : Option B → B → Answer (Unit {0})) (f : A → B) (count : ℕ) (blank : A) (xs : List A) (i : ℕ) (p : Option B)
@@ -45,47 +44,14 @@ module _ {A B : Type 0} (check : Option B → B → Answer (Unit {0})) (f : A �
     unfolding each checkedSays _>>_
     item-refused r e = ap checkedSays e ∙ (rw (next-item f count blank xs i at, ← says, e) at left)
 
+    -- after a check that passed the next item is due, and it is told this one
     pub item-passed : c ≡ Passed
         → each check (previous (i + 1) (f (getD xs i blank))) (drop (i + 1) (map f (entries count blank xs)))
         ≡ each check none (map f (entries count blank xs))
     unfolding each checkedSays _>>_ previous
     item-passed e = rw (add-one, ← add-one) (rw (next-item f count blank xs i at, ← says, e) at left)
 
+  -- at the end all have passed
   pub items-passed : count ≤ i → checkedSays Passed ≡ each check none (map f (entries count blank xs))
   unfolding each checkedSays
   items-passed h = rw (no-item f count blank xs i h) at left
-
-pub then-assoc : (x y z : Answer (Unit {0})) → x >> (y >> z) ≡ x >> y >> z
-unfolding _>>_
-then-assoc (refused n) y z = refl
-then-assoc (accepted done) y z = refl
-
--- two checks one after the other
-module _ (c : Checked) (first rest : Answer (Unit {0})) (says : checkedSays c ≡ first) where
-  pub then-refused : (r : Refusal) → c ≡ Refused r → checkedSays c ≡ first >> rest
-  unfolding checkedSays _>>_
-  then-refused r e = rw (← says, e)
-
-  pub then-passed : c ≡ Passed → (answer : Answer (Unit {0})) → answer ≡ rest → answer ≡ first >> rest
-  unfolding checkedSays _>>_
-  then-passed p answer e = rw (← says, p) e
-
--- what passed in sequence passed each
-pub then-left : (x y : Answer (Unit {0})) → x >> y ≡ accepted tt → x ≡ accepted tt
-unfolding _>>_
-then-left (refused n) y e = e
-then-left (accepted done) y e = refl
-
-pub then-right : (x y : Answer (Unit {0})) → x >> y ≡ accepted tt → y ≡ accepted tt
-unfolding _>>_
-then-right (refused n) y e = let z : _≡_ {A = ℕ} 0 1 = cc in absurd (omega arith)
-then-right (accepted done) y e = e
-
-pub need-passed : (test : Bool) (number : ℕ) → need test number ≡ accepted tt → test ≡ true
-unfolding need
-need-passed true number e = refl
-need-passed false number e = let z : _≡_ {A = ℕ} 0 1 = cc in absurd (omega arith)
-
-pub passed-says : (c : Checked) (x : Answer (Unit {0})) → checkedSays c ≡ x → c ≡ Passed → x ≡ accepted tt
-unfolding checkedSays
-passed-says c x says p = sym says ∙ ap checkedSays p

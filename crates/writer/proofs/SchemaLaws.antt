@@ -21,7 +21,7 @@ use Rattle.writer.specs.declared.checking.Place.{Place}
 use Rattle.writer.specs.declared.checking.Place.the-variants.{Preconditions, Deletes, Adds}
 use Rattle.writer.proofs.Entries.{length-table}
 use Rattle.writer.proofs.Ranges.{below-range, above-range, in-range}
-use Rattle.writer.proofs.Loops.{passed-says, then-left, need-passed, then-refused, then-passed}
+use Rattle.writer.proofs.Sequence.{passed-says, then-left, need-passed, then-refused, then-passed}
 
 -- the schema of zeros, which stands past the end of a list of schemas
 abbrev pub zeros : Schema
@@ -72,7 +72,9 @@ module _ (arities : List ℕ) (s : Schema) where
 
   module _ (low : 1 ≤ s .parameters) (high : s .parameters ≤ 6) where
     three-lists : (answer : Answer (Unit {0}))
-        → answer ≡ listCheck arities s Preconditions (s .preconditions) >> (listCheck arities s Deletes (s .deletes) >> listCheck arities s Adds (s .adds))
+        → answer
+        ≡ listCheck arities s Preconditions (s .preconditions)
+        >> (listCheck arities s Deletes (s .deletes) >> listCheck arities s Adds (s .adds))
         → answer ≡ checkSchema arities (schemaTable arities s)
     unfolding checkSchema schemaTable need _>>_ placeTest placeNumber
     three-lists answer e = rw (in-range 1 6 (s .parameters) low high) e

@@ -25,7 +25,7 @@ use Rattle.writer.specs.declared.checking.Checked.{Checked}
 use Rattle.writer.specs.declared.checking.Checked.the-variants.{Passed, Refused}
 use Rattle.writer.proofs.Entries.{entries-within, length-entries, length-table}
 use Rattle.writer.proofs.Ranges.{below-range, above-range, in-range}
-use Rattle.writer.proofs.Loops.{then-refused, then-passed}
+use Rattle.writer.proofs.Sequence.{then-refused, then-passed}
 
 module _ (arities : List ℕ) (objects : ℕ) (schemas : SchemaList) (facts : FactList) where
   pub few-objects : objects < 1 → checkedSays (Refused ObjectRange) ≡ checkRest arities objects schemas facts

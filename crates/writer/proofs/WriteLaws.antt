@@ -5,18 +5,14 @@ use native.Mathlib.Numerals.{add-one, add-two, add-three}
 use native.Mathlib.Omega.{arith}
 use mathlib.Core.Path.{_≡_, refl, sym, ap, _∙_}
 use mathlib.Core.List.{List, [], _∷_, _++_, map, flatMap, append-assoc, append-nil}
-use lib.ListN.{length, getD, take, drop, set, length-append, length-drop, take-append-drop}
+use lib.ListN.{length, getD, take, drop, set, length-append, take-append-drop}
 use lib.Seq.{length-take-le, take-at, drop-at, drop-drop, take-suc, take-all, sets, sets-eq}
 use Rattle.laws.proofs.Lists.{flatMap-append}
 use Rattle.writer.specs.Tables.{entries}
 use Rattle.writer.specs.Bytes.{Writes}
 use Rattle.writer.proofs.Entries.{item-at, length-table}
 
--- the buffer keeps its length
-pub length-written : (room at : ℕ) (bytes x y : List ℕ) (n : ℕ) → Writes room at bytes x y n → at + room ≤ length x → length y ≡ length x
-length-written room at bytes x y n w fits =
-    ap length (w .stands) ∙ simp (length-append, length-drop, length-take-le at x (omega arith)) (omega arith)
-
+-- nothing
 pub writes-none : (room at : ℕ) (x : List ℕ) → Writes room at [] x x at
 writes-none room at x =
     record {
@@ -51,7 +47,8 @@ pub writes-then : (r q at : ℕ) (b d x y z : List ℕ) (m n : ℕ) → Writes r
 writes-then r q at b d x y z m n v w fits =
     record {
       stands = w .stands ∙ ap (λ (l : List ℕ). l ++ d ++ drop (m + length d) y) front
-          ∙ ap (λ (l : List ℕ). take at x ++ b ++ d ++ l) back ∙ ap (λ (l : List ℕ). l ++ drop (at + length (b ++ d)) x) (append-assoc (take at x) b d);
+          ∙ ap (λ (l : List ℕ). take at x ++ b ++ d ++ l) back
+          ∙ ap (λ (l : List ℕ). l ++ drop (at + length (b ++ d)) x) (append-assoc (take at x) b d);
       place = rw length-append (omega arith);
       within = rw length-append (omega arith);
     }
@@ -83,7 +80,13 @@ module _ {A B : Type 0} (bytesOf : B → List ℕ) (f : A → B) (count : ℕ) (
       ≡ flatMap bytesOf (take i (map f (entries count blank xs))) ++ bytesOf (f (getD xs i blank))
   unfolding flatMap
   one-more i h =
-      rw (add-one, take-suc (map f (entries count blank xs)) i (f blank) (rw length-table h), flatMap-append, item-at f count blank xs i h, append-nil)
+      rw (
+        add-one,
+        take-suc (map f (entries count blank xs)) i (f blank) (rw length-table h),
+        flatMap-append,
+        item-at f count blank xs i h,
+        append-nil,
+      )
 
   pub item-written : (i : ℕ) (y z : List ℕ) (m n : ℕ) → i < count → at + room * count ≤ length x
       → Writes (room * i) at (flatMap bytesOf (take i (map f (entries count blank xs)))) x y m

@@ -218,6 +218,7 @@ fn check_schema(arities: &[u8], s: Schema) -> Checked
     check_list(arities, parameters, Place::Adds, preconditions, adds)
 }
 
+// The schemas, one after the other.
 fn check_schemas(arities: &[u8], list: SchemaList) -> Checked
     requires { ⌜ list .count ≤ 32 ⌝ }
     ensures { λ r.

@@ -91,6 +91,7 @@ fn write_roles(out: &mut [u8], at: usize, parameters: usize) -> usize
     write_byte(out, at, parameters as u8)
 }
 
+// A bit's value, where it stands.
 fn bit_where(stands: bool, value: u8) -> u8
     ensures { λ r. ⌜ r ≡ bitWhere stands value ⌝ }
 {
@@ -111,6 +112,7 @@ fn map_of(s: Schema) -> u8
         + bit_where(adds.count != 0, 8)
 }
 
+// The map, then the fields that have bytes, in bit order.
 fn write_schema(out: &mut [u8], at: usize, arities: &[u8], s: Schema) -> usize
     requires { ⌜ (schemaFits s ≡ true) × (at + schemaRoom ≤ length (now out)) ⌝ }
     ensures { λ r.
@@ -127,6 +129,7 @@ fn write_schema(out: &mut [u8], at: usize, arities: &[u8], s: Schema) -> usize
     write_list(out, after_deletes, arities, adds)
 }
 
+// The schemas, one after the other.
 fn write_schemas(out: &mut [u8], at: usize, arities: &[u8], list: SchemaList) -> usize
     requires { ⌜ (list .count ≤ 32)
         × (all schemaFits (entries (list .count) blankSchema (list .schemas)) ≡ true)
@@ -147,6 +150,7 @@ fn write_schemas(out: &mut [u8], at: usize, arities: &[u8], list: SchemaList) ->
     next
 }
 
+// The facts, one after the other.
 fn write_facts(out: &mut [u8], at: usize, arities: &[u8], list: FactList) -> usize
     requires { ⌜ (list .count ≤ 512) × (at + atomRoom * list .count ≤ length (now out)) ⌝ }
     ensures { λ r.
@@ -175,6 +179,7 @@ fn write_count(out: &mut [u8], at: usize, count: usize) -> usize
     at + 2
 }
 
+// The arities, one byte each.
 fn write_arities(out: &mut [u8], at: usize, arities: &[u8]) -> usize
     requires { ⌜ at + length (now arities) ≤ length (now out) ⌝ }
     ensures { λ r. ⌜ Writes (length (now (arities .entry))) at (now (arities .entry)) (now (out .entry)) (now (out .exit)) r ⌝ }

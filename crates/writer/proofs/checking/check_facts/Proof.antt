@@ -17,7 +17,8 @@ use Rattle.writer.proofs.checking.check_facts.Tie as tie
 abbrev Inv-loop : tie.InvT-loop
 Inv-loop arities objects list count before₀ i₀ before i =
     (i ≤ list .count)
-    × (each (checkFact arities objects) (previous i (atomOf arities before)) (drop i (map (atomOf arities) (entries (list .count) blankAtom (list .facts))))
+    × (each (checkFact arities objects) (previous i (atomOf arities before))
+    (drop i (map (atomOf arities) (entries (list .count) blankAtom (list .facts))))
     ≡ each (checkFact arities objects) none (map (atomOf arities) (entries (list .count) blankAtom (list .facts))))
 
 abbrev μ-loop : tie.MeasureT-loop

@@ -9,7 +9,7 @@ use Rattle.model.specs.Card as model
 use Rattle.model.specs.Writer.{known, checkSchemaAtom}
 use Rattle.card.specs.Represents.{refusalNumber}
 use Rattle.writer.specs.Checking.{checkOrdered}
-use Rattle.writer.proofs.Loops.{then-assoc, then-refused, then-passed}
+use Rattle.writer.proofs.Sequence.{then-assoc, then-refused, then-passed}
 use borrow.Author.Needs.{needs}
 use Rattle.writer.proofs.checking.check_schema_atom.Statement.{statement}
 use Rattle.writer.proofs.checking.check_schema_atom.Tie as tie

@@ -45,7 +45,8 @@ loop-again c =
     let at-loop = c .before .before .before .before .before .before in (
       omega arith,
       c .before .before .write-atom .kept .0 ∙ at-loop .loop .inv .1,
-      item-written _ _ _ _ _ atomRoom _ _ _ _ _ _ _ (c .before .before .before .before .before .loop-test .taken) (at-loop .before .before .before .pre .1) (at-loop .loop .inv .2)
+      item-written _ _ _ _ _ atomRoom _ _ _ _ _ _ _ (c .before .before .before .before .before .loop-test .taken)
+          (at-loop .before .before .before .pre .1) (at-loop .loop .inv .2)
           (c .before .before .write-atom .ensures),
     )
 
