@@ -83,7 +83,7 @@ module _ (card : List ℕ) where
 
           -- all is read
           pub whole-card : model.isEnd s₄ ≡ true
-            → model.decode card ≡ accepted (record { arities = arities; objects = objects; schemas = ss; facts = fs })
+              → model.decode card ≡ accepted (record { arities = arities; objects = objects; schemas = ss; facts = fs })
           unfolding afterPredicates afterObjects afterSchemas afterFacts
           whole-card e = in-parts card ∙ goes _ p ∙ goes _ o ∙ goes _ q ∙ goes _ f ∙ passes _ _ e
 
@@ -128,26 +128,26 @@ decodes-refused {card} e a =
 
 -- .. and to an accepted one
 pub decodes-accepted : {card : List ℕ} {t : Task} → model.decode card ≡ accepted (taskOf t) → t ≡ taskFor (taskOf t)
-  → Decodes card (record { verdict = Accepted; task = t })
+    → Decodes card (record { verdict = Accepted; task = t })
 unfolding answerOf taskBeside
 decodes-accepted a k = record { answer = sym a; kept = k ∙ sym (ap taskBeside a) }
 
 -- reads with the part of the array are reads with the arities
 module _ (l : ArityList) {card : List ℕ} (s : List ℕ) where
   pub schemas-with : {r : SchemasRead}
-    → SchemasReads (take (l .count - 0) (l .arities)) card (schemas (take (l .count - 0) (l .arities)) s) r
-    → SchemasReads (aritiesOf l) card (schemas (aritiesOf l) s) r
+      → SchemasReads (take (l .count - 0) (l .arities)) card (schemas (take (l .count - 0) (l .arities)) s) r
+      → SchemasReads (aritiesOf l) card (schemas (aritiesOf l) s) r
   schemas-with {r} w = subst (λ a. SchemasReads a card (schemas a s) r) (arities-part l) w
 
   pub facts-with : (objects : ℕ) {r : FactsRead}
-    → FactsReads (take (l .count - 0) (l .arities)) card (facts (take (l .count - 0) (l .arities)) objects s) r
-    → FactsReads (aritiesOf l) card (facts (aritiesOf l) objects s) r
+      → FactsReads (take (l .count - 0) (l .arities)) card (facts (take (l .count - 0) (l .arities)) objects s) r
+      → FactsReads (aritiesOf l) card (facts (aritiesOf l) objects s) r
   facts-with objects {r} w = subst (λ a. FactsReads a card (facts a objects s) r) (arities-part l) w
 
 -- a task is kept as its parts are
 pub task-kept : {l : ArityList} (objects : ℕ) {sl : SchemaList} {fl : FactList} → l ≡ aritiesFor (aritiesOf l)
-  → sl ≡ schemasFor (schemasOf (aritiesOf l) sl) → fl ≡ factsFor (factsOf (aritiesOf l) fl)
-  → _≡_ {A = Task} (record { predicates = l; objects = objects; schemas = sl; facts = fl })
+    → sl ≡ schemasFor (schemasOf (aritiesOf l) sl) → fl ≡ factsFor (factsOf (aritiesOf l) fl)
+    → _≡_ {A = Task} (record { predicates = l; objects = objects; schemas = sl; facts = fl })
     (taskFor (taskOf (record { predicates = l; objects = objects; schemas = sl; facts = fl })))
 unfolding taskFor taskOf
 task-kept objects p s f = λ i. record { predicates = p i; objects = objects; schemas = s i; facts = f i }

@@ -39,7 +39,7 @@ module _ (arities : List ℕ) (s : List ℕ) where
 
     -- the head is read, and the lists follow
     pub head-read : {parameters : ℕ} (s₂ : List ℕ) → roleCount present s₁ ≡ accepted (parameters, s₂)
-      → schema arities s ≡ schemaLists arities bits parameters s₂
+        → schema arities s ≡ schemaLists arities bits parameters s₂
     unfolding schema schemaLists
     head-read s₂ f = goes _ e ∙ goes _ (ap (λ t. roleCount t s₁) (sym p) ∙ f)
 

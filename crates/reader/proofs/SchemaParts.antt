@@ -27,7 +27,7 @@ use Rattle.reader.specs.Parts.{schemaLists, schemaRefused, SchemaReads}
 
 -- a list of a schema has at most 8 atoms
 list-few : (present : Bool) (read : Option model.Atom → model.Reader model.Atom) (s : List ℕ) {xs : List model.Atom} {rest : List ℕ}
-  → model.list present read s ≡ accepted (xs, rest) → length xs ≤ 8
+    → model.list present read s ≡ accepted (xs, rest) → length xs ≤ 8
 list-few false read s {xs} e =
     let none-read : xs ≡ [] = sym (ap (λ v. v .0) (value-of (sym (list-absent false read s refl) ∙ e))) in
     rw none-read (omega arith)
@@ -42,7 +42,7 @@ list-few true read s {xs} {rest} e = counted (model.byteThat (model.between 1 8)
 
 -- a list that was read, and the empty one, are kept as lists are
 pub list-kept : (arities : List ℕ) (present : Bool) (read : Option model.Atom → model.Reader model.Atom) (s : List ℕ) {card : List ℕ} {step : Step} {l : AtomList} {c : Cursor}
-  → Reads (atomsOf arities) atomsFor (atomsFor []) card (model.list present read s) step l → step ≡ At c → AtomsKept arities l
+    → Reads (atomsOf arities) atomsFor (atomsFor []) card (model.list present read s) step l → step ≡ At c → AtomsKept arities l
 unfolding atomsFor
 list-kept arities present read s {l = l} w e =
     let kept = kept-as w e in
@@ -57,43 +57,43 @@ no-list-kept arities e = subst⁻¹ (λ l. AtomsKept arities l) e (record { few 
 module _ (arities : List ℕ) (bits parameters : ℕ) (none-yet : List model.Atom) (s : List ℕ) where
   -- the preconditions are refused
   pub preconditions-refused : {k : ℕ} → model.list (model.bit 1 bits) (sectionAtom arities parameters Preconditions none-yet) s ≡ refused k
-    → schemaLists arities bits parameters s ≡ refused k
+      → schemaLists arities bits parameters s ≡ refused k
   unfolding schemaLists sectionAtom sectionTest refusalNumber
   preconditions-refused e = halts _ e
 
   module _ {preconditions : List model.Atom} (s₁ : List ℕ)
-    (e : model.list (model.bit 1 bits) (sectionAtom arities parameters Preconditions none-yet) s ≡ accepted (preconditions, s₁)) where
+      (e : model.list (model.bit 1 bits) (sectionAtom arities parameters Preconditions none-yet) s ≡ accepted (preconditions, s₁)) where
     -- the deletes are refused
     pub deletes-refused : {k : ℕ} → model.list (model.bit 2 bits) (sectionAtom arities parameters Deletes preconditions) s₁ ≡ refused k
-      → schemaLists arities bits parameters s ≡ refused k
+        → schemaLists arities bits parameters s ≡ refused k
     unfolding schemaLists sectionAtom sectionTest refusalNumber
     deletes-refused f = goes _ e ∙ halts _ f
 
     module _ {deletes : List model.Atom} (s₂ : List ℕ)
-      (f : model.list (model.bit 2 bits) (sectionAtom arities parameters Deletes preconditions) s₁ ≡ accepted (deletes, s₂)) where
+        (f : model.list (model.bit 2 bits) (sectionAtom arities parameters Deletes preconditions) s₁ ≡ accepted (deletes, s₂)) where
       -- the adds are refused
       pub adds-refused : {k : ℕ} → model.list (model.bit 3 bits) (sectionAtom arities parameters Adds preconditions) s₂ ≡ refused k
-        → schemaLists arities bits parameters s ≡ refused k
+          → schemaLists arities bits parameters s ≡ refused k
       unfolding schemaLists sectionAtom sectionTest refusalNumber
       adds-refused g = goes _ e ∙ goes _ f ∙ halts _ g
 
       -- all three are read
       pub lists-read : {adds : List model.Atom} {s₃ : List ℕ}
-        → model.list (model.bit 3 bits) (sectionAtom arities parameters Adds preconditions) s₂ ≡ accepted (adds, s₃)
-        → schemaLists arities bits parameters s
-        ≡ accepted (record { parameters = parameters; preconditions = preconditions; deletes = deletes; adds = adds }, s₃)
+          → model.list (model.bit 3 bits) (sectionAtom arities parameters Adds preconditions) s₂ ≡ accepted (adds, s₃)
+          → schemaLists arities bits parameters s
+          ≡ accepted (record { parameters = parameters; preconditions = preconditions; deletes = deletes; adds = adds }, s₃)
       unfolding schemaLists sectionAtom sectionTest refusalNumber
       lists-read g = goes _ e ∙ goes _ f ∙ goes _ g
 
 -- a schema is kept as its lists are
 pub schema-kept : (arities : List ℕ) (parameters : ℕ) {preconditions deletes adds : AtomList} → preconditions ≡ atomsFor (atomsOf arities preconditions)
-  → deletes ≡ atomsFor (atomsOf arities deletes) → adds ≡ atomsFor (atomsOf arities adds)
-  → _≡_ {A = Schema} (record { parameters = parameters; preconditions = preconditions; deletes = deletes; adds = adds })
+    → deletes ≡ atomsFor (atomsOf arities deletes) → adds ≡ atomsFor (atomsOf arities adds)
+    → _≡_ {A = Schema} (record { parameters = parameters; preconditions = preconditions; deletes = deletes; adds = adds })
     (schemaFor (schemaOf arities (record { parameters = parameters; preconditions = preconditions; deletes = deletes; adds = adds })))
 unfolding schemaFor schemaOf
 schema-kept arities parameters p d a = λ i. record { parameters = parameters; preconditions = p i; deletes = d i; adds = a i }
 
 -- a refused schema
 pub schema-refused : (arities : List ℕ) {card : List ℕ} {answer : Answer (model.Schema × List ℕ)} {r : SchemaRead} {k : Refusal} → r ≡ schemaRefused k
-  → answer ≡ refused (refusalNumber k) → SchemaReads arities card answer r
+    → answer ≡ refused (refusalNumber k) → SchemaReads arities card answer r
 schema-refused arities {card} {answer} e a = subst⁻¹ (λ r. SchemaReads arities card answer r) e (refuses a)

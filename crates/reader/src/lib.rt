@@ -91,23 +91,45 @@ fn no_schema(refusal: Refusal) -> SchemaRead
 // The three lists of a schema, each where its bit stands.
 fn lists(card: &[u8], c: Cursor, arities: &[u8], map: u8, parameters: usize) -> SchemaRead
     requires { ⌜ (c .at ≤ length (now card)) × (inRange (now arities) ≡ true) ⌝ }
-    ensures {
-        λ r. ⌜ SchemaReads (now (arities .entry)) (now (card .entry)) (schemaLists (now (arities .entry)) map parameters (drop (c .at) (now (card .entry)))) r ⌝
-    }
+    ensures { λ r. ⌜ SchemaReads (now (arities .entry)) (now (card .entry)) (schemaLists (now (arities .entry)) map parameters (drop (c .at) (now (card .entry)))) r ⌝ }
 {
-    let read = reader_lists::list(card, c, map / 2 % 2 == 1, arities, parameters, Section::Preconditions, reader_lists::no_atoms());
+    let read = reader_lists::list(
+        card,
+        c,
+        map / 2 % 2 == 1,
+        arities,
+        parameters,
+        Section::Preconditions,
+        reader_lists::no_atoms(),
+    );
     let step = read.step;
     let Step::At(c) = step else {
         return no_schema(step.refusal());
     };
     let preconditions = read.list;
-    let read = reader_lists::list(card, c, map / 4 % 2 == 1, arities, parameters, Section::Deletes, preconditions);
+    let read = reader_lists::list(
+        card,
+        c,
+        map / 4 % 2 == 1,
+        arities,
+        parameters,
+        Section::Deletes,
+        preconditions,
+    );
     let step = read.step;
     let Step::At(c) = step else {
         return no_schema(step.refusal());
     };
     let deletes = read.list;
-    let read = reader_lists::list(card, c, map / 8 % 2 == 1, arities, parameters, Section::Adds, preconditions);
+    let read = reader_lists::list(
+        card,
+        c,
+        map / 8 % 2 == 1,
+        arities,
+        parameters,
+        Section::Adds,
+        preconditions,
+    );
     let step = read.step;
     let Step::At(c) = step else {
         return no_schema(step.refusal());
@@ -115,16 +137,19 @@ fn lists(card: &[u8], c: Cursor, arities: &[u8], map: u8, parameters: usize) -> 
     let adds = read.list;
     SchemaRead {
         step: Step::At(c),
-        schema: Schema { parameters, preconditions, deletes, adds },
+        schema: Schema {
+            parameters,
+            preconditions,
+            deletes,
+            adds,
+        },
     }
 }
 
 // A schema: its bit map, then only the fields whose bit stands.
 pub fn schema(card: &[u8], c: Cursor, arities: &[u8]) -> SchemaRead
     requires { ⌜ inRange (now arities) ≡ true ⌝ }
-    ensures {
-        λ r. ⌜ SchemaReads (now (arities .entry)) (now (card .entry)) (schema (now (arities .entry)) (drop (c .at) (now (card .entry)))) r ⌝
-    }
+    ensures { λ r. ⌜ SchemaReads (now (arities .entry)) (now (card .entry)) (schema (now (arities .entry)) (drop (c .at) (now (card .entry)))) r ⌝ }
 {
     let read = map_byte(card, c);
     let ByteRead::Byte(map, c) = read else {
@@ -154,9 +179,7 @@ fn no_schemas() -> SchemaList
 // The schema count and so many schemas.
 fn schemas(card: &[u8], c: Cursor, arities: &[u8]) -> SchemasRead
     requires { ⌜ inRange (now arities) ≡ true ⌝ }
-    ensures {
-        λ r. ⌜ SchemasReads (now (arities .entry)) (now (card .entry)) (schemas (now (arities .entry)) (drop (c .at) (now (card .entry)))) r ⌝
-    }
+    ensures { λ r. ⌜ SchemasReads (now (arities .entry)) (now (card .entry)) (schemas (now (arities .entry)) (drop (c .at) (now (card .entry)))) r ⌝ }
 {
     let mut list = no_schemas();
     let counted = reader_atoms::byte_between(card, c, 0, 32, Refusal::SchemaRange);
@@ -194,7 +217,13 @@ fn schemas(card: &[u8], c: Cursor, arities: &[u8]) -> SchemasRead
 fn predicates(card: &[u8]) -> AritiesRead
     ensures { λ r. ⌜ AritiesReads (now (card .entry)) (predicates (now (card .entry))) r ⌝ }
 {
-    let counted = reader_atoms::byte_between(card, Cursor { at: 0 }, 1, 20, Refusal::PredicateRange);
+    let counted = reader_atoms::byte_between(
+        card,
+        Cursor { at: 0 },
+        1,
+        20,
+        Refusal::PredicateRange,
+    );
     let ByteRead::Byte(count, c) = counted else {
         return AritiesRead {
             step: Step::Refused(counted.refusal()),
@@ -207,9 +236,7 @@ fn predicates(card: &[u8]) -> AritiesRead
 // The fact count and so many facts.
 fn facts(card: &[u8], c: Cursor, arities: &[u8], objects: usize) -> FactsRead
     requires { ⌜ inRange (now arities) ≡ true ⌝ }
-    ensures {
-        λ r. ⌜ FactsReads (now (arities .entry)) (now (card .entry)) (facts (now (arities .entry)) objects (drop (c .at) (now (card .entry)))) r ⌝
-    }
+    ensures { λ r. ⌜ FactsReads (now (arities .entry)) (now (card .entry)) (facts (now (arities .entry)) objects (drop (c .at) (now (card .entry)))) r ⌝ }
 {
     let counted = reader_lists::fact_count(card, c);
     let CountRead::Count(count, c) = counted else {
@@ -269,6 +296,11 @@ pub fn decode(card: &[u8]) -> Decoded
     }
     Decoded {
         verdict: Verdict::Accepted,
-        task: Task { predicates, objects, schemas, facts },
+        task: Task {
+            predicates,
+            objects,
+            schemas,
+            facts,
+        },
     }
 }

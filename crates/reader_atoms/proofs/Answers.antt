@@ -59,20 +59,21 @@ differ e = let o : _≡_ {A = ℕ} 0 1 = cc in omega arith
 
 -- a byte that was accepted passes the test
 pub byteThat-held : (test : ℕ → Bool) (number : ℕ) (s : List ℕ) {b : ℕ} {rest : List ℕ} → byteThat test number s ≡ accepted (b, rest)
-  → test b ≡ true
+    → test b ≡ true
 unfolding byteThat byte _>>=_ _>>_ need
 byteThat-held test number [] e = absurd (differ e)
 byteThat-held test number (x ∷ xs) {b} {rest} e = tested (test x) refl e
   where
     checked : Bool → Answer (ℕ × List ℕ)
     checked t = need t number >> accepted (x, xs)
+
     tested : (t : Bool) → test x ≡ t → checked t ≡ accepted (b, rest) → test b ≡ true
     tested true h e = subst (λ y. test y ≡ true) (ap (λ v. v .0) (value-of e)) h
     tested false h e = absurd (differ e)
 
 -- a byte that was accepted between two bounds is between them
 pub between-held : (low high number : ℕ) (s : List ℕ) {b : ℕ} {rest : List ℕ} → byteThat (between low high) number s ≡ accepted (b, rest)
-  → (low ≤ b) × (b ≤ high)
+    → (low ≤ b) × (b ≤ high)
 unfolding between
 between-held low high number s {b} e = both (leb low b) (leb b high) refl refl (byteThat-held (between low high) number s e)
   where

@@ -39,14 +39,14 @@ module _ (bound number arity : ℕ) (s : List ℕ) where
   first-refused l e = rw (as-suc arity l) (many-stops _ _ _ _ e)
 
   pub second-refused : (s₁ : List ℕ) {a k : ℕ} → 2 ≤ arity → argument bound number s ≡ accepted (a, s₁) → argument bound number s₁ ≡ refused k
-    → argumentBytes arity bound number s ≡ refused k
+      → argumentBytes arity bound number s ≡ refused k
   unfolding argumentBytes
   second-refused s₁ l e f =
       let two : arity ≡ suc (suc (arity - 2)) = omega arith in
       rw two (many-stops-later _ _ _ _ e (many-stops _ _ _ _ f))
 
   pub third-refused : (s₁ s₂ : List ℕ) {a b k : ℕ} → 3 ≤ arity → argument bound number s ≡ accepted (a, s₁) → argument bound number s₁ ≡ accepted (b, s₂)
-    → argument bound number s₂ ≡ refused k → argumentBytes arity bound number s ≡ refused k
+      → argument bound number s₂ ≡ refused k → argumentBytes arity bound number s ≡ refused k
   unfolding argumentBytes
   third-refused s₁ s₂ l e f g =
       let three : arity ≡ suc (suc (suc (arity - 3))) = omega arith in
@@ -55,20 +55,20 @@ module _ (bound number arity : ℕ) (s : List ℕ) where
   module _ {card : List ℕ} {c : Cursor} (p : ℕ) (within : c .at ≤ length card) where
     -- all arguments are read: one, two or three
     pub one-argument : {x : ℕ} → arity ≡ 1 → argument bound number s ≡ accepted (x, drop (c .at) card)
-      → Reads (argumentsOf arity) (withArguments p) blankAtom card (argumentBytes arity bound number s) (At c)
+        → Reads (argumentsOf arity) (withArguments p) blankAtom card (argumentBytes arity bound number s) (At c)
         (record { predicate = p; first = x; second = 0; third = 0 })
     unfolding argumentBytes argumentsOf withArguments atomFor
     one-argument one e = rw one (accepts (many-more _ _ _ _ e (many-none _ _ _)) within refl)
 
     pub two-arguments : (s₁ : List ℕ) {x y : ℕ} → arity ≡ 2 → argument bound number s ≡ accepted (x, s₁) → argument bound number s₁ ≡ accepted (y, drop (c .at) card)
-      → Reads (argumentsOf arity) (withArguments p) blankAtom card (argumentBytes arity bound number s) (At c)
+        → Reads (argumentsOf arity) (withArguments p) blankAtom card (argumentBytes arity bound number s) (At c)
         (record { predicate = p; first = x; second = y; third = 0 })
     unfolding argumentBytes argumentsOf withArguments atomFor
     two-arguments s₁ two e f = rw two (accepts (many-more _ _ _ _ e (many-more _ _ _ _ f (many-none _ _ _))) within refl)
 
     pub three-arguments : (s₁ s₂ : List ℕ) {x y z : ℕ} → arity ≡ 3 → argument bound number s ≡ accepted (x, s₁) → argument bound number s₁ ≡ accepted (y, s₂)
-      → argument bound number s₂ ≡ accepted (z, drop (c .at) card)
-      → Reads (argumentsOf arity) (withArguments p) blankAtom card (argumentBytes arity bound number s) (At c)
+        → argument bound number s₂ ≡ accepted (z, drop (c .at) card)
+        → Reads (argumentsOf arity) (withArguments p) blankAtom card (argumentBytes arity bound number s) (At c)
         (record { predicate = p; first = x; second = y; third = z })
     unfolding argumentBytes argumentsOf withArguments atomFor
     three-arguments s₁ s₂ three e f g =
@@ -81,7 +81,7 @@ in-range [] i r l = absurd (omega arith)
 in-range (x ∷ xs) i r l = first (leb 1 x) (leb x 3) refl refl (in-range xs) r i l
   where
     first : (t u : Bool) → leb 1 x ≡ t → leb x 3 ≡ u → ((i : ℕ) → all (between 1 3) xs ≡ true → i < length xs → (1 ≤ getD xs i 0) × (getD xs i 0 ≤ 3))
-      → ((t && u) && all (between 1 3) xs) ≡ true → (i : ℕ) → i < length (x ∷ xs) → (1 ≤ getD (x ∷ xs) i 0) × (getD (x ∷ xs) i 0 ≤ 3)
+        → ((t && u) && all (between 1 3) xs) ≡ true → (i : ℕ) → i < length (x ∷ xs) → (1 ≤ getD (x ∷ xs) i 0) × (getD (x ∷ xs) i 0 ≤ 3)
     first true true a b ih r zero l = (leb-true 1 x a, leb-true x 3 b)
     first true true a b ih r (suc i) l = ih i r (omega arith)
     first true false a b ih r i l = absurd (false≢true r)
@@ -95,8 +95,8 @@ module _ (arities : List ℕ) (bound number : ℕ) (s : List ℕ) where
 
   -- the predicate is known, and its arguments are read
   pub predicate-read : {p : ℕ} {s₁ card : List ℕ} (step : Step) {a : Atom} → byteThat (λ p. ltb p (length arities)) number s ≡ accepted (p, s₁)
-    → Reads (argumentsOf (getD arities p 0)) (withArguments p) blankAtom card (argumentBytes (getD arities p 0) bound number s₁) step a
-    → Reads (atomOf arities) atomFor blankAtom card (atom arities bound number s) step a
+      → Reads (argumentsOf (getD arities p 0)) (withArguments p) blankAtom card (argumentBytes (getD arities p 0) bound number s₁) step a
+      → Reads (atomOf arities) atomFor blankAtom card (atom arities bound number s) step a
   unfolding atom atomOf argumentsOf withArguments atomFor argumentBytes
   predicate-read {p} {card = card} (At c) {a} e w =
       let k = kept-as w refl in

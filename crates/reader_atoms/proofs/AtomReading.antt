@@ -15,13 +15,13 @@ use Rattle.reader_atoms.specs.Atoms.{atomStep, atomIn, refusalOfAtom}
 use Rattle.reader_atoms.proofs.Reading.{accepts, refuses, accepted-by, within-card, kept-as, refused-by}
 
 module _
-  {A : Type 0}
-  {value : Atom → A}
-  {keep : A → Atom}
-  {card : List ℕ}
-  {answer : Answer (A × List ℕ)}
-  {r : AtomRead}
-  (w : Reads value keep blankAtom card answer (atomStep r) (atomIn r)) where
+    {A : Type 0}
+    {value : Atom → A}
+    {keep : A → Atom}
+    {card : List ℕ}
+    {answer : Answer (A × List ℕ)}
+    {r : AtomRead}
+    (w : Reads value keep blankAtom card answer (atomStep r) (atomIn r)) where
   -- an atom was read: what that tells
   module _ {a : Atom} {c : Cursor} (e : r ≡ Found a c) where
     pub atom-read : answer ≡ accepted (value a, drop (c .at) card)
@@ -43,6 +43,6 @@ module _
 
 -- a refused atom is the whole answer
 pub atom-hands-on : {A : Type 0} {value : Atom → A} {keep : A → Atom} {card : List ℕ} {answer : Answer (A × List ℕ)} {r : AtomRead} {k : Refusal}
-  → r ≡ NoAtom k → answer ≡ refused (refusalNumber k) → Reads value keep blankAtom card answer (atomStep r) (atomIn r)
+    → r ≡ NoAtom k → answer ≡ refused (refusalNumber k) → Reads value keep blankAtom card answer (atomStep r) (atomIn r)
 atom-hands-on {value = value} {keep} {card} {answer} e a =
     subst (λ r. Reads value keep blankAtom card answer (atomStep r) (atomIn r)) (sym e) (refuses a)

@@ -23,7 +23,7 @@ use Rattle.reader_atoms.proofs.Orders.{Kept, below-bytes, has-bytes}
 module _ (arities : List ℕ) (a : Atom) (ka : Kept arities a) where
   -- the atom before it is below: so are its bytes
   pub above-bytes : (previous : Previous) → PreviousKept arities previous
-    → model.above (previousOf arities previous) (atomOf arities a) ≡ aboveBytes previous a
+      → model.above (previousOf arities previous) (atomOf arities a) ≡ aboveBytes previous a
   unfolding model.above previousOf previousFor
   above-bytes Nothing k = refl
   above-bytes (After b) k = let kb : Kept arities b = cc in below-bytes arities b a kb ka
@@ -52,7 +52,7 @@ module _ {arities : List ℕ} {l : AtomList} (k : AtomsKept arities l) where
 
 -- the check of its own list, by the bytes
 pub belongs-bytes : (arities : List ℕ) (a : Atom) (section : Section) (l : AtomList) → Kept arities a → AtomsKept arities l
-  → sectionTest section (atomsOf arities l) (atomOf arities a) ≡ belongsBytes section l a
+    → sectionTest section (atomsOf arities l) (atomOf arities a) ≡ belongsBytes section l a
 unfolding sectionTest atomsOf hasBytes
 belongs-bytes arities a Preconditions l ka k = refl
 belongs-bytes arities a Deletes l ka k = has-bytes arities a _ ka (list-exact k)
@@ -72,12 +72,12 @@ module _ (arities : List ℕ) (parameters : ℕ) (section : Section) (preconditi
 
     -- 9, 10: its own list's check fails
     pub section-strange : model.above previous a ≡ true → sectionTest section preconditions a ≡ false
-      → sectionAtom arities parameters section preconditions previous s ≡ refused (refusalNumber (sectionRefusal section))
+        → sectionAtom arities parameters section preconditions previous s ≡ refused (refusalNumber (sectionRefusal section))
     unfolding sectionAtom model.schemaAtom
     section-strange o t = goes _ e ∙ passes _ _ o ∙ fails _ _ t
 
     pub section-passes : model.above previous a ≡ true → sectionTest section preconditions a ≡ true
-      → sectionAtom arities parameters section preconditions previous s ≡ accepted (a, s₁)
+        → sectionAtom arities parameters section preconditions previous s ≡ accepted (a, s₁)
     unfolding sectionAtom model.schemaAtom
     section-passes o t = goes _ e ∙ passes _ _ o ∙ passes _ _ t
 

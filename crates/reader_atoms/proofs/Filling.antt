@@ -36,7 +36,7 @@ module _ {A : Type 0} where
 
   -- one more item stands before the rest
   prepend-next : (xs : List A) (x : A) (r : Answer (List A × List ℕ))
-    → prepend xs (r >>= λ (ys, s). accepted (x ∷ ys, s)) ≡ prepend (xs ++ x ∷ []) r
+      → prepend xs (r >>= λ (ys, s). accepted (x ∷ ys, s)) ≡ prepend (xs ++ x ∷ []) r
   unfolding prepend _>>=_
   prepend-next xs x (refused n) = refl
   prepend-next xs x (accepted (ys, s)) = ap (λ zs. accepted (zs, s)) (sym (append-assoc xs (x ∷ []) ys))
@@ -48,7 +48,7 @@ module _ {A B : Type 0} (value : B → A) (keep : A → B) (blank : B) (size : �
     pub room : n ≤ size
     pub long : length array ≡ size
     pub left :
-      prepend (map value (take i array)) (many read (lastOf none (map value (take i array))) (n - i) s) ≡ many read none n start
+        prepend (map value (take i array)) (many read (lastOf none (map value (take i array))) (n - i) s) ≡ many read none n start
     pub exact : map keep (map value (take i array)) ≡ take i array
     pub blanks : drop i array ≡ replicate (size - i) blank
 
@@ -87,13 +87,13 @@ module _ {A B : Type 0} (value : B → A) (keep : A → B) (blank : B) (size : �
 
     -- an item is read and stored
     pub filling-goes-on : {b : B} {s₁ : List ℕ} → i < n → read (lastOf none (map value (take i array))) s ≡ accepted (value b, s₁)
-      → b ≡ keep (value b) → Filling (set array i b) (i + 1) s₁
+        → b ≡ keep (value b) → Filling (set array i b) (i + 1) s₁
     unfolding many
     filling-goes-on {b} {s₁} more e k =
         let there : i < length array = omega (arith, f .long, f .room) in
         let taken : take (i + 1) (set array i b) ≡ take i array ++ b ∷ [] = rw (add-one i) (take-suc-set array i b there) in
         let valued : map value (take (i + 1) (set array i b)) ≡ map value (take i array) ++ value b ∷ [] =
-          ap (map value) taken ∙ map-append value (take i array) (b ∷ []) in
+        ap (map value) taken ∙ map-append value (take i array) (b ∷ []) in
         let one : n - i ≡ suc (n - (i + 1)) = omega arith in
         let gap : size - i ≡ suc (size - (i + 1)) = omega (arith, f .room) in
         let rest : ℕ → Answer (List A × List ℕ) = λ m. prepend (map value (take i array)) (many read (lastOf none (map value (take i array))) m s) in
@@ -103,21 +103,21 @@ module _ {A B : Type 0} (value : B → A) (keep : A → B) (blank : B) (size : �
           room = f .room;
           long = length-set array i b ∙ f .long;
           left =
-            ap next valued
-            ∙ ap (λ p. prepend (map value (take i array) ++ value b ∷ []) (many read p (n - (i + 1)) s₁)) (lastOf-snoc none (map value (take i array)) (value b))
-            ∙ sym (prepend-next (map value (take i array)) (value b) (many read (some (value b)) (n - (i + 1)) s₁))
-            ∙ ap (prepend (map value (take i array))) (sym (goes _ e))
-            ∙ ap rest (sym one)
-            ∙ f .left;
+              ap next valued
+              ∙ ap (λ p. prepend (map value (take i array) ++ value b ∷ []) (many read p (n - (i + 1)) s₁)) (lastOf-snoc none (map value (take i array)) (value b))
+              ∙ sym (prepend-next (map value (take i array)) (value b) (many read (some (value b)) (n - (i + 1)) s₁))
+              ∙ ap (prepend (map value (take i array))) (sym (goes _ e))
+              ∙ ap rest (sym one)
+              ∙ f .left;
           exact =
-            ap (map keep) valued
-            ∙ map-append keep (map value (take i array)) (value b ∷ [])
-            ∙ ap₂ (λ xs x. xs ++ x ∷ []) (f .exact) (sym k)
-            ∙ sym taken;
+              ap (map keep) valued
+              ∙ map-append keep (map value (take i array)) (value b ∷ [])
+              ∙ ap₂ (λ xs x. xs ++ x ∷ []) (f .exact) (sym k)
+              ∙ sym taken;
           blanks =
-            drop-set-lt (i + 1) array i b (omega arith)
-            ∙ sym (drop-drop 1 i array)
-            ∙ ap (drop 1) (f .blanks ∙ ap (λ m. replicate m blank) gap);
+              drop-set-lt (i + 1) array i b (omega arith)
+              ∙ sym (drop-drop 1 i array)
+              ∙ ap (drop 1) (f .blanks ∙ ap (λ m. replicate m blank) gap);
         }
 
     module _ (done : n ≤ i) where

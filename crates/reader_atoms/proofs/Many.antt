@@ -35,8 +35,8 @@ many-none read previous s = refl
 
 -- what was read when items were accepted: the first, and the others after it
 pub many-first : {A : Type 0} {Q : Type 0} (read : Option A → Reader A) (previous : Option A) (n : ℕ) (s : List ℕ) {xs : List A} {rest : List ℕ}
-  → many read previous (suc n) s ≡ accepted (xs, rest)
-  → ((x : A) (s₁ : List ℕ) (ys : List A) → read previous s ≡ accepted (x, s₁) → many read (some x) n s₁ ≡ accepted (ys, rest) → xs ≡ x ∷ ys → Q) → Q
+    → many read previous (suc n) s ≡ accepted (xs, rest)
+    → ((x : A) (s₁ : List ℕ) (ys : List A) → read previous s ≡ accepted (x, s₁) → many read (some x) n s₁ ≡ accepted (ys, rest) → xs ≡ x ∷ ys → Q) → Q
 many-first {A} {Q} read previous n s {xs} {rest} e next = at-first (read previous s) refl
   where
     others : (x : A) (s₁ : List ℕ) → read previous s ≡ accepted (x, s₁) → (r : Answer (List A × List ℕ)) → many read (some x) n s₁ ≡ r → Q
@@ -44,23 +44,24 @@ many-first {A} {Q} read previous n s {xs} {rest} e next = at-first (read previou
     others x s₁ f (accepted (ys, s₂)) g =
         let same : _≡_ {A = List A × List ℕ} (x ∷ ys, s₂) (xs, rest) = value-of (sym (many-more read previous n s f g) ∙ e) in
         next x s₁ ys f (g ∙ ap (λ s. accepted (ys, s)) (ap (λ v. v .1) same)) (sym (ap (λ v. v .0) same))
+
     at-first : (r : Answer (A × List ℕ)) → read previous s ≡ r → Q
     at-first (refused k) f = absurd (differ (sym (many-stops read previous n s f) ∙ e))
     at-first (accepted (x, s₁)) f = others x s₁ f (many read (some x) n s₁) refl
 
 -- as many items are accepted as were asked for
 pub many-count : {A : Type 0} (read : Option A → Reader A) (previous : Option A) (n : ℕ) (s : List ℕ) {xs : List A} {rest : List ℕ}
-  → many read previous n s ≡ accepted (xs, rest) → length xs ≡ n
+    → many read previous n s ≡ accepted (xs, rest) → length xs ≡ n
 many-count read previous zero s e = ap length (sym (ap (λ v. v .0) (value-of (sym (many-none read previous s) ∙ e))))
 many-count read previous (suc n) s e =
     many-first read previous n s e λ x s₁ ys f g same. ap length same ∙ ap suc (many-count read (some x) n s₁ g)
 
 -- what every item that is read passes, all items pass
 pub many-all : {A : Type 0} (test : A → Bool) (read : Option A → Reader A)
-  → ((previous : Option A) (s : List ℕ) (x : A) (rest : List ℕ) → read previous s ≡ accepted (x, rest) → test x ≡ true)
-  → (previous : Option A) (n : ℕ) (s : List ℕ) {xs : List A} {rest : List ℕ} → many read previous n s ≡ accepted (xs, rest) → all test xs ≡ true
+    → ((previous : Option A) (s : List ℕ) (x : A) (rest : List ℕ) → read previous s ≡ accepted (x, rest) → test x ≡ true)
+    → (previous : Option A) (n : ℕ) (s : List ℕ) {xs : List A} {rest : List ℕ} → many read previous n s ≡ accepted (xs, rest) → all test xs ≡ true
 unfolding all
 many-all test read each previous zero s e = ap (all test) (sym (ap (λ v. v .0) (value-of (sym (many-none read previous s) ∙ e))))
 many-all test read each previous (suc n) s e =
     many-first read previous n s e λ x s₁ ys f g same.
-      ap (all test) same ∙ ap₂ _&&_ (each previous s x s₁ f) (many-all test read each (some x) n s₁ g)
+    ap (all test) same ∙ ap₂ _&&_ (each previous s x s₁ f) (many-all test read each (some x) n s₁ g)

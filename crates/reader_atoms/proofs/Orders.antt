@@ -83,7 +83,7 @@ Kept arities a = a ≡ atomFor (atomOf arities a)
 
 -- the argument places of an atom as read: its arguments, then 0
 places-filled : (n : ℕ) (a : Atom) → a ≡ atomFor (record { predicate = a .predicate; arguments = take n (placesOf a) })
-  → placesOf a ≡ take n (placesOf a) ++ drop n (0 ∷ 0 ∷ 0 ∷ [])
+    → placesOf a ≡ take n (placesOf a) ++ drop n (0 ∷ 0 ∷ 0 ∷ [])
 unfolding atomFor
 places-filled zero a k = ap placesOf k
 places-filled (suc zero) a k = ap placesOf k
@@ -97,9 +97,9 @@ Filled n a = a ≡ atomFor (record { predicate = a .predicate; arguments = take 
 
 -- a comparison of lists that does not look at a common end compares two atoms of one predicate by all their places
 module _
-  (f : List ℕ → List ℕ → Bool)
-  (ends : (xs ys zs : List ℕ) → length xs ≡ length ys → f (xs ++ zs) (ys ++ zs) ≡ f xs ys)
-  (a b : Atom) where
+    (f : List ℕ → List ℕ → Bool)
+    (ends : (xs ys zs : List ℕ) → length xs ≡ length ys → f (xs ++ zs) (ys ++ zs) ≡ f xs ys)
+    (a b : Atom) where
   same-arity : (n : ℕ) → Filled n a → Filled n b → f (take n (placesOf a)) (take n (placesOf b)) ≡ f (placesOf a) (placesOf b)
   same-arity n ka kb =
       let l : length (take n (placesOf a)) ≡ length (take n (placesOf b)) = length-take n (placesOf a) ∙ sym (length-take n (placesOf b)) in
@@ -108,7 +108,7 @@ module _
 
   -- .. given that the predicates are the same
   compared : (arities : List ℕ) → Kept arities a → Kept arities b → (t : Bool) → eqb (a .predicate) (b .predicate) ≡ t
-    → (t && f (atomOf arities a .arguments) (atomOf arities b .arguments)) ≡ (t && f (placesOf a) (placesOf b))
+      → (t && f (atomOf arities a .arguments) (atomOf arities b .arguments)) ≡ (t && f (placesOf a) (placesOf b))
   unfolding atomOf
   compared arities ka kb false e = refl
   compared arities ka kb true e =
@@ -131,7 +131,7 @@ module _ (arities : List ℕ) (a b : Atom) (ka : Kept arities a) (kb : Kept arit
 
 -- an atom is on a list as read: one with its bytes is
 pub has-bytes : (arities : List ℕ) (a : Atom) (atoms : List Atom) → Kept arities a → atoms ≡ map atomFor (map (atomOf arities) atoms)
-  → model.has (map (atomOf arities) atoms) (atomOf arities a) ≡ any (λ b. same (bytesOf a) (bytesOf b)) atoms
+    → model.has (map (atomOf arities) atoms) (atomOf arities a) ≡ any (λ b. same (bytesOf a) (bytesOf b)) atoms
 unfolding model.has any
 has-bytes arities a [] ka ks = refl
 has-bytes arities a (b ∷ bs) ka ks =

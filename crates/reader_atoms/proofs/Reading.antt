@@ -20,7 +20,7 @@ use Rattle.reader_atoms.specs.Reads.{Reads, told, place, beside, ByteRea
 module _ {A B : Type 0} {value : B → A} {keep : A → B} {blank : B} {card : List ℕ} {answer : Answer (A × List ℕ)} where
   -- a value read: its place is on the card, and it is kept as values are
   pub accepts : {c : Cursor} {kept : B} → answer ≡ accepted (value kept, drop (c .at) card) → c .at ≤ length card
-    → kept ≡ keep (value kept) → Reads value keep blank card answer (At c) kept
+      → kept ≡ keep (value kept) → Reads value keep blank card answer (At c) kept
   unfolding told place beside
   accepts {c} {kept} e w k = record { says = e; within = w; keeps = k ∙ ap (beside keep blank) (sym e) }
 
@@ -35,19 +35,19 @@ module _ {A B : Type 0} {value : B → A} {keep : A → B} {blank : B} {card : L
 
   -- an answer to the same reading
   pub reads-as : {answer′ : Answer (A × List ℕ)} {step : Step} {kept : B} → answer ≡ answer′ → Reads value keep blank card answer′ step kept
-    → Reads value keep blank card answer step kept
+      → Reads value keep blank card answer step kept
   reads-as {step = step} {kept} e r = subst (λ a. Reads value keep blank card a step kept) (sym e) r
 
   -- what is told by a refused read whose refusal is taken out
   pub refusal-by : {step : Step} {kept : B} {k k′ : Refusal} → Reads value keep blank card answer step kept → step ≡ Refused k → k′ ≡ refusalOfStep step
-    → answer ≡ refused (refusalNumber k′)
+      → answer ≡ refused (refusalNumber k′)
   unfolding told
   refusal-by {kept = kept} r e t =
       r .says ∙ ap (λ s. told card s (value kept)) e ∙ ap (λ k. refused (refusalNumber k)) (sym (t ∙ ap refusalOfStep e))
 
   -- what is told by a read that ended at a place
   pub accepted-by : {step : Step} {kept : B} {c : Cursor} → Reads value keep blank card answer step kept → step ≡ At c
-    → answer ≡ accepted (value kept, drop (c .at) card)
+      → answer ≡ accepted (value kept, drop (c .at) card)
   unfolding told
   accepted-by {kept = kept} r e = r .says ∙ ap (λ s. told card s (value kept)) e
 
@@ -62,7 +62,7 @@ module _ {A B : Type 0} {value : B → A} {keep : A → B} {blank : B} {card : L
 
   -- what is told by a refused read
   pub refused-by : {step : Step} {kept : B} {k : Refusal} → Reads value keep blank card answer step kept → step ≡ Refused k
-    → answer ≡ refused (refusalNumber k)
+      → answer ≡ refused (refusalNumber k)
   unfolding told
   refused-by {kept = kept} r e = r .says ∙ ap (λ s. told card s (value kept)) e
 
@@ -81,17 +81,17 @@ module _ {card : List ℕ} {answer : Answer (ℕ × List ℕ)} {r : ByteRead} {b
 
 -- no byte was read
 pub byte-refused : {card : List ℕ} {answer : Answer (ℕ × List ℕ)} {r : ByteRead} {k : Refusal} → ByteReads card answer r → r ≡ NoByte k
-  → answer ≡ refused (refusalNumber k)
+    → answer ≡ refused (refusalNumber k)
 byte-refused w e = refused-by w (ap byteStep e)
 
 -- no byte was read, and the refusal is taken out
 pub byte-refusal : {card : List ℕ} {answer : Answer (ℕ × List ℕ)} {r : ByteRead} {k k′ : Refusal} → ByteReads card answer r → r ≡ NoByte k
-  → k′ ≡ refusalOfByte r → answer ≡ refused (refusalNumber k′)
+    → k′ ≡ refusalOfByte r → answer ≡ refused (refusalNumber k′)
 byte-refusal w e t = byte-refused w e ∙ ap (λ k. refused (refusalNumber k)) (sym (t ∙ ap refusalOfByte e))
 
 -- a refused byte is the whole answer
 pub hands-on : {card : List ℕ} {answer : Answer (ℕ × List ℕ)} {r : ByteRead} {k : Refusal} → r ≡ NoByte k → answer ≡ refused (refusalNumber k)
-  → ByteReads card answer r
+    → ByteReads card answer r
 hands-on {card} {answer} e a = subst (λ r. ByteReads card answer r) (sym e) (refuses a)
 
 -- the byte at a place on the card

@@ -30,14 +30,14 @@ beside keep blank (refused n) = blank
 
 -- The code's whole answer: `kept` stands for the value read, by `value`; `keep` is how a value is kept.
 pub record Reads
-  {A B : Type 0}
-  (value : B → A)
-  (keep : A → B)
-  (blank : B)
-  (card : List ℕ)
-  (answer : Answer (A × List ℕ))
-  (step : Step)
-  (kept : B) : Type 0 where
+    {A B : Type 0}
+    (value : B → A)
+    (keep : A → B)
+    (blank : B)
+    (card : List ℕ)
+    (answer : Answer (A × List ℕ))
+    (step : Step)
+    (kept : B) : Type 0 where
   pub says : answer ≡ told card step (value kept)
   pub within : place step ≤ length card
   pub keeps : kept ≡ beside keep blank answer

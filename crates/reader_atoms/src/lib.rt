@@ -67,9 +67,7 @@ pub fn byte(card: &[u8], c: Cursor) -> ByteRead
 
 // A byte below the bound.
 pub fn byte_below(card: &[u8], c: Cursor, bound: usize, refusal: Refusal) -> ByteRead
-    ensures {
-        λ r. ⌜ ByteReads (now (card .entry)) (byteThat (λ b. ltb b bound) (refusalNumber refusal) (drop (c .at) (now (card .entry)))) r ⌝
-    }
+    ensures { λ r. ⌜ ByteReads (now (card .entry)) (byteThat (λ b. ltb b bound) (refusalNumber refusal) (drop (c .at) (now (card .entry)))) r ⌝ }
 {
     let read = byte(card, c);
     let ByteRead::Byte(b, _) = read else {
@@ -84,9 +82,7 @@ pub fn byte_below(card: &[u8], c: Cursor, bound: usize, refusal: Refusal) -> Byt
 
 // A byte from `low` to `high`.
 pub fn byte_between(card: &[u8], c: Cursor, low: u8, high: u8, refusal: Refusal) -> ByteRead
-    ensures {
-        λ r. ⌜ ByteReads (now (card .entry)) (byteThat (between low high) (refusalNumber refusal) (drop (c .at) (now (card .entry)))) r ⌝
-    }
+    ensures { λ r. ⌜ ByteReads (now (card .entry)) (byteThat (between low high) (refusalNumber refusal) (drop (c .at) (now (card .entry)))) r ⌝ }
 {
     let read = byte(card, c);
     let ByteRead::Byte(b, _) = read else {
@@ -120,39 +116,66 @@ impl AtomRead {
 }
 
 // The arguments of an atom, one byte each, below the bound. Places past the arity hold 0.
-fn arguments(card: &[u8], c: Cursor, predicate: u8, arity: u8, bound: usize, refusal: Refusal) -> AtomRead
+fn arguments(
+    card: &[u8],
+    c: Cursor,
+    predicate: u8,
+    arity: u8,
+    bound: usize,
+    refusal: Refusal,
+) -> AtomRead
     requires { ⌜ (1 ≤ arity) × (arity ≤ 3) ⌝ }
-    ensures {
-        λ r. ⌜ ArgumentsRead predicate arity (now (card .entry)) (argumentBytes arity bound (refusalNumber refusal) (drop (c .at) (now (card .entry)))) r ⌝
-    }
+    ensures { λ r. ⌜ ArgumentsRead predicate arity (now (card .entry)) (argumentBytes arity bound (refusalNumber refusal) (drop (c .at) (now (card .entry)))) r ⌝ }
 {
     let read = byte_below(card, c, bound, refusal);
     let ByteRead::Byte(first, c) = read else {
         return AtomRead::Refused(read.refusal());
     };
     if arity == 1 {
-        return AtomRead::Found(Atom { predicate, first, second: 0, third: 0 }, c);
+        return AtomRead::Found(
+            Atom {
+                predicate,
+                first,
+                second: 0,
+                third: 0,
+            },
+            c,
+        );
     }
     let read = byte_below(card, c, bound, refusal);
     let ByteRead::Byte(second, c) = read else {
         return AtomRead::Refused(read.refusal());
     };
     if arity == 2 {
-        return AtomRead::Found(Atom { predicate, first, second, third: 0 }, c);
+        return AtomRead::Found(
+            Atom {
+                predicate,
+                first,
+                second,
+                third: 0,
+            },
+            c,
+        );
     }
     let read = byte_below(card, c, bound, refusal);
     let ByteRead::Byte(third, c) = read else {
         return AtomRead::Refused(read.refusal());
     };
-    AtomRead::Found(Atom { predicate, first, second, third }, c)
+    AtomRead::Found(
+        Atom {
+            predicate,
+            first,
+            second,
+            third,
+        },
+        c,
+    )
 }
 
 // An atom: a predicate byte, and its arguments.
 pub fn atom(card: &[u8], c: Cursor, arities: &[u8], bound: usize, refusal: Refusal) -> AtomRead
     requires { ⌜ inRange (now arities) ≡ true ⌝ }
-    ensures {
-        λ r. ⌜ AtomReads (now (arities .entry)) (now (card .entry)) (atom (now (arities .entry)) bound (refusalNumber refusal) (drop (c .at) (now (card .entry)))) r ⌝
-    }
+    ensures { λ r. ⌜ AtomReads (now (arities .entry)) (now (card .entry)) (atom (now (arities .entry)) bound (refusalNumber refusal) (drop (c .at) (now (card .entry)))) r ⌝ }
 {
     let read = byte_below(card, c, arities.len(), refusal);
     let ByteRead::Byte(predicate, c) = read else {
@@ -267,9 +290,7 @@ pub fn schema_atom(
     previous: Previous,
 ) -> AtomRead
     requires { ⌜ (inRange (now arities) ≡ true) × AtomsKept (now arities) preconditions × PreviousKept (now arities) previous ⌝ }
-    ensures {
-        λ r. ⌜ AtomReads (now (arities .entry)) (now (card .entry)) (sectionAtom (now (arities .entry)) parameters section (atomsOf (now (arities .entry)) preconditions) (previousOf (now (arities .entry)) previous) (drop (c .at) (now (card .entry)))) r ⌝
-    }
+    ensures { λ r. ⌜ AtomReads (now (arities .entry)) (now (card .entry)) (sectionAtom (now (arities .entry)) parameters section (atomsOf (now (arities .entry)) preconditions) (previousOf (now (arities .entry)) previous) (drop (c .at) (now (card .entry)))) r ⌝ }
 {
     let read = atom(card, c, arities, parameters, Refusal::AtomUnknown);
     let AtomRead::Found(a, _) = read else {
@@ -287,9 +308,7 @@ pub fn schema_atom(
 // A fact.
 pub fn fact(card: &[u8], c: Cursor, arities: &[u8], objects: usize, previous: Previous) -> AtomRead
     requires { ⌜ (inRange (now arities) ≡ true) × PreviousKept (now arities) previous ⌝ }
-    ensures {
-        λ r. ⌜ AtomReads (now (arities .entry)) (now (card .entry)) (fact (now (arities .entry)) objects (previousOf (now (arities .entry)) previous) (drop (c .at) (now (card .entry)))) r ⌝
-    }
+    ensures { λ r. ⌜ AtomReads (now (arities .entry)) (now (card .entry)) (fact (now (arities .entry)) objects (previousOf (now (arities .entry)) previous) (drop (c .at) (now (card .entry)))) r ⌝ }
 {
     let read = atom(card, c, arities, objects, Refusal::FactUnknown);
     let AtomRead::Found(a, _) = read else {

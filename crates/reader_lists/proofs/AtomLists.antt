@@ -32,7 +32,7 @@ module _ (present : Bool) (read : Option model.Atom → model.Reader model.Atom)
 
   -- its bit stands, and its count is read: so many atoms follow
   pub list-counted : {n : ℕ} {s₁ : List ℕ} → present ≡ true → model.byteThat (model.between 1 8) 6 s ≡ accepted (n, s₁)
-    → model.list present read s ≡ model.many read none n s₁
+      → model.list present read s ≡ model.many read none n s₁
   unfolding model.list
   list-counted p e = ap (λ p. model.list p read s) p ∙ goes _ e
 
@@ -41,18 +41,18 @@ part-left : (card : List ℕ) (at : ℕ) → take (length card - at) (drop at ca
 part-left card at = take-all (length card - at) (drop at card) (rw (length-drop at card) (omega arith))
 
 module _
-  {A B : Type 0}
-  {value : B → List A}
-  {keep : List A → B}
-  {blank : B}
-  (card : List ℕ)
-  (at : ℕ)
-  (read : Option A → model.Reader A)
-  (n : ℕ)
-  {step : Step}
-  {kept : B}
-  (starts : at ≤ length card)
-  (w : Reads value keep blank (take (length card - at) (drop at card)) (model.many read none n (take (length card - at) (drop at card))) step kept) where
+    {A B : Type 0}
+    {value : B → List A}
+    {keep : List A → B}
+    {blank : B}
+    (card : List ℕ)
+    (at : ℕ)
+    (read : Option A → model.Reader A)
+    (n : ℕ)
+    {step : Step}
+    {kept : B}
+    (starts : at ≤ length card)
+    (w : Reads value keep blank (take (length card - at) (drop at card)) (model.many read none n (take (length card - at) (drop at card))) step kept) where
   in-rest : Reads value keep blank (drop at card) (model.many read none n (drop at card)) step kept
   in-rest = subst (λ part. Reads value keep blank part (model.many read none n part) step kept) (part-left card at) w
 
@@ -77,8 +77,8 @@ module _
 
 -- no list: nothing is read, and nothing is kept
 pub no-list : (arities : List ℕ) {card : List ℕ} {answer : Answer (List model.Atom × List ℕ)} {c : Cursor} {kept : AtomList} → kept ≡ atomsFor []
-  → answer ≡ accepted ([], drop (c .at) card) → c .at ≤ length card
-  → Reads (atomsOf arities) atomsFor (atomsFor []) card answer (At c) kept
+    → answer ≡ accepted ([], drop (c .at) card) → c .at ≤ length card
+    → Reads (atomsOf arities) atomsFor (atomsFor []) card answer (At c) kept
 unfolding atomsOf atomsFor
 no-list arities {card} {answer} {c} k e within =
     subst⁻¹ (λ l. Reads (atomsOf arities) atomsFor (atomsFor []) card answer (At c) l) k (accepts e within refl)

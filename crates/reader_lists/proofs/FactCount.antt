@@ -48,6 +48,7 @@ count-held (high ∷ low ∷ s) {n} {rest} e = tested (leb (high * 256 + low) 51
   where
     checked : Bool → Answer (ℕ × List ℕ)
     checked t = need t 11 >> accepted (high * 256 + low, s)
+
     tested : (t : Bool) → leb (high * 256 + low) 512 ≡ t → checked t ≡ accepted (n, rest) → n ≤ 512
     tested true h e = subst (λ m. m ≤ 512) (ap (λ v. v .0) (value-of e)) (leb-true _ _ h)
     tested false h e = absurd (differ e)

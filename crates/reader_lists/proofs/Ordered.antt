@@ -29,21 +29,21 @@ module _ (arities : List ℕ) (size : ℕ) (read : Option model.Atom → model.R
 
   -- nothing is read yet
   pub ordered-starts : {array : List Atom} {at : ℕ} → n ≤ size → at ≤ length card → start ≡ drop at card → array ≡ replicate size blankAtom
-    → Ordered array 0 at Nothing
+      → Ordered array 0 at Nothing
   unfolding previousOf previousFor lastOf
   ordered-starts {array} {at} few within here blank =
       record {
         within = within;
         filling =
-          subst (λ s. Filling (atomOf arities) atomFor blankAtom size read n start array 0 s) here
-          (subst (λ a. Filling (atomOf arities) atomFor blankAtom size read n start a 0 start) (sym blank)
-          (filling-starts (atomOf arities) atomFor blankAtom size read n start few));
+            subst (λ s. Filling (atomOf arities) atomFor blankAtom size read n start array 0 s) here
+            (subst (λ a. Filling (atomOf arities) atomFor blankAtom size read n start a 0 start) (sym blank)
+            (filling-starts (atomOf arities) atomFor blankAtom size read n start few));
         last = refl;
         kept = refl;
       }
 
   module _ {array : List Atom} {i at : ℕ} {previous : Previous} {r : AtomRead} (o : Ordered array i at previous) (more : i < n)
-    (w : AtomReads arities card (read (previousOf arities previous) (drop at card)) r) where
+      (w : AtomReads arities card (read (previousOf arities previous) (drop at card)) r) where
     -- the next atom is stored
     pub ordered-goes-on : {a : Atom} {c : Cursor} → r ≡ Found a c → Ordered (set array i a) (i + 1) (c .at) (After a)
     unfolding previousOf previousFor

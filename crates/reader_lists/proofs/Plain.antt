@@ -24,14 +24,14 @@ module _ {A B : Type 0} (value : B → A) (keep : A → B) (blank : B) (size : �
       record {
         within = within;
         filling =
-          subst (λ s. Fills array 0 s) here
-          (subst (λ a. Fills a 0 start) (sym blanks) (filling-starts value keep blank size (λ previous. read) n start few));
+            subst (λ s. Fills array 0 s) here
+            (subst (λ a. Fills a 0 start) (sym blanks) (filling-starts value keep blank size (λ previous. read) n start few));
       }
 
   module _ {array : List B} {i at : ℕ} (p : Plain array i at) (more : i < n) where
     -- the next item is stored
     pub plain-goes-on : {b : B} {c : Cursor} → read (drop at card) ≡ accepted (value b, drop (c .at) card) → c .at ≤ length card → b ≡ keep (value b)
-      → Plain (set array i b) (i + 1) (c .at)
+        → Plain (set array i b) (i + 1) (c .at)
     plain-goes-on e within k =
         record { within = within; filling = filling-goes-on value keep blank size (λ previous. read) n start (p .filling) more e k }
 

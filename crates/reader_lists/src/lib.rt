@@ -42,7 +42,12 @@ pub fn no_atoms() -> AtomList
 {
     AtomList {
         count: 0,
-        atoms: [Atom { predicate: 0, first: 0, second: 0, third: 0 }; 8],
+        atoms: [Atom {
+            predicate: 0,
+            first: 0,
+            second: 0,
+            third: 0,
+        }; 8],
     }
 }
 
@@ -60,7 +65,12 @@ pub fn no_facts() -> FactList
 {
     FactList {
         count: 0,
-        facts: [Atom { predicate: 0, first: 0, second: 0, third: 0 }; 512],
+        facts: [Atom {
+            predicate: 0,
+            first: 0,
+            second: 0,
+            third: 0,
+        }; 512],
     }
 }
 
@@ -74,16 +84,22 @@ pub fn atoms(
     preconditions: AtomList,
 ) -> AtomsRead
     requires { ⌜ (count ≤ 8) × (inRange (now arities) ≡ true) × AtomsKept (now arities) preconditions ⌝ }
-    ensures {
-        λ r. ⌜ AtomsReads (now (arities .entry)) (now (part .entry)) (many (sectionAtom (now (arities .entry)) parameters section (atomsOf (now (arities .entry)) preconditions)) none count (now (part .entry))) r ⌝
-    }
+    ensures { λ r. ⌜ AtomsReads (now (arities .entry)) (now (part .entry)) (many (sectionAtom (now (arities .entry)) parameters section (atomsOf (now (arities .entry)) preconditions)) none count (now (part .entry))) r ⌝ }
 {
     let mut list = no_atoms();
     let mut previous = Previous::Nothing;
     let mut at = 0;
     let mut i = 0;
     while i < count {
-        let read = reader_atoms::schema_atom(part, Cursor { at: at }, arities, parameters, section, preconditions, previous);
+        let read = reader_atoms::schema_atom(
+            part,
+            Cursor { at: at },
+            arities,
+            parameters,
+            section,
+            preconditions,
+            previous,
+        );
         let AtomRead::Found(a, after) = read else {
             return AtomsRead {
                 step: Step::Refused(read.refusal()),
@@ -113,9 +129,7 @@ pub fn list(
     preconditions: AtomList,
 ) -> AtomsRead
     requires { ⌜ (c .at ≤ length (now card)) × (inRange (now arities) ≡ true) × AtomsKept (now arities) preconditions ⌝ }
-    ensures {
-        λ r. ⌜ AtomsReads (now (arities .entry)) (now (card .entry)) (list present (sectionAtom (now (arities .entry)) parameters section (atomsOf (now (arities .entry)) preconditions)) (drop (c .at) (now (card .entry)))) r ⌝
-    }
+    ensures { λ r. ⌜ AtomsReads (now (arities .entry)) (now (card .entry)) (list present (sectionAtom (now (arities .entry)) parameters section (atomsOf (now (arities .entry)) preconditions)) (drop (c .at) (now (card .entry)))) r ⌝ }
 {
     if !present {
         return AtomsRead {
@@ -131,7 +145,14 @@ pub fn list(
         };
     };
     let at = after.at;
-    let read = atoms(&card[at..], count as usize, arities, parameters, section, preconditions);
+    let read = atoms(
+        &card[at..],
+        count as usize,
+        arities,
+        parameters,
+        section,
+        preconditions,
+    );
     let step = read.step;
     let Step::At(end) = step else {
         return read;
@@ -146,15 +167,19 @@ pub fn list(
 // So many arities, each 1 to 3.
 pub fn arities(card: &[u8], c: Cursor, count: usize) -> AritiesRead
     requires { ⌜ (count ≤ 20) × (c .at ≤ length (now card)) ⌝ }
-    ensures {
-        λ r. ⌜ AritiesReads (now (card .entry)) (many (λ previous. byteThat (between 1 3) 2) none count (drop (c .at) (now (card .entry)))) r ⌝
-    }
+    ensures { λ r. ⌜ AritiesReads (now (card .entry)) (many (λ previous. byteThat (between 1 3) 2) none count (drop (c .at) (now (card .entry)))) r ⌝ }
 {
     let mut list = no_arities();
     let mut at = c.at;
     let mut i = 0;
     while i < count {
-        let read = reader_atoms::byte_between(card, Cursor { at: at }, 1, 3, Refusal::PredicateRange);
+        let read = reader_atoms::byte_between(
+            card,
+            Cursor { at: at },
+            1,
+            3,
+            Refusal::PredicateRange,
+        );
         let ByteRead::Byte(arity, after) = read else {
             return AritiesRead {
                 step: Step::Refused(read.refusal()),
@@ -212,9 +237,7 @@ pub fn fact_count(card: &[u8], c: Cursor) -> CountRead
 // So many facts.
 pub fn facts(card: &[u8], c: Cursor, count: usize, arities: &[u8], objects: usize) -> FactsRead
     requires { ⌜ (count ≤ 512) × (c .at ≤ length (now card)) × (inRange (now arities) ≡ true) ⌝ }
-    ensures {
-        λ r. ⌜ FactsReads (now (arities .entry)) (now (card .entry)) (many (fact (now (arities .entry)) objects) none count (drop (c .at) (now (card .entry)))) r ⌝
-    }
+    ensures { λ r. ⌜ FactsReads (now (arities .entry)) (now (card .entry)) (many (fact (now (arities .entry)) objects) none count (drop (c .at) (now (card .entry)))) r ⌝ }
 {
     let mut list = no_facts();
     let mut previous = Previous::Nothing;

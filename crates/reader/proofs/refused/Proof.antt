@@ -20,7 +20,7 @@ returns c =
     λ i. record {
       verdict = Refused (c .before .before .before .args .refusal);
       task =
-        record { predicates = c .before .before .no-arities .ensures i; objects = 0; schemas = c .before .no-schemas .ensures i; facts = c .no-facts .ensures i };
+          record { predicates = c .before .before .no-arities .ensures i; objects = 0; schemas = c .before .no-schemas .ensures i; facts = c .no-facts .ensures i };
     }
 
 pub refused-spec : {M : Type 1} → statement M

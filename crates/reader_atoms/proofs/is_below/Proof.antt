@@ -1,7 +1,6 @@
 -- `is_below` orders atoms by their bytes.
 use mathlib.Core.Path.{sym, _∙_}
 use Rattle.reader_atoms.proofs.Orders.{before-differs, before-equal, before-last}
-
 use Rattle.reader_atoms.proofs.is_below.Statement.{statement}
 use Rattle.reader_atoms.proofs.is_below.Tie as tie
 

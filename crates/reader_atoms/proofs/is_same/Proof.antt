@@ -1,7 +1,6 @@
 -- `is_same` compares atoms by their bytes.
 use mathlib.Core.Path.{sym, _∙_}
 use Rattle.reader_atoms.proofs.Orders.{same-differs, same-equal, same-last}
-
 use Rattle.reader_atoms.proofs.is_same.Statement.{statement}
 use Rattle.reader_atoms.proofs.is_same.Tie as tie
 

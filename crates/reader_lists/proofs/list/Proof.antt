@@ -77,7 +77,7 @@ add-t24 c =
     let w = c .before .before .before .before .before .before .before .before .before .before .byte-between .ensures in
     let e = c .before .before .before .before .before .before .before .before .counted .given .1 in
     let end : c .before .before .before .before .before .before .before .before .counted .given .0 .1 .0 .at + c .before .before .before .step .given .0 .0 .at ≤ length (c .before .before .before .before .before .before .before .before .before .before .before .before .before .before .args .card .now) =
-      part-within (c .before .before .before .before .before .before .before .before .before .before .before .before .before .before .args .card .now) _ _ _ (byte-within w e) (c .before .before .before .before .before .atoms .ensures) (c .before .before .before .step .given .1) in
+    part-within (c .before .before .before .before .before .before .before .before .before .before .before .before .before .before .args .card .now) _ _ _ (byte-within w e) (c .before .before .before .before .before .atoms .ensures) (c .before .before .before .step .given .1) in
     omega (arith, c .before .before .before .before .before .before .before .before .before .before .before .before .before .before .good .0)
 
 returns-4 : tie.Need-returns-4
