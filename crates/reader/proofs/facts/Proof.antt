@@ -29,9 +29,10 @@ returns c =
 
 facts-requires : tie.Need-facts-requires
 facts-requires c κs =
+    let start = c .before .before .before .before .before .before in
     let w = c .before .before .before .fact-count .ensures in
     let e = c .before .counted .given .1 in
-    (count-held _ (count-found w e), count-within w e, c .before .before .before .before .before .before .pre)
+    (count-held _ (count-found w e), count-within w e, start .pre)
 
 returns-2 : tie.Need-returns-2
 unfolding facts

@@ -28,8 +28,10 @@ is-same-requires c κs = search needs
 
 returns : tie.Need-returns Inv-loop μ-loop
 returns c =
-    let found = has-found _ _ _ _ (c .before .before .before .before .before .pre .1) (c .before .before .before .before .before .pre .0) (c .before .before .before .loop-test .taken) (c .before .is-same .ensures) (c .if1 .taken) in
-    sym (c .before .before .before .before .loop .inv .1 ∙ found)
+    let at-loop = c .before .before .before .before in
+    let start = at-loop .before in
+    let found = has-found _ _ _ _ (start .pre .1) (start .pre .0) (c .before .before .before .loop-test .taken) (c .before .is-same .ensures) (c .if1 .taken) in
+    sym (at-loop .loop .inv .1 ∙ found)
 
 add-i : tie.Need-add-i Inv-loop μ-loop
 add-i c = search needs
