@@ -41,7 +41,8 @@ list-few true read s {xs} {rest} e = counted (model.byteThat (model.between 1 8)
         omega arith
 
 -- a list that was read, and the empty one, are kept as lists are
-pub list-kept : (arities : List ℕ) (present : Bool) (read : Option model.Atom → model.Reader model.Atom) (s : List ℕ) {card : List ℕ} {step : Step} {l : AtomList} {c : Cursor}
+pub list-kept : (arities : List ℕ) (present : Bool) (read : Option model.Atom → model.Reader model.Atom) (s : List ℕ)
+    {card : List ℕ} {step : Step} {l : AtomList} {c : Cursor}
     → Reads (atomsOf arities) atomsFor (atomsFor []) card (model.list present read s) step l → step ≡ At c → AtomsKept arities l
 unfolding atomsFor
 list-kept arities present read s {l = l} w e =
@@ -86,7 +87,8 @@ module _ (arities : List ℕ) (bits parameters : ℕ) (none-yet : List model.Ato
       lists-read g = goes _ e ∙ goes _ f ∙ goes _ g
 
 -- a schema is kept as its lists are
-pub schema-kept : (arities : List ℕ) (parameters : ℕ) {preconditions deletes adds : AtomList} → preconditions ≡ atomsFor (atomsOf arities preconditions)
+pub schema-kept : (arities : List ℕ) (parameters : ℕ) {preconditions deletes adds : AtomList}
+    → preconditions ≡ atomsFor (atomsOf arities preconditions)
     → deletes ≡ atomsFor (atomsOf arities deletes) → adds ≡ atomsFor (atomsOf arities adds)
     → _≡_ {A = Schema} (record { parameters = parameters; preconditions = preconditions; deletes = deletes; adds = adds })
     (schemaFor (schemaOf arities (record { parameters = parameters; preconditions = preconditions; deletes = deletes; adds = adds })))

@@ -11,8 +11,8 @@ ghost use Rattle.card.specs.Represents.{refusalNumber};
 ghost use Rattle.laws.specs.Lists.{same, before};
 ghost use Rattle.model.specs.Card.{byte, byteThat, between};
 ghost use Rattle.reader_atoms.specs.Reads.{ByteReads, refusalOfByte, refusalOfStep};
-ghost use Rattle.reader_atoms.specs.Atoms.{ArgumentsReadAt, AtomReadAt, SectionAtomReadAt, FactReadAt, refusalOfAtom, inRange, bytesOf, hasBytes};
-ghost use Rattle.reader_atoms.specs.Atoms.{aboveBytes, belongsBytes, sectionRefusal, AtomsKept, PreviousKept};
+ghost use Rattle.reader_atoms.specs.Atoms.{ArgumentsReadAt, AtomReadAt, SectionAtomReadAt, FactReadAt, AtomsKept, PreviousKept};
+ghost use Rattle.reader_atoms.specs.Atoms.{inRange, bytesOf, hasBytes, aboveBytes, belongsBytes, refusalOfAtom, sectionRefusal};
 
 // A place on the card.
 pub struct Cursor {

@@ -52,7 +52,8 @@ module _
     {step : Step}
     {kept : B}
     (starts : at ≤ length card)
-    (w : Reads value keep blank (take (length card - at) (drop at card)) (model.many read none n (take (length card - at) (drop at card))) step kept) where
+    (w : Reads value keep blank (take (length card - at) (drop at card))
+    (model.many read none n (take (length card - at) (drop at card))) step kept) where
   in-rest : Reads value keep blank (drop at card) (model.many read none n (drop at card)) step kept
   in-rest = subst (λ part. Reads value keep blank part (model.many read none n part) step kept) (part-left card at) w
 

@@ -33,7 +33,8 @@ module _ {card start : List ℕ} {n i at : ℕ} (within : at ≤ length card) (d
   module _ (arities : List ℕ) {array : List Atom} (read : Option model.Atom → model.Reader model.Atom) where
     -- all atoms of a list are read
     pub atoms-filled : Filling (atomOf arities) atomFor blankAtom 8 read n start array i (drop at card)
-        → Reads (atomsOf arities) atomsFor (atomsFor []) card (model.many read none n start) (At (record { at = at })) (record { count = n; atoms = array })
+        → Reads (atomsOf arities) atomsFor (atomsFor []) card (model.many read none n start) (At (record { at = at }))
+        (record { count = n; atoms = array })
     unfolding atomsOf atomsFor
     atoms-filled f =
         accepts (filling-ends _ _ _ _ _ _ _ f done) within
@@ -41,7 +42,8 @@ module _ {card start : List ℕ} {n i at : ℕ} (within : at ≤ length card) (d
 
     -- all facts are read
     pub facts-filled : Filling (atomOf arities) atomFor blankAtom 512 read n start array i (drop at card)
-        → Reads (factsOf arities) factsFor (factsFor []) card (model.many read none n start) (At (record { at = at })) (record { count = n; facts = array })
+        → Reads (factsOf arities) factsFor (factsFor []) card (model.many read none n start) (At (record { at = at }))
+        (record { count = n; facts = array })
     unfolding factsOf factsFor
     facts-filled f =
         accepts (filling-ends _ _ _ _ _ _ _ f done) within
@@ -49,7 +51,8 @@ module _ {card start : List ℕ} {n i at : ℕ} (within : at ≤ length card) (d
 
   -- all arities are read
   pub arities-filled : {array : List ℕ} (read : Option ℕ → model.Reader ℕ) → Filling (λ b. b) (λ b. b) 0 20 read n start array i (drop at card)
-      → Reads aritiesOf aritiesFor (aritiesFor []) card (model.many read none n start) (At (record { at = at })) (record { count = n; arities = array })
+      → Reads aritiesOf aritiesFor (aritiesFor []) card (model.many read none n start) (At (record { at = at }))
+      (record { count = n; arities = array })
   unfolding aritiesOf aritiesFor
   arities-filled {array} read f =
       let plain : map (λ b. b) (take n array) ≡ take n array = map-id (take n array) in

@@ -5,7 +5,8 @@ use Rattle.card.specs.Represents.{refusalNumber, taskOf}
 use Rattle.reader_atoms.specs.Atoms.{inRange}
 use Rattle.reader_atoms.proofs.Reading.{accepted-by, kept-as, refusal-by, byte-read, byte-refusal}
 use Rattle.reader.proofs.Decoding.{no-predicates, no-objects, no-schemas, no-facts, more-bytes, whole-card, goes-on, is-over}
-use Rattle.reader.proofs.Decoding.{arities-in-range, arities-room, arities-part, schemas-with, facts-with, task-kept, decodes-refused, decodes-accepted}
+use Rattle.reader.proofs.Decoding.{arities-in-range, arities-room, arities-part, schemas-with, facts-with}
+use Rattle.reader.proofs.Decoding.{task-kept, decodes-refused, decodes-accepted}
 use borrow.Author.Needs.{needs}
 use Rattle.reader.proofs.decode.Statement.{statement}
 use Rattle.reader.proofs.decode.Tie as tie
@@ -27,7 +28,10 @@ refused-requires c κs = search needs
 
 returns : tie.Need-returns
 returns c =
-    decodes-refused (c .refused .ensures) (no-predicates _ (refusal-by (c .before .before .before .before .predicates .ensures) (c .before .before .enum-told .given .1) (c .before .refusal .ensures)))
+    let at-enum-told = c .before .before in
+    let at-predicates = at-enum-told .before .before in
+    let none = refusal-by (at-predicates .predicates .ensures) (at-enum-told .enum-told .given .1) (c .before .refusal .ensures) in
+    decodes-refused (c .refused .ensures) (no-predicates _ none)
 
 byte-between-requires : tie.Need-byte-between-requires
 byte-between-requires c κs = search needs
@@ -91,14 +95,15 @@ refused-requires-3 c κs = search needs
 returns-3 : tie.Need-returns-3
 unfolding refusalNumber
 returns-3 c =
-    let at-schemas = c .before .before .before .before in
+    let at-enum-told3 = c .before .before in
+    let at-schemas = at-enum-told3 .before .before in
     let at-counted = at-schemas .before .before .before .before in
     let at-byte-between = at-counted .before .before in
     let at-step = at-byte-between .before .before .before .before in
     let at-predicates = at-step .before .before in
     let p = accepted-by (at-predicates .predicates .ensures) (at-step .step .given .1) in
     let o = byte-read (at-byte-between .byte-between .ensures) (at-counted .counted .given .1) in
-    let none = refusal-by (schemas-with _ _ (at-schemas .schemas .ensures)) (c .before .before .enum-told3 .given .1) (c .before .refusal3 .ensures) in
+    let none = refusal-by (schemas-with _ _ (at-schemas .schemas .ensures)) (at-enum-told3 .enum-told3 .given .1) (c .before .refusal3 .ensures) in
     decodes-refused (c .refused3 .ensures) (no-schemas _ _ p _ o none)
 
 sub-facts : tie.Need-sub-facts

@@ -2,7 +2,8 @@
 use Rattle.model.specs.Card.{bit}
 use Rattle.card.specs.Represents.{schemaOf}
 use Rattle.reader_atoms.proofs.Reading.{accepts, accepted-by, within-card, kept-as, refusal-by}
-use Rattle.reader.proofs.SchemaParts.{no-list-kept, list-kept, preconditions-refused, deletes-refused, adds-refused, lists-read, schema-kept, schema-refused}
+use Rattle.reader.proofs.SchemaParts.{preconditions-refused, deletes-refused, adds-refused, lists-read}
+use Rattle.reader.proofs.SchemaParts.{no-list-kept, list-kept, schema-kept, schema-refused}
 use borrow.Author.Needs.{needs}
 use Rattle.reader.proofs.lists.Statement.{statement}
 use Rattle.reader.proofs.lists.Tie as tie

@@ -23,7 +23,9 @@ no-schema-requires c κs = search needs
 
 returns : tie.Need-returns
 returns c =
-    let e = byte-refusal (c .before .before .before .before .map-byte .ensures) (c .before .before .enum-told .given .1) (c .before .refusal .ensures) in
+    let at-enum-told = c .before .before in
+    let at-map-byte = at-enum-told .before .before in
+    let e = byte-refusal (at-map-byte .map-byte .ensures) (at-enum-told .enum-told .given .1) (c .before .refusal .ensures) in
     schema-refused _ (c .no-schema .ensures) (map-refused _ _ e)
 
 role-count-requires : tie.Need-role-count-requires

@@ -48,9 +48,11 @@ cast-count c = search needs
 
 loop-holds : tie.Need-loop-holds Inv-loop μ-loop
 loop-holds c =
-    let w = c .before .before .before .byte-between .ensures in
+    let at-byte-between = c .before .before .before in
+    let at-no-schemas = at-byte-between .before in
+    let w = at-byte-between .byte-between .ensures in
     let e = c .before .counted .given .1 in
-    plain-starts _ _ _ _ _ _ _ _ (between-held _ _ _ _ (byte-read w e) .1) (byte-within w e) refl (blank-schemas (c .before .before .before .before .no-schemas .ensures))
+    plain-starts _ _ _ _ _ _ _ _ (between-held _ _ _ _ (byte-read w e) .1) (byte-within w e) refl (blank-schemas (at-no-schemas .no-schemas .ensures))
 
 schema-requires : tie.Need-schema-requires Inv-loop μ-loop
 schema-requires c κs =
@@ -83,15 +85,21 @@ returns-2 c =
 
 mul-s : tie.Need-mul-s Inv-loop μ-loop
 mul-s c =
-    omega (arith, c .before .before .before .before .before .loop-test .taken, c .before .before .before .before .before .before .loop .inv .filling .room)
+    let at-loop-test = c .before .before .before .before .before in
+    let at-loop = at-loop-test .before in
+    omega (arith, at-loop-test .loop-test .taken, at-loop .loop .inv .filling .room)
 
 element-set-from-s : tie.Need-element-set-from-s Inv-loop μ-loop
 element-set-from-s c =
-    omega (arith, c .before .before .before .before .before .loop-test .taken, c .before .before .before .before .before .before .loop .inv .filling .room)
+    let at-loop-test = c .before .before .before .before .before in
+    let at-loop = at-loop-test .before in
+    omega (arith, at-loop-test .loop-test .taken, at-loop .loop .inv .filling .room)
 
 add-i : tie.Need-add-i Inv-loop μ-loop
 add-i c =
-    omega (arith, c .before .before .before .before .before .loop-test .taken, c .before .before .before .before .before .before .loop .inv .filling .room)
+    let at-loop-test = c .before .before .before .before .before in
+    let at-loop = at-loop-test .before in
+    omega (arith, at-loop-test .loop-test .taken, at-loop .loop .inv .filling .room)
 
 loop-less : tie.Need-loop-less Inv-loop μ-loop
 loop-less c = omega (arith, c .before .before .before .before .before .loop-test .taken)
@@ -108,9 +116,11 @@ loop-again c =
 returns-3 : tie.Need-returns-3 Inv-loop μ-loop
 unfolding schemas refusalNumber
 returns-3 c =
-    let at-byte-between = c .before .before .before .before .before in
+    let at-counted = c .before .before .before in
+    let at-byte-between = at-counted .before .before in
     let i = c .before .loop .inv in
-    reads-as (goes _ (schemas-counted _ ∙ byte-read (at-byte-between .byte-between .ensures) (c .before .before .before .counted .given .1))) (schemas-filled _ _ (i .within) (c .loop-test .left) (i .filling))
+    let counted = byte-read (at-byte-between .byte-between .ensures) (at-counted .counted .given .1) in
+    reads-as (goes _ (schemas-counted _ ∙ counted)) (schemas-filled _ _ (i .within) (c .loop-test .left) (i .filling))
 
 pub schemas-spec : {M : Type 1} → statement M
 schemas-spec =

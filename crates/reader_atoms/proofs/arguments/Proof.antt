@@ -22,8 +22,10 @@ refusal-requires c κs = search needs
 
 returns : tie.Need-returns
 returns c =
-    let start = c .before .before .before .before .before in
-    refuses (first-refused _ _ _ _ (start .pre .0) (byte-refusal (c .before .before .before .byte-below .ensures) (c .before .enum-told .given .1) (c .refusal .ensures)))
+    let at-byte-below = c .before .before .before in
+    let start = at-byte-below .before .before in
+    let none = byte-refusal (at-byte-below .byte-below .ensures) (c .before .enum-told .given .1) (c .refusal .ensures) in
+    refuses (first-refused _ _ _ _ (start .pre .0) none)
 
 returns-2 : tie.Need-returns-2
 returns-2 c =
@@ -45,14 +47,16 @@ refusal-requires-2 c κs = search needs
 
 returns-3 : tie.Need-returns-3
 returns-3 c =
-    let at-if1 = c .before .before .before .before in
+    let at-byte-below2 = c .before .before .before in
+    let at-if1 = at-byte-below2 .before in
     let at-read = at-if1 .before .before in
     let at-byte-below = at-read .before .before in
     let start = at-byte-below .before .before in
     let w = at-byte-below .byte-below .ensures in
     let e = at-read .read .given .1 in
     let l : 2 ≤ start .args .arity = omega (arith, start .pre, at-if1 .if1 .left) in
-    refuses (second-refused _ _ _ _ _ l (byte-read w e) (byte-refusal (c .before .before .before .byte-below2 .ensures) (c .before .enum-told2 .given .1) (c .refusal2 .ensures)))
+    let none = byte-refusal (at-byte-below2 .byte-below2 .ensures) (c .before .enum-told2 .given .1) (c .refusal2 .ensures) in
+    refuses (second-refused _ _ _ _ _ l (byte-read w e) none)
 
 returns-4 : tie.Need-returns-4
 returns-4 c =

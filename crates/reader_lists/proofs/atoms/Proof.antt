@@ -44,10 +44,13 @@ no-atoms-requires-2 c κs = search needs
 
 returns : tie.Need-returns Inv-loop μ-loop
 returns c =
-    let at-schema-atom = c .before .before .before .before in
+    let at-enum-told = c .before .before in
+    let at-schema-atom = at-enum-told .before .before in
     let at-loop-test = at-schema-atom .before in
     let at-loop = at-loop-test .before in
-    let stopped = ordered-stops _ _ _ _ _ _ (at-loop .loop .inv) (at-loop-test .loop-test .taken) (at-schema-atom .schema-atom .ensures) (c .before .before .enum-told .given .1) (c .before .refusal .ensures) in
+    let w = at-schema-atom .schema-atom .ensures in
+    let told = at-enum-told .enum-told .given .1 in
+    let stopped = ordered-stops _ _ _ _ _ _ (at-loop .loop .inv) (at-loop-test .loop-test .taken) w told (c .before .refusal .ensures) in
     refuses-beside stopped (c .no-atoms2 .ensures)
 
 mul-a : tie.Need-mul-a Inv-loop μ-loop
@@ -64,9 +67,10 @@ loop-less c = omega arith
 
 loop-again : tie.Need-loop-again Inv-loop μ-loop
 loop-again c =
-    let at-loop-test = c .before .before .before .before in
+    let at-schema-atom = c .before .before .before in
+    let at-loop-test = at-schema-atom .before in
     let at-loop = at-loop-test .before in
-    ordered-goes-on _ _ _ _ _ _ (at-loop .loop .inv) (at-loop-test .loop-test .taken) (c .before .before .before .schema-atom .ensures) (c .before .read .given .1)
+    ordered-goes-on _ _ _ _ _ _ (at-loop .loop .inv) (at-loop-test .loop-test .taken) (at-schema-atom .schema-atom .ensures) (c .before .read .given .1)
 
 returns-2 : tie.Need-returns-2 Inv-loop μ-loop
 returns-2 c =

@@ -58,9 +58,10 @@ cast-atoms c = search needs
 
 atoms-requires : tie.Need-atoms-requires
 atoms-requires c κs =
-    let at-byte-between = c .before .before .before .before in
+    let at-counted = c .before .before in
+    let at-byte-between = at-counted .before .before in
     let start = at-byte-between .before .before .before .before in
-    (between-held _ _ _ _ (byte-read (at-byte-between .byte-between .ensures) (c .before .before .counted .given .1)) .1, start .pre .1, start .pre .2)
+    (between-held _ _ _ _ (byte-read (at-byte-between .byte-between .ensures) (at-counted .counted .given .1)) .1, start .pre .1, start .pre .2)
 
 enum-known-step : tie.Need-enum-known-step
 enum-known-step c = search needs
