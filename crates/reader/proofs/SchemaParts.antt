@@ -1,26 +1,26 @@
 -- A schema's lists, one after the other, and the schema that they make.
 use Prim.Native.Nat.{ℕ, _≤_}
 use native.Mathlib.Omega.{arith}
-use mathlib.Core.Bool.{Bool, true, false, not}
+use mathlib.Core.Bool.{Bool, true, false}
 use mathlib.Core.List.{List, []}
 use mathlib.Core.Option.{Option, none}
-use mathlib.Core.Path.{_≡_, refl, ap, _∙_, sym, subst, subst⁻¹}
-use lib.ListN.{length, drop}
+use mathlib.Core.Path.{_≡_, refl, ap, _∙_, sym, subst⁻¹}
+use lib.ListN.{length}
 use Rattle.model.specs.Answer.{Answer, refused, accepted}
 use Rattle.model.specs.Card as model
 use Rattle.card.specs.declared.AtomList.{AtomList}
 use Rattle.card.specs.declared.Schema.{Schema}
 use Rattle.card.specs.declared.Refusal.{Refusal}
-use Rattle.card.specs.Represents.{refusalNumber, atomsOf, atomsFor, schemaOf, schemaFor, blankSchema}
+use Rattle.card.specs.Represents.{refusalNumber, atomsOf, atomsFor, schemaOf, schemaFor}
 use Rattle.reader_atoms.specs.declared.Cursor.{Cursor}
 use Rattle.reader_atoms.specs.declared.Step.{Step}
-use Rattle.reader_atoms.specs.declared.Step.the-variants.{At, Refused}
+use Rattle.reader_atoms.specs.declared.Step.the-variants.{At}
 use Rattle.reader_atoms.specs.declared.Section.the-variants.{Preconditions, Deletes, Adds}
 use Rattle.reader_atoms.specs.Reads.{Reads}
 use Rattle.reader_atoms.specs.Atoms.{sectionAtom, sectionTest, AtomsKept}
 use Rattle.reader_atoms.proofs.Answers.{goes, halts, value-of, differ, between-held}
 use Rattle.reader_atoms.proofs.Many.{many-count}
-use Rattle.reader_atoms.proofs.Reading.{accepts, refuses, accepted-by, kept-as}
+use Rattle.reader_atoms.proofs.Reading.{refuses, accepted-by, kept-as}
 use Rattle.reader_lists.proofs.AtomLists.{list-absent, list-uncounted, list-counted}
 use Rattle.reader.specs.declared.SchemaRead.{SchemaRead}
 use Rattle.reader.specs.Parts.{schemaLists, schemaRefused, SchemaReads}

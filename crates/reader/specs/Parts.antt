@@ -5,7 +5,7 @@ use mathlib.Core.List.{List, []}
 use mathlib.Core.Option.{none}
 use lib.Dec.{leb}
 use lib.ListN.{drop}
-use Rattle.model.specs.Answer.{Answer, refused, accepted, _>>=_}
+use Rattle.model.specs.Answer.{Answer, accepted, _>>=_}
 use Rattle.model.specs.Card as model
 use Rattle.card.specs.declared.Refusal.{Refusal}
 use Rattle.card.specs.declared.Verdict.the-variants.{Refused as NoTask}

@@ -1,16 +1,15 @@
 -- An atom's arguments read one by one, and the atom that they make.
-use Prim.Native.Nat.{ℕ, zero, suc, _+_, _-_, _≤_, _<_}
+use Prim.Native.Nat.{ℕ, zero, suc, _-_, _≤_, _<_}
 use native.Mathlib.Omega.{arith}
 use mathlib.Core.Bool.{Bool, true, false, _&&_, false≢true}
-use mathlib.Core.List.{List, [], _∷_, _++_, map}
-use mathlib.Core.Option.{Option, none, some}
+use mathlib.Core.List.{List, [], _∷_}
 use mathlib.Core.Path.{_≡_, refl, ap, _∙_, sym, subst⁻¹}
 use lib.Dec.{ltb, leb}
 use borrow.Author.Tests.{leb-true}
 use lib.ListN.{length, drop, take, getD}
-use Rattle.model.specs.Answer.{Answer, refused, accepted, _>>=_}
+use Rattle.model.specs.Answer.{refused, accepted}
 use Rattle.model.specs.Card as model
-use Rattle.model.specs.Card.{Reader, many, byteThat, atom, between}
+use Rattle.model.specs.Card.{Reader, byteThat, atom, between}
 use Rattle.laws.specs.Lists.{all}
 use Rattle.card.specs.declared.Atom.{Atom}
 use Rattle.card.specs.Represents.{atomOf, atomFor, blankAtom}

@@ -1,5 +1,5 @@
 -- A loop that reads items into an array: what stands in the array so far, put before what is still to be read, is the whole answer.
-use Prim.Native.Nat.{ℕ, zero, suc, _+_, _-_, _≤_, _<_}
+use Prim.Native.Nat.{ℕ, suc, _+_, _-_, _≤_, _<_}
 use native.Mathlib.Omega.{arith}
 use native.Mathlib.Numerals.{add-one}
 use mathlib.Core.List.{List, [], _∷_, _++_, map, append-assoc, append-nil, map-append}
@@ -10,8 +10,8 @@ use lib.Seq.{take-suc-set, drop-set-lt, drop-drop}
 use Rattle.model.specs.Answer.{Answer, refused, accepted, _>>=_}
 use Rattle.model.specs.Card.{Reader, many}
 use Rattle.card.specs.Represents.{padded}
-use Rattle.reader_atoms.proofs.Answers.{goes, halts}
-use Rattle.reader_atoms.proofs.Many.{many-stops, many-none}
+use Rattle.reader_atoms.proofs.Answers.{goes}
+use Rattle.reader_atoms.proofs.Many.{many-stops}
 
 module _ {A : Type 0} where
   -- the last item of a list, or the one before it
