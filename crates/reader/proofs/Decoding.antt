@@ -1,11 +1,10 @@
 -- A card read part by part: the predicates, the objects, the schemas, the facts, and nothing after them.
-use Prim.Native.Nat.{ℕ, _+_, _-_, _≤_, _<_}
+use Prim.Native.Nat.{ℕ, _-_, _≤_, _<_}
 use native.Mathlib.Omega.{arith}
-use mathlib.Core.Bool.{Bool, true, false}
-use mathlib.Core.List.{List, [], _∷_, _++_}
+use mathlib.Core.Bool.{true, false}
+use mathlib.Core.List.{List}
 use mathlib.Core.Option.{none}
 use mathlib.Core.Path.{_≡_, refl, ap, _∙_, sym, subst, subst⁻¹}
-use lib.Dec.{leb}
 use lib.ListN.{length, take, drop, length-append, drop-of-length-le}
 use lib.Seq.{drop-cons}
 use Rattle.model.specs.Answer.{Answer, refused, accepted, _>>=_, _>>_, need}
@@ -17,7 +16,8 @@ use Rattle.card.specs.declared.Refusal.{Refusal}
 use Rattle.card.specs.declared.Task.{Task}
 use Rattle.card.specs.declared.Decoded.{Decoded}
 use Rattle.card.specs.declared.Verdict.the-variants.{Accepted}
-use Rattle.card.specs.Represents.{refusalNumber, aritiesOf, aritiesFor, padded, taskOf, taskFor, answerOf, taskBeside, Decodes, schemasOf, schemasFor, factsOf, factsFor}
+use Rattle.card.specs.Represents.{refusalNumber, aritiesOf, aritiesFor, schemasOf, schemasFor, factsOf, factsFor, padded}
+use Rattle.card.specs.Represents.{taskOf, taskFor, answerOf, taskBeside, Decodes}
 use Rattle.reader_atoms.specs.Atoms.{inRange}
 use Rattle.reader_atoms.proofs.Answers.{goes, halts, passes, fails, regroup, differ, byteThat-held}
 use Rattle.reader_atoms.proofs.Many.{many-all}
@@ -121,7 +121,8 @@ unfolding aritiesOf
 arities-part l = let whole : l .count - 0 ≡ l .count = omega arith in ap (λ n. take n (l .arities)) whole
 
 -- the code's answer to a refused card
-pub decodes-refused : {card : List ℕ} {d : Decoded} {k : Refusal} → d ≡ decodedRefused k → model.decode card ≡ refused (refusalNumber k) → Decodes card d
+pub decodes-refused : {card : List ℕ} {d : Decoded} {k : Refusal} → d ≡ decodedRefused k
+    → model.decode card ≡ refused (refusalNumber k) → Decodes card d
 unfolding answerOf taskBeside
 decodes-refused {card} e a =
     subst⁻¹ (λ d. Decodes card d) e (record { answer = sym a; kept = sym (ap taskBeside a) })

@@ -18,7 +18,8 @@ unfolding schemasFor padded
 blank-schemas e = ap (λ l. l .schemas) e
 
 -- all schemas are read
-pub schemas-filled : (arities : List ℕ) {card start : List ℕ} {n i at : ℕ} {array : List Schema} (read : Option model.Schema → model.Reader model.Schema)
+pub schemas-filled : (arities : List ℕ) {card start : List ℕ} {n i at : ℕ} {array : List Schema}
+    (read : Option model.Schema → model.Reader model.Schema)
     → at ≤ length card → n ≤ i → Filling (schemaOf arities) schemaFor blankSchema 32 read n start array i (drop at card)
     → Reads (schemasOf arities) schemasFor (schemasFor []) card (model.many read none n start) (At (record { at = at }))
     (record { count = n; schemas = array })

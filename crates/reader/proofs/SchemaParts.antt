@@ -1,26 +1,26 @@
 -- A schema's lists, one after the other, and the schema that they make.
 use Prim.Native.Nat.{ℕ, _≤_}
 use native.Mathlib.Omega.{arith}
-use mathlib.Core.Bool.{Bool, true, false, not}
+use mathlib.Core.Bool.{Bool, true, false}
 use mathlib.Core.List.{List, []}
 use mathlib.Core.Option.{Option, none}
-use mathlib.Core.Path.{_≡_, refl, ap, _∙_, sym, subst, subst⁻¹}
-use lib.ListN.{length, drop}
+use mathlib.Core.Path.{_≡_, refl, ap, _∙_, sym, subst⁻¹}
+use lib.ListN.{length}
 use Rattle.model.specs.Answer.{Answer, refused, accepted}
 use Rattle.model.specs.Card as model
 use Rattle.card.specs.declared.AtomList.{AtomList}
 use Rattle.card.specs.declared.Schema.{Schema}
 use Rattle.card.specs.declared.Refusal.{Refusal}
-use Rattle.card.specs.Represents.{refusalNumber, atomsOf, atomsFor, schemaOf, schemaFor, blankSchema}
+use Rattle.card.specs.Represents.{refusalNumber, atomsOf, atomsFor, schemaOf, schemaFor}
 use Rattle.reader_atoms.specs.declared.Cursor.{Cursor}
 use Rattle.reader_atoms.specs.declared.Step.{Step}
-use Rattle.reader_atoms.specs.declared.Step.the-variants.{At, Refused}
+use Rattle.reader_atoms.specs.declared.Step.the-variants.{At}
 use Rattle.reader_atoms.specs.declared.Section.the-variants.{Preconditions, Deletes, Adds}
 use Rattle.reader_atoms.specs.Reads.{Reads}
 use Rattle.reader_atoms.specs.Atoms.{sectionAtom, sectionTest, AtomsKept}
 use Rattle.reader_atoms.proofs.Answers.{goes, halts, value-of, differ, between-held}
 use Rattle.reader_atoms.proofs.Many.{many-count}
-use Rattle.reader_atoms.proofs.Reading.{accepts, refuses, accepted-by, kept-as}
+use Rattle.reader_atoms.proofs.Reading.{refuses, accepted-by, kept-as}
 use Rattle.reader_lists.proofs.AtomLists.{list-absent, list-uncounted, list-counted}
 use Rattle.reader.specs.declared.SchemaRead.{SchemaRead}
 use Rattle.reader.specs.Parts.{schemaLists, schemaRefused, SchemaReads}
@@ -41,7 +41,8 @@ list-few true read s {xs} {rest} e = counted (model.byteThat (model.between 1 8)
         omega arith
 
 -- a list that was read, and the empty one, are kept as lists are
-pub list-kept : (arities : List ℕ) (present : Bool) (read : Option model.Atom → model.Reader model.Atom) (s : List ℕ) {card : List ℕ} {step : Step} {l : AtomList} {c : Cursor}
+pub list-kept : (arities : List ℕ) (present : Bool) (read : Option model.Atom → model.Reader model.Atom) (s : List ℕ)
+    {card : List ℕ} {step : Step} {l : AtomList} {c : Cursor}
     → Reads (atomsOf arities) atomsFor (atomsFor []) card (model.list present read s) step l → step ≡ At c → AtomsKept arities l
 unfolding atomsFor
 list-kept arities present read s {l = l} w e =
@@ -86,7 +87,8 @@ module _ (arities : List ℕ) (bits parameters : ℕ) (none-yet : List model.Ato
       lists-read g = goes _ e ∙ goes _ f ∙ goes _ g
 
 -- a schema is kept as its lists are
-pub schema-kept : (arities : List ℕ) (parameters : ℕ) {preconditions deletes adds : AtomList} → preconditions ≡ atomsFor (atomsOf arities preconditions)
+pub schema-kept : (arities : List ℕ) (parameters : ℕ) {preconditions deletes adds : AtomList}
+    → preconditions ≡ atomsFor (atomsOf arities preconditions)
     → deletes ≡ atomsFor (atomsOf arities deletes) → adds ≡ atomsFor (atomsOf arities adds)
     → _≡_ {A = Schema} (record { parameters = parameters; preconditions = preconditions; deletes = deletes; adds = adds })
     (schemaFor (schemaOf arities (record { parameters = parameters; preconditions = preconditions; deletes = deletes; adds = adds })))

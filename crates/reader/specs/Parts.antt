@@ -4,7 +4,8 @@ use mathlib.Core.Bool.{true, not}
 use mathlib.Core.List.{List, []}
 use mathlib.Core.Option.{none}
 use lib.Dec.{leb}
-use Rattle.model.specs.Answer.{Answer, refused, accepted, _>>=_}
+use lib.ListN.{drop}
+use Rattle.model.specs.Answer.{Answer, accepted, _>>=_}
 use Rattle.model.specs.Card as model
 use Rattle.card.specs.declared.Refusal.{Refusal}
 use Rattle.card.specs.declared.Verdict.the-variants.{Refused as NoTask}
@@ -12,6 +13,8 @@ use Rattle.card.specs.declared.Decoded.{Decoded}
 use Rattle.card.specs.Represents.{schemaOf, schemaFor, blankSchema, schemasOf, schemasFor, blankTask}
 use Rattle.reader_atoms.specs.declared.Step.the-variants.{Refused}
 use Rattle.reader_atoms.specs.Reads.{Reads}
+use Rattle.reader_lists.specs.declared.FactsRead.{FactsRead}
+use Rattle.reader_lists.specs.ListReads.{FactsReads}
 use Rattle.reader.specs.declared.SchemaRead.{SchemaRead}
 use Rattle.reader.specs.declared.SchemasRead.{SchemasRead}
 
@@ -47,6 +50,16 @@ SchemaReads arities card answer r = Reads (schemaOf arities) schemaFor blankSche
 
 abbrev pub SchemasReads : List ℕ → List ℕ → Answer (List model.Schema × List ℕ) → SchemasRead → Type 0
 SchemasReads arities card answer r = Reads (schemasOf arities) schemasFor (schemasFor []) card answer (r .step) (r .list)
+
+-- What the functions promise: the code's whole answer at a place on the card.
+abbrev pub SchemaReadAt : List ℕ → model.Reader model.Schema → List ℕ → ℕ → SchemaRead → Type 0
+SchemaReadAt arities read card at r = SchemaReads arities card (read (drop at card)) r
+
+abbrev pub SchemasReadAt : List ℕ → List ℕ → ℕ → SchemasRead → Type 0
+SchemasReadAt arities card at r = SchemasReads arities card (schemas arities (drop at card)) r
+
+abbrev pub FactsPartAt : List ℕ → ℕ → List ℕ → ℕ → FactsRead → Type 0
+FactsPartAt arities objects card at r = FactsReads arities card (facts arities objects (drop at card)) r
 
 -- a refused schema, and a refused card
 abbrev pub schemaRefused : Refusal → SchemaRead

@@ -1,9 +1,5 @@
 // A card read as a planning task, front to back: the task, or the refusal that reading meets first.
-use card::ArityList;
-use card::Atom;
-use card::AtomList;
 use card::Decoded;
-use card::FactList;
 use card::Refusal;
 use card::Schema;
 use card::SchemaList;
@@ -16,19 +12,18 @@ use reader_atoms::Step;
 use reader_lists::AritiesRead;
 use reader_lists::CountRead;
 use reader_lists::FactsRead;
-ghost use Prim.Native.Nat.{ℕ, _≤_};
-ghost use mathlib.Core.Bool.{Bool, true};
+ghost use Prim.Native.Nat.{_≤_};
+ghost use mathlib.Core.Bool.{true};
 ghost use mathlib.Core.List.{[]};
-ghost use mathlib.Core.Option.{none};
 ghost use mathlib.Core.Path.{_≡_};
 ghost use lib.Dec.{ltb};
 ghost use lib.ListN.{length, drop};
-ghost use Rattle.card.specs.Represents.{atomsOf, blankSchema, schemasFor, blankTask, Decodes};
-ghost use Rattle.model.specs.Card.{many, byteThat, roleCount, schema};
+ghost use Rattle.card.specs.Represents.{blankSchema, schemasFor, Decodes};
+ghost use Rattle.model.specs.Card.{byteThat, roleCount, schema};
 ghost use Rattle.reader_atoms.specs.Reads.{ByteReads};
 ghost use Rattle.reader_atoms.specs.Atoms.{inRange};
-ghost use Rattle.reader_lists.specs.ListReads.{AritiesReads, FactsReads};
-ghost use Rattle.reader.specs.Parts.{SchemaReads, SchemasReads, schemaRefused, schemaLists, predicates, schemas, facts, decodedRefused};
+ghost use Rattle.reader_lists.specs.ListReads.{AritiesReads};
+ghost use Rattle.reader.specs.Parts.{SchemaReadAt, SchemasReadAt, FactsPartAt, schemaRefused, schemaLists, predicates, decodedRefused};
 
 // The bit map of a schema: its high bits are 0.
 fn map_byte(card: &[u8], c: Cursor) -> ByteRead
@@ -91,7 +86,7 @@ fn no_schema(refusal: Refusal) -> SchemaRead
 // The three lists of a schema, each where its bit stands.
 fn lists(card: &[u8], c: Cursor, arities: &[u8], map: u8, parameters: usize) -> SchemaRead
     requires { ⌜ (c .at ≤ length (now card)) × (inRange (now arities) ≡ true) ⌝ }
-    ensures { λ r. ⌜ SchemaReads (now (arities .entry)) (now (card .entry)) (schemaLists (now (arities .entry)) map parameters (drop (c .at) (now (card .entry)))) r ⌝ }
+    ensures { λ r. ⌜ SchemaReadAt (now (arities .entry)) (schemaLists (now (arities .entry)) map parameters) (now (card .entry)) (c .at) r ⌝ }
 {
     let read = reader_lists::list(
         card,
@@ -149,7 +144,7 @@ fn lists(card: &[u8], c: Cursor, arities: &[u8], map: u8, parameters: usize) -> 
 // A schema: its bit map, then only the fields whose bit stands.
 pub fn schema(card: &[u8], c: Cursor, arities: &[u8]) -> SchemaRead
     requires { ⌜ inRange (now arities) ≡ true ⌝ }
-    ensures { λ r. ⌜ SchemaReads (now (arities .entry)) (now (card .entry)) (schema (now (arities .entry)) (drop (c .at) (now (card .entry)))) r ⌝ }
+    ensures { λ r. ⌜ SchemaReadAt (now (arities .entry)) (schema (now (arities .entry))) (now (card .entry)) (c .at) r ⌝ }
 {
     let read = map_byte(card, c);
     let ByteRead::Byte(map, c) = read else {
@@ -179,7 +174,7 @@ fn no_schemas() -> SchemaList
 // The schema count and so many schemas.
 fn schemas(card: &[u8], c: Cursor, arities: &[u8]) -> SchemasRead
     requires { ⌜ inRange (now arities) ≡ true ⌝ }
-    ensures { λ r. ⌜ SchemasReads (now (arities .entry)) (now (card .entry)) (schemas (now (arities .entry)) (drop (c .at) (now (card .entry)))) r ⌝ }
+    ensures { λ r. ⌜ SchemasReadAt (now (arities .entry)) (now (card .entry)) (c .at) r ⌝ }
 {
     let mut list = no_schemas();
     let counted = reader_atoms::byte_between(card, c, 0, 32, Refusal::SchemaRange);
@@ -236,7 +231,7 @@ fn predicates(card: &[u8]) -> AritiesRead
 // The fact count and so many facts.
 fn facts(card: &[u8], c: Cursor, arities: &[u8], objects: usize) -> FactsRead
     requires { ⌜ inRange (now arities) ≡ true ⌝ }
-    ensures { λ r. ⌜ FactsReads (now (arities .entry)) (now (card .entry)) (facts (now (arities .entry)) objects (drop (c .at) (now (card .entry)))) r ⌝ }
+    ensures { λ r. ⌜ FactsPartAt (now (arities .entry)) objects (now (card .entry)) (c .at) r ⌝ }
 {
     let counted = reader_lists::fact_count(card, c);
     let CountRead::Count(count, c) = counted else {

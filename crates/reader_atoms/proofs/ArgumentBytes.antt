@@ -1,16 +1,15 @@
 -- An atom's arguments read one by one, and the atom that they make.
-use Prim.Native.Nat.{ℕ, zero, suc, _+_, _-_, _≤_, _<_}
+use Prim.Native.Nat.{ℕ, zero, suc, _-_, _≤_, _<_}
 use native.Mathlib.Omega.{arith}
 use mathlib.Core.Bool.{Bool, true, false, _&&_, false≢true}
-use mathlib.Core.List.{List, [], _∷_, _++_, map}
-use mathlib.Core.Option.{Option, none, some}
+use mathlib.Core.List.{List, [], _∷_}
 use mathlib.Core.Path.{_≡_, refl, ap, _∙_, sym, subst⁻¹}
 use lib.Dec.{ltb, leb}
 use borrow.Author.Tests.{leb-true}
 use lib.ListN.{length, drop, take, getD}
-use Rattle.model.specs.Answer.{Answer, refused, accepted, _>>=_}
+use Rattle.model.specs.Answer.{refused, accepted}
 use Rattle.model.specs.Card as model
-use Rattle.model.specs.Card.{Reader, many, byteThat, atom, between}
+use Rattle.model.specs.Card.{Reader, byteThat, atom, between}
 use Rattle.laws.specs.Lists.{all}
 use Rattle.card.specs.declared.Atom.{Atom}
 use Rattle.card.specs.Represents.{atomOf, atomFor, blankAtom}
@@ -45,7 +44,8 @@ module _ (bound number arity : ℕ) (s : List ℕ) where
       let two : arity ≡ suc (suc (arity - 2)) = omega arith in
       rw two (many-stops-later _ _ _ _ e (many-stops _ _ _ _ f))
 
-  pub third-refused : (s₁ s₂ : List ℕ) {a b k : ℕ} → 3 ≤ arity → argument bound number s ≡ accepted (a, s₁) → argument bound number s₁ ≡ accepted (b, s₂)
+  pub third-refused : (s₁ s₂ : List ℕ) {a b k : ℕ} → 3 ≤ arity
+      → argument bound number s ≡ accepted (a, s₁) → argument bound number s₁ ≡ accepted (b, s₂)
       → argument bound number s₂ ≡ refused k → argumentBytes arity bound number s ≡ refused k
   unfolding argumentBytes
   third-refused s₁ s₂ l e f g =
@@ -60,13 +60,15 @@ module _ (bound number arity : ℕ) (s : List ℕ) where
     unfolding argumentBytes argumentsOf withArguments atomFor
     one-argument one e = rw one (accepts (many-more _ _ _ _ e (many-none _ _ _)) within refl)
 
-    pub two-arguments : (s₁ : List ℕ) {x y : ℕ} → arity ≡ 2 → argument bound number s ≡ accepted (x, s₁) → argument bound number s₁ ≡ accepted (y, drop (c .at) card)
+    pub two-arguments : (s₁ : List ℕ) {x y : ℕ} → arity ≡ 2
+        → argument bound number s ≡ accepted (x, s₁) → argument bound number s₁ ≡ accepted (y, drop (c .at) card)
         → Reads (argumentsOf arity) (withArguments p) blankAtom card (argumentBytes arity bound number s) (At c)
         (record { predicate = p; first = x; second = y; third = 0 })
     unfolding argumentBytes argumentsOf withArguments atomFor
     two-arguments s₁ two e f = rw two (accepts (many-more _ _ _ _ e (many-more _ _ _ _ f (many-none _ _ _))) within refl)
 
-    pub three-arguments : (s₁ s₂ : List ℕ) {x y z : ℕ} → arity ≡ 3 → argument bound number s ≡ accepted (x, s₁) → argument bound number s₁ ≡ accepted (y, s₂)
+    pub three-arguments : (s₁ s₂ : List ℕ) {x y z : ℕ} → arity ≡ 3
+        → argument bound number s ≡ accepted (x, s₁) → argument bound number s₁ ≡ accepted (y, s₂)
         → argument bound number s₂ ≡ accepted (z, drop (c .at) card)
         → Reads (argumentsOf arity) (withArguments p) blankAtom card (argumentBytes arity bound number s) (At c)
         (record { predicate = p; first = x; second = y; third = z })
@@ -101,7 +103,9 @@ module _ (arities : List ℕ) (bound number : ℕ) (s : List ℕ) where
   predicate-read {p} {card = card} (At c) {a} e w =
       let k = kept-as w refl in
       let q : p ≡ a .predicate = sym (ap (λ a. a .predicate) k) in
-      accepts (goes _ e ∙ goes _ (accepted-by w refl) ∙ ap (λ p. accepted (as-atom p a, drop (c .at) card)) q) (within-card w refl) (k ∙ ap (λ p. atomFor (as-atom p a)) q)
+      accepts
+      (goes _ e ∙ goes _ (accepted-by w refl) ∙ ap (λ p. accepted (as-atom p a, drop (c .at) card)) q)
+      (within-card w refl) (k ∙ ap (λ p. atomFor (as-atom p a)) q)
     where
       as-atom : ℕ → Atom → model.Atom
       as-atom p a = record { predicate = p; arguments = take (getD arities p 0) (placesOf a) }

@@ -1,7 +1,7 @@
 -- Laws of what a read of an atom answers: from the enum's case to the definition's answer, and back.
 use Prim.Native.Nat.{ℕ, _≤_}
 use mathlib.Core.List.{List}
-use mathlib.Core.Path.{_≡_, refl, ap, _∙_, sym, subst}
+use mathlib.Core.Path.{_≡_, ap, _∙_, sym, subst}
 use lib.ListN.{length, drop}
 use Rattle.model.specs.Answer.{Answer, refused, accepted}
 use Rattle.card.specs.declared.Atom.{Atom}
@@ -12,7 +12,7 @@ use Rattle.reader_atoms.specs.declared.AtomRead.{AtomRead}
 use Rattle.reader_atoms.specs.declared.AtomRead.the-variants.{Found, Refused as NoAtom}
 use Rattle.reader_atoms.specs.Reads.{Reads}
 use Rattle.reader_atoms.specs.Atoms.{atomStep, atomIn, refusalOfAtom}
-use Rattle.reader_atoms.proofs.Reading.{accepts, refuses, accepted-by, within-card, kept-as, refused-by}
+use Rattle.reader_atoms.proofs.Reading.{refuses, accepted-by, within-card, kept-as, refused-by}
 
 module _
     {A : Type 0}

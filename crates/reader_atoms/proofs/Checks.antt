@@ -1,13 +1,13 @@
 -- The checks at a whole atom: its place on its list, and what its own list asks.
-use Prim.Native.Nat.{ℕ, _+_, _-_, _≤_}
+use Prim.Native.Nat.{ℕ, _+_, _-_}
 use native.Mathlib.Omega.{arith}
-use mathlib.Core.Bool.{Bool, true, false, not}
-use mathlib.Core.List.{List, [], _∷_, _++_, map}
-use mathlib.Core.Option.{Option, none, some}
-use mathlib.Core.Path.{_≡_, refl, ap, _∙_, sym, subst}
+use mathlib.Core.Bool.{true, false, not}
+use mathlib.Core.List.{List, _++_, map}
+use mathlib.Core.Option.{Option}
+use mathlib.Core.Path.{_≡_, refl, ap, _∙_, sym}
 use lib.ListN.{length, take, replicate, length-append, length-replicate, length-map}
 use lib.Seq.{take-at}
-use Rattle.model.specs.Answer.{Answer, refused, accepted}
+use Rattle.model.specs.Answer.{refused, accepted}
 use Rattle.model.specs.Card as model
 use Rattle.card.specs.declared.Atom.{Atom}
 use Rattle.card.specs.declared.AtomList.{AtomList}
@@ -16,7 +16,8 @@ use Rattle.reader_atoms.specs.declared.Previous.{Previous}
 use Rattle.reader_atoms.specs.declared.Previous.the-variants.{Nothing, Atom as After}
 use Rattle.reader_atoms.specs.declared.Section.{Section}
 use Rattle.reader_atoms.specs.declared.Section.the-variants.{Preconditions, Deletes, Adds}
-use Rattle.reader_atoms.specs.Atoms.{previousOf, previousFor, aboveBytes, sectionTest, belongsBytes, hasBytes, sectionRefusal, sectionAtom, AtomsKept, PreviousKept}
+use Rattle.reader_atoms.specs.Atoms.{previousOf, previousFor, aboveBytes, hasBytes, AtomsKept, PreviousKept}
+use Rattle.reader_atoms.specs.Atoms.{sectionTest, belongsBytes, sectionRefusal, sectionAtom}
 use Rattle.reader_atoms.proofs.Answers.{goes, halts, passes, fails}
 use Rattle.reader_atoms.proofs.Orders.{Kept, below-bytes, has-bytes}
 
@@ -60,7 +61,8 @@ belongs-bytes arities a Adds l ka k = ap not (has-bytes arities a _ ka (list-exa
 
 module _ (arities : List ℕ) (parameters : ℕ) (section : Section) (preconditions : List model.Atom) (previous : Option model.Atom) (s : List ℕ) where
   -- the atom is refused
-  pub section-ends : {k : ℕ} → model.atom arities parameters 7 s ≡ refused k → sectionAtom arities parameters section preconditions previous s ≡ refused k
+  pub section-ends : {k : ℕ} → model.atom arities parameters 7 s ≡ refused k
+      → sectionAtom arities parameters section preconditions previous s ≡ refused k
   unfolding sectionAtom model.schemaAtom
   section-ends e = halts _ e
 

@@ -1,5 +1,5 @@
 -- A loop that reads items into an array: what stands in the array so far, put before what is still to be read, is the whole answer.
-use Prim.Native.Nat.{ℕ, zero, suc, _+_, _-_, _≤_, _<_}
+use Prim.Native.Nat.{ℕ, suc, _+_, _-_, _≤_, _<_}
 use native.Mathlib.Omega.{arith}
 use native.Mathlib.Numerals.{add-one}
 use mathlib.Core.List.{List, [], _∷_, _++_, map, append-assoc, append-nil, map-append}
@@ -10,8 +10,8 @@ use lib.Seq.{take-suc-set, drop-set-lt, drop-drop}
 use Rattle.model.specs.Answer.{Answer, refused, accepted, _>>=_}
 use Rattle.model.specs.Card.{Reader, many}
 use Rattle.card.specs.Represents.{padded}
-use Rattle.reader_atoms.proofs.Answers.{goes, halts}
-use Rattle.reader_atoms.proofs.Many.{many-stops, many-none}
+use Rattle.reader_atoms.proofs.Answers.{goes}
+use Rattle.reader_atoms.proofs.Many.{many-stops}
 
 module _ {A : Type 0} where
   -- the last item of a list, or the one before it
@@ -104,7 +104,8 @@ module _ {A B : Type 0} (value : B → A) (keep : A → B) (blank : B) (size : �
           long = length-set array i b ∙ f .long;
           left =
               ap next valued
-              ∙ ap (λ p. prepend (map value (take i array) ++ value b ∷ []) (many read p (n - (i + 1)) s₁)) (lastOf-snoc none (map value (take i array)) (value b))
+              ∙ ap (λ p. prepend (map value (take i array) ++ value b ∷ []) (many read p (n - (i + 1)) s₁))
+              (lastOf-snoc none (map value (take i array)) (value b))
               ∙ sym (prepend-next (map value (take i array)) (value b) (many read (some (value b)) (n - (i + 1)) s₁))
               ∙ ap (prepend (map value (take i array))) (sym (goes _ e))
               ∙ ap rest (sym one)
@@ -142,7 +143,8 @@ module _ {A B : Type 0} (value : B → A) (keep : A → B) (blank : B) (size : �
       unfolding padded
       filled =
           let all : i ≡ n = omega (arith, f .far) in
-          let exact : map keep (map value (take n array)) ≡ take n array = subst (λ m. map keep (map value (take m array)) ≡ take m array) all (f .exact) in
+          let exact : map keep (map value (take n array)) ≡ take n array =
+          subst (λ m. map keep (map value (take m array)) ≡ take m array) all (f .exact) in
           let blanks : drop n array ≡ replicate (size - n) blank = subst (λ m. drop m array ≡ replicate (size - m) blank) all (f .blanks) in
           let counted : length (map keep (map value (take n array))) ≡ n = length-map (map value (take n array)) keep ∙ sym filled-count in
           sym (take-append-drop n array) ∙ ap₂ _++_ (sym exact) (blanks ∙ ap (λ m. replicate (size - m) blank) (sym counted))

@@ -1,12 +1,11 @@
 -- Items read in sequence, one at a time.
-use Prim.Native.Nat.{ℕ, zero, suc, _+_, _-_, _≤_, _<_}
-use native.Mathlib.Omega.{arith}
+use Prim.Native.Nat.{ℕ, zero, suc}
 use mathlib.Core.Bool.{Bool, true, _&&_}
 use mathlib.Core.List.{List, [], _∷_}
 use lib.ListN.{length}
-use mathlib.Core.Option.{Option, none, some}
+use mathlib.Core.Option.{Option, some}
 use mathlib.Core.Path.{_≡_, refl, ap, ap₂, _∙_, sym}
-use Rattle.model.specs.Answer.{Answer, refused, accepted, _>>=_}
+use Rattle.model.specs.Answer.{Answer, refused, accepted}
 use Rattle.model.specs.Card.{Reader, many}
 use Rattle.laws.specs.Lists.{all}
 use Rattle.reader_atoms.proofs.Answers.{goes, halts, value-of, differ}

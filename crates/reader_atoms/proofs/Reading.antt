@@ -1,9 +1,9 @@
 -- Laws of what a read of the code answers: from its enum's case to the definition's answer, and back.
-use Prim.Native.Nat.{ℕ, suc, _≤_, _<_, _+_}
+use Prim.Native.Nat.{ℕ, _≤_, _<_, _+_}
 use native.Mathlib.Omega.{arith}
 use native.Mathlib.Numerals.{add-one}
-use mathlib.Core.List.{List, [], _∷_}
-use mathlib.Core.Path.{_≡_, refl, ap, _∙_, sym, subst}
+use mathlib.Core.List.{List}
+use mathlib.Core.Path.{_≡_, ap, _∙_, sym, subst}
 use lib.ListN.{length, drop, getD, drop-of-length-le}
 use lib.Seq.{drop-cons}
 use Rattle.model.specs.Answer.{Answer, refused, accepted}
@@ -30,7 +30,8 @@ module _ {A B : Type 0} {value : B → A} {keep : A → B} {blank : B} {card : L
   refuses e = record { says = e; within = omega arith; keeps = ap (beside keep blank) (sym e) }
 
   -- a refusal, with a value beside it that is the blank
-  pub refuses-beside : {r : Refusal} {kept : B} → answer ≡ refused (refusalNumber r) → kept ≡ blank → Reads value keep blank card answer (Refused r) kept
+  pub refuses-beside : {r : Refusal} {kept : B} → answer ≡ refused (refusalNumber r) → kept ≡ blank
+      → Reads value keep blank card answer (Refused r) kept
   refuses-beside {r} e k = subst (λ b. Reads value keep blank card answer (Refused r) b) (sym k) (refuses e)
 
   -- an answer to the same reading
@@ -39,7 +40,8 @@ module _ {A B : Type 0} {value : B → A} {keep : A → B} {blank : B} {card : L
   reads-as {step = step} {kept} e r = subst (λ a. Reads value keep blank card a step kept) (sym e) r
 
   -- what is told by a refused read whose refusal is taken out
-  pub refusal-by : {step : Step} {kept : B} {k k′ : Refusal} → Reads value keep blank card answer step kept → step ≡ Refused k → k′ ≡ refusalOfStep step
+  pub refusal-by : {step : Step} {kept : B} {k k′ : Refusal} → Reads value keep blank card answer step kept → step ≡ Refused k
+      → k′ ≡ refusalOfStep step
       → answer ≡ refused (refusalNumber k′)
   unfolding told
   refusal-by {kept = kept} r e t =

@@ -1,11 +1,11 @@
 -- What the code's atoms and the reads of them stand for.
 use Prim.Native.Nat.{ℕ, _≤_}
-use mathlib.Core.Bool.{Bool, true, false, not}
+use mathlib.Core.Bool.{Bool, true, not}
 use mathlib.Core.List.{List, [], _∷_}
 use mathlib.Core.Option.{Option, none, some}
 use mathlib.Core.Path.{_≡_}
 use lib.Dec.{ltb}
-use lib.ListN.{take, getD}
+use lib.ListN.{take, drop}
 use Rattle.laws.specs.Lists.{any, all, same, before}
 use Rattle.model.specs.Answer.{Answer}
 use Rattle.model.specs.Card as model
@@ -112,3 +112,20 @@ pub record AtomsKept (arities : List ℕ) (l : AtomList) : Type 0 where
 
 abbrev pub PreviousKept : List ℕ → Previous → Type 0
 PreviousKept arities previous = previous ≡ previousFor (previousOf arities previous)
+
+-- What the functions promise: the code's whole answer at a place on the card.
+abbrev pub ArgumentsReadAt : ℕ → ℕ → ℕ → Refusal → List ℕ → ℕ → AtomRead → Type 0
+ArgumentsReadAt predicate arity bound refusal card at r =
+    ArgumentsRead predicate arity card (argumentBytes arity bound (refusalNumber refusal) (drop at card)) r
+
+abbrev pub AtomReadAt : List ℕ → ℕ → Refusal → List ℕ → ℕ → AtomRead → Type 0
+AtomReadAt arities bound refusal card at r = AtomReads arities card (model.atom arities bound (refusalNumber refusal) (drop at card)) r
+
+abbrev pub SectionAtomReadAt : List ℕ → ℕ → Section → AtomList → Previous → List ℕ → ℕ → AtomRead → Type 0
+SectionAtomReadAt arities parameters section preconditions previous card at r =
+    let read = sectionAtom arities parameters section (atomsOf arities preconditions) (previousOf arities previous) in
+    AtomReads arities card (read (drop at card)) r
+
+abbrev pub FactReadAt : List ℕ → ℕ → Previous → List ℕ → ℕ → AtomRead → Type 0
+FactReadAt arities objects previous card at r =
+    AtomReads arities card (model.fact arities objects (previousOf arities previous) (drop at card)) r

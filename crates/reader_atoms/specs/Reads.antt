@@ -7,7 +7,6 @@ use Rattle.model.specs.Answer.{Answer, refused, accepted}
 use Rattle.card.specs.declared.Refusal.{Refusal}
 use Rattle.card.specs.declared.Refusal.the-variants.{CardEnds}
 use Rattle.card.specs.Represents.{refusalNumber}
-use Rattle.reader_atoms.specs.declared.Cursor.{Cursor}
 use Rattle.reader_atoms.specs.declared.Step.{Step}
 use Rattle.reader_atoms.specs.declared.Step.the-variants.{At, Refused}
 use Rattle.reader_atoms.specs.declared.ByteRead.{ByteRead}

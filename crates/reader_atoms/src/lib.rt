@@ -2,17 +2,17 @@
 use card::Atom;
 use card::AtomList;
 use card::Refusal;
-ghost use Prim.Native.Nat.{ℕ, _≤_};
+ghost use Prim.Native.Nat.{_≤_};
 ghost use mathlib.Core.Bool.{true};
 ghost use mathlib.Core.Path.{_≡_};
 ghost use lib.Dec.{ltb};
 ghost use lib.ListN.{length, drop};
-ghost use Rattle.card.specs.Represents.{refusalNumber, atomsOf};
+ghost use Rattle.card.specs.Represents.{refusalNumber};
 ghost use Rattle.laws.specs.Lists.{same, before};
-ghost use Rattle.model.specs.Card.{byte, byteThat, between, atom, fact};
+ghost use Rattle.model.specs.Card.{byte, byteThat, between};
 ghost use Rattle.reader_atoms.specs.Reads.{ByteReads, refusalOfByte, refusalOfStep};
-ghost use Rattle.reader_atoms.specs.Atoms.{AtomReads, ArgumentsRead, refusalOfAtom, argumentBytes, inRange, bytesOf, hasBytes};
-ghost use Rattle.reader_atoms.specs.Atoms.{aboveBytes, belongsBytes, sectionRefusal, sectionAtom, previousOf, AtomsKept, PreviousKept};
+ghost use Rattle.reader_atoms.specs.Atoms.{ArgumentsReadAt, AtomReadAt, SectionAtomReadAt, FactReadAt, AtomsKept, PreviousKept};
+ghost use Rattle.reader_atoms.specs.Atoms.{inRange, bytesOf, hasBytes, aboveBytes, belongsBytes, refusalOfAtom, sectionRefusal};
 
 // A place on the card.
 pub struct Cursor {
@@ -125,7 +125,7 @@ fn arguments(
     refusal: Refusal,
 ) -> AtomRead
     requires { ⌜ (1 ≤ arity) × (arity ≤ 3) ⌝ }
-    ensures { λ r. ⌜ ArgumentsRead predicate arity (now (card .entry)) (argumentBytes arity bound (refusalNumber refusal) (drop (c .at) (now (card .entry)))) r ⌝ }
+    ensures { λ r. ⌜ ArgumentsReadAt predicate arity bound refusal (now (card .entry)) (c .at) r ⌝ }
 {
     let read = byte_below(card, c, bound, refusal);
     let ByteRead::Byte(first, c) = read else {
@@ -175,7 +175,7 @@ fn arguments(
 // An atom: a predicate byte, and its arguments.
 pub fn atom(card: &[u8], c: Cursor, arities: &[u8], bound: usize, refusal: Refusal) -> AtomRead
     requires { ⌜ inRange (now arities) ≡ true ⌝ }
-    ensures { λ r. ⌜ AtomReads (now (arities .entry)) (now (card .entry)) (atom (now (arities .entry)) bound (refusalNumber refusal) (drop (c .at) (now (card .entry)))) r ⌝ }
+    ensures { λ r. ⌜ AtomReadAt (now (arities .entry)) bound refusal (now (card .entry)) (c .at) r ⌝ }
 {
     let read = byte_below(card, c, arities.len(), refusal);
     let ByteRead::Byte(predicate, c) = read else {
@@ -290,7 +290,7 @@ pub fn schema_atom(
     previous: Previous,
 ) -> AtomRead
     requires { ⌜ (inRange (now arities) ≡ true) × AtomsKept (now arities) preconditions × PreviousKept (now arities) previous ⌝ }
-    ensures { λ r. ⌜ AtomReads (now (arities .entry)) (now (card .entry)) (sectionAtom (now (arities .entry)) parameters section (atomsOf (now (arities .entry)) preconditions) (previousOf (now (arities .entry)) previous) (drop (c .at) (now (card .entry)))) r ⌝ }
+    ensures { λ r. ⌜ SectionAtomReadAt (now (arities .entry)) parameters section preconditions previous (now (card .entry)) (c .at) r ⌝ }
 {
     let read = atom(card, c, arities, parameters, Refusal::AtomUnknown);
     let AtomRead::Found(a, _) = read else {
@@ -308,7 +308,7 @@ pub fn schema_atom(
 // A fact.
 pub fn fact(card: &[u8], c: Cursor, arities: &[u8], objects: usize, previous: Previous) -> AtomRead
     requires { ⌜ (inRange (now arities) ≡ true) × PreviousKept (now arities) previous ⌝ }
-    ensures { λ r. ⌜ AtomReads (now (arities .entry)) (now (card .entry)) (fact (now (arities .entry)) objects (previousOf (now (arities .entry)) previous) (drop (c .at) (now (card .entry)))) r ⌝ }
+    ensures { λ r. ⌜ FactReadAt (now (arities .entry)) objects previous (now (card .entry)) (c .at) r ⌝ }
 {
     let read = atom(card, c, arities, objects, Refusal::FactUnknown);
     let AtomRead::Found(a, _) = read else {

@@ -4,14 +4,14 @@ use native.Mathlib.Omega.{arith}
 use mathlib.Core.Bool.{Bool, true, false}
 use mathlib.Core.List.{List, []}
 use mathlib.Core.Option.{Option, none}
-use mathlib.Core.Path.{_≡_, refl, ap, _∙_, sym, subst, subst⁻¹}
+use mathlib.Core.Path.{_≡_, refl, ap, _∙_, subst, subst⁻¹}
 use lib.ListN.{length, take, drop, length-drop}
 use lib.Seq.{take-all, drop-drop}
 use Rattle.model.specs.Answer.{Answer, refused, accepted}
 use Rattle.model.specs.Card as model
 use Rattle.card.specs.declared.AtomList.{AtomList}
 use Rattle.card.specs.declared.Refusal.{Refusal}
-use Rattle.card.specs.Represents.{refusalNumber, atomsOf, atomsFor}
+use Rattle.card.specs.Represents.{atomsOf, atomsFor}
 use Rattle.reader_atoms.specs.declared.Cursor.{Cursor}
 use Rattle.reader_atoms.specs.declared.Step.{Step}
 use Rattle.reader_atoms.specs.declared.Step.the-variants.{At, Refused}
@@ -52,7 +52,8 @@ module _
     {step : Step}
     {kept : B}
     (starts : at ≤ length card)
-    (w : Reads value keep blank (take (length card - at) (drop at card)) (model.many read none n (take (length card - at) (drop at card))) step kept) where
+    (w : Reads value keep blank (take (length card - at) (drop at card))
+    (model.many read none n (take (length card - at) (drop at card))) step kept) where
   in-rest : Reads value keep blank (drop at card) (model.many read none n (drop at card)) step kept
   in-rest = subst (λ part. Reads value keep blank part (model.many read none n part) step kept) (part-left card at) w
 

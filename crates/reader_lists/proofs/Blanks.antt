@@ -2,16 +2,15 @@
 use Prim.Native.Nat.{ℕ, _≤_}
 use mathlib.Core.List.{List, [], map, map-id}
 use mathlib.Core.Option.{Option, none}
-use mathlib.Core.Path.{_≡_, refl, ap, ap₂, _∙_, sym, subst}
+use mathlib.Core.Path.{_≡_, ap, ap₂, _∙_}
 use lib.ListN.{length, take, drop, replicate}
-use Rattle.model.specs.Answer.{Answer, refused, accepted}
+use Rattle.model.specs.Answer.{accepted}
 use Rattle.model.specs.Card as model
 use Rattle.card.specs.declared.Atom.{Atom}
 use Rattle.card.specs.declared.AtomList.{AtomList}
 use Rattle.card.specs.declared.ArityList.{ArityList}
 use Rattle.card.specs.declared.FactList.{FactList}
 use Rattle.card.specs.Represents.{padded, atomOf, atomFor, blankAtom, atomsOf, atomsFor, aritiesOf, aritiesFor, factsOf, factsFor}
-use Rattle.reader_atoms.specs.declared.Cursor.{Cursor}
 use Rattle.reader_atoms.specs.declared.Step.the-variants.{At}
 use Rattle.reader_atoms.specs.Reads.{Reads}
 use Rattle.reader_atoms.proofs.Reading.{accepts}
@@ -33,7 +32,8 @@ module _ {card start : List ℕ} {n i at : ℕ} (within : at ≤ length card) (d
   module _ (arities : List ℕ) {array : List Atom} (read : Option model.Atom → model.Reader model.Atom) where
     -- all atoms of a list are read
     pub atoms-filled : Filling (atomOf arities) atomFor blankAtom 8 read n start array i (drop at card)
-        → Reads (atomsOf arities) atomsFor (atomsFor []) card (model.many read none n start) (At (record { at = at })) (record { count = n; atoms = array })
+        → Reads (atomsOf arities) atomsFor (atomsFor []) card (model.many read none n start) (At (record { at = at }))
+        (record { count = n; atoms = array })
     unfolding atomsOf atomsFor
     atoms-filled f =
         accepts (filling-ends _ _ _ _ _ _ _ f done) within
@@ -41,7 +41,8 @@ module _ {card start : List ℕ} {n i at : ℕ} (within : at ≤ length card) (d
 
     -- all facts are read
     pub facts-filled : Filling (atomOf arities) atomFor blankAtom 512 read n start array i (drop at card)
-        → Reads (factsOf arities) factsFor (factsFor []) card (model.many read none n start) (At (record { at = at })) (record { count = n; facts = array })
+        → Reads (factsOf arities) factsFor (factsFor []) card (model.many read none n start) (At (record { at = at }))
+        (record { count = n; facts = array })
     unfolding factsOf factsFor
     facts-filled f =
         accepts (filling-ends _ _ _ _ _ _ _ f done) within
@@ -49,7 +50,8 @@ module _ {card start : List ℕ} {n i at : ℕ} (within : at ≤ length card) (d
 
   -- all arities are read
   pub arities-filled : {array : List ℕ} (read : Option ℕ → model.Reader ℕ) → Filling (λ b. b) (λ b. b) 0 20 read n start array i (drop at card)
-      → Reads aritiesOf aritiesFor (aritiesFor []) card (model.many read none n start) (At (record { at = at })) (record { count = n; arities = array })
+      → Reads aritiesOf aritiesFor (aritiesFor []) card (model.many read none n start) (At (record { at = at }))
+      (record { count = n; arities = array })
   unfolding aritiesOf aritiesFor
   arities-filled {array} read f =
       let plain : map (λ b. b) (take n array) ≡ take n array = map-id (take n array) in

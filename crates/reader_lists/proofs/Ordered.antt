@@ -1,11 +1,10 @@
 -- The loops that read a list in ascending order: atoms of a schema, facts.
 use Prim.Native.Nat.{ℕ, _+_, _≤_, _<_}
-use native.Mathlib.Omega.{arith}
-use mathlib.Core.List.{List, [], map}
-use mathlib.Core.Option.{Option, none, some}
-use mathlib.Core.Path.{_≡_, refl, ap, _∙_, sym, subst}
+use mathlib.Core.List.{List, map}
+use mathlib.Core.Option.{Option, none}
+use mathlib.Core.Path.{_≡_, refl, ap, sym, subst}
 use lib.ListN.{length, take, drop, set, replicate}
-use Rattle.model.specs.Answer.{Answer, refused, accepted}
+use Rattle.model.specs.Answer.{refused, accepted}
 use Rattle.model.specs.Card as model
 use Rattle.card.specs.declared.Atom.{Atom}
 use Rattle.card.specs.declared.Refusal.{Refusal}

@@ -1,7 +1,7 @@
 -- The loops that read items with no order between them: arities, schemas.
 use Prim.Native.Nat.{ℕ, _+_, _≤_, _<_}
 use mathlib.Core.List.{List}
-use mathlib.Core.Option.{Option, none}
+use mathlib.Core.Option.{none}
 use mathlib.Core.Path.{_≡_, sym, subst}
 use lib.ListN.{length, drop, set, replicate}
 use Rattle.model.specs.Answer.{refused, accepted}

@@ -11,16 +11,15 @@ use reader_atoms::Cursor;
 use reader_atoms::Previous;
 use reader_atoms::Section;
 use reader_atoms::Step;
-ghost use Prim.Native.Nat.{ℕ, _≤_, _*_, _+_};
-ghost use mathlib.Core.Bool.{Bool, true};
+ghost use Prim.Native.Nat.{_≤_};
+ghost use mathlib.Core.Bool.{true};
 ghost use mathlib.Core.List.{[]};
-ghost use mathlib.Core.Option.{none};
 ghost use mathlib.Core.Path.{_≡_};
 ghost use lib.ListN.{length, drop};
-ghost use Rattle.card.specs.Represents.{atomsOf, atomsFor, aritiesFor, factsFor};
-ghost use Rattle.model.specs.Card.{many, byteThat, between, fact, factCount, list};
-ghost use Rattle.reader_atoms.specs.Atoms.{inRange, sectionAtom, AtomsKept};
-ghost use Rattle.reader_lists.specs.ListReads.{AtomsReads, AritiesReads, FactsReads, CountReads, refusalOfCount};
+ghost use Rattle.card.specs.Represents.{atomsFor, aritiesFor, factsFor};
+ghost use Rattle.model.specs.Card.{factCount};
+ghost use Rattle.reader_atoms.specs.Atoms.{inRange, AtomsKept};
+ghost use Rattle.reader_lists.specs.ListReads.{AtomsReadIn, ListReadAt, AritiesReadAt, FactsReadAt, CountReads, refusalOfCount};
 
 pub struct AtomsRead {
     pub step: Step,
@@ -84,7 +83,7 @@ pub fn atoms(
     preconditions: AtomList,
 ) -> AtomsRead
     requires { ⌜ (count ≤ 8) × (inRange (now arities) ≡ true) × AtomsKept (now arities) preconditions ⌝ }
-    ensures { λ r. ⌜ AtomsReads (now (arities .entry)) (now (part .entry)) (many (sectionAtom (now (arities .entry)) parameters section (atomsOf (now (arities .entry)) preconditions)) none count (now (part .entry))) r ⌝ }
+    ensures { λ r. ⌜ AtomsReadIn (now (arities .entry)) parameters section preconditions count (now (part .entry)) r ⌝ }
 {
     let mut list = no_atoms();
     let mut previous = Previous::Nothing;
@@ -129,7 +128,7 @@ pub fn list(
     preconditions: AtomList,
 ) -> AtomsRead
     requires { ⌜ (c .at ≤ length (now card)) × (inRange (now arities) ≡ true) × AtomsKept (now arities) preconditions ⌝ }
-    ensures { λ r. ⌜ AtomsReads (now (arities .entry)) (now (card .entry)) (list present (sectionAtom (now (arities .entry)) parameters section (atomsOf (now (arities .entry)) preconditions)) (drop (c .at) (now (card .entry)))) r ⌝ }
+    ensures { λ r. ⌜ ListReadAt (now (arities .entry)) parameters section preconditions present (now (card .entry)) (c .at) r ⌝ }
 {
     if !present {
         return AtomsRead {
@@ -167,7 +166,7 @@ pub fn list(
 // So many arities, each 1 to 3.
 pub fn arities(card: &[u8], c: Cursor, count: usize) -> AritiesRead
     requires { ⌜ (count ≤ 20) × (c .at ≤ length (now card)) ⌝ }
-    ensures { λ r. ⌜ AritiesReads (now (card .entry)) (many (λ previous. byteThat (between 1 3) 2) none count (drop (c .at) (now (card .entry)))) r ⌝ }
+    ensures { λ r. ⌜ AritiesReadAt count (now (card .entry)) (c .at) r ⌝ }
 {
     let mut list = no_arities();
     let mut at = c.at;
@@ -237,7 +236,7 @@ pub fn fact_count(card: &[u8], c: Cursor) -> CountRead
 // So many facts.
 pub fn facts(card: &[u8], c: Cursor, count: usize, arities: &[u8], objects: usize) -> FactsRead
     requires { ⌜ (count ≤ 512) × (c .at ≤ length (now card)) × (inRange (now arities) ≡ true) ⌝ }
-    ensures { λ r. ⌜ FactsReads (now (arities .entry)) (now (card .entry)) (many (fact (now (arities .entry)) objects) none count (drop (c .at) (now (card .entry)))) r ⌝ }
+    ensures { λ r. ⌜ FactsReadAt (now (arities .entry)) objects count (now (card .entry)) (c .at) r ⌝ }
 {
     let mut list = no_facts();
     let mut previous = Previous::Nothing;

@@ -16,7 +16,12 @@ no-atoms-requires-3 c κs = search needs
 returns : tie.Need-returns
 unfolding blankSchema
 returns c =
-    λ i. record { parameters = 0; preconditions = c .before .before .no-atoms .ensures i; deletes = c .before .no-atoms2 .ensures i; adds = c .no-atoms3 .ensures i }
+    λ i. record {
+      parameters = 0;
+      preconditions = c .before .before .no-atoms .ensures i;
+      deletes = c .before .no-atoms2 .ensures i;
+      adds = c .no-atoms3 .ensures i;
+    }
 
 pub blank-schema-spec : {M : Type 1} → statement M
 blank-schema-spec =

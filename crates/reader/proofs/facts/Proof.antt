@@ -25,18 +25,24 @@ no-facts-requires c κs = search needs
 returns : tie.Need-returns
 unfolding facts
 returns c =
-    refuses-beside (halts _ (count-refusal (c .before .before .before .before .fact-count .ensures) (c .before .before .enum-told .given .1) (c .before .refusal .ensures))) (c .no-facts .ensures)
+    let at-enum-told = c .before .before in
+    let at-fact-count = at-enum-told .before .before in
+    let none = count-refusal (at-fact-count .fact-count .ensures) (at-enum-told .enum-told .given .1) (c .before .refusal .ensures) in
+    refuses-beside (halts _ none) (c .no-facts .ensures)
 
 facts-requires : tie.Need-facts-requires
 facts-requires c κs =
+    let start = c .before .before .before .before .before .before in
     let w = c .before .before .before .fact-count .ensures in
     let e = c .before .counted .given .1 in
-    (count-held _ (count-found w e), count-within w e, c .before .before .before .before .before .before .pre)
+    (count-held _ (count-found w e), count-within w e, start .pre)
 
 returns-2 : tie.Need-returns-2
 unfolding facts
 returns-2 c =
-    reads-as (goes _ (count-found (c .before .before .before .before .fact-count .ensures) (c .before .before .counted .given .1))) (c .facts .ensures)
+    let at-counted = c .before .before in
+    let at-fact-count = at-counted .before .before in
+    reads-as (goes _ (count-found (at-fact-count .fact-count .ensures) (at-counted .counted .given .1))) (c .facts .ensures)
 
 pub facts-spec : {M : Type 1} → statement M
 facts-spec =

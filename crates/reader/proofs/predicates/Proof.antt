@@ -25,7 +25,10 @@ no-arities-requires c κs = search needs
 returns : tie.Need-returns
 unfolding predicates refusalNumber
 returns c =
-    refuses-beside (halts _ (byte-refusal (c .before .before .before .before .byte-between .ensures) (c .before .before .enum-told .given .1) (c .before .refusal .ensures))) (c .no-arities .ensures)
+    let at-enum-told = c .before .before in
+    let at-byte-between = at-enum-told .before .before in
+    let none = byte-refusal (at-byte-between .byte-between .ensures) (at-enum-told .enum-told .given .1) (c .before .refusal .ensures) in
+    refuses-beside (halts _ none) (c .no-arities .ensures)
 
 cast-arities : tie.Need-cast-arities
 cast-arities c = search needs
@@ -39,7 +42,9 @@ arities-requires c κs =
 returns-2 : tie.Need-returns-2
 unfolding predicates refusalNumber
 returns-2 c =
-    reads-as (goes _ (byte-read (c .before .before .before .before .byte-between .ensures) (c .before .before .counted .given .1))) (c .arities .ensures)
+    let at-counted = c .before .before in
+    let at-byte-between = at-counted .before .before in
+    reads-as (goes _ (byte-read (at-byte-between .byte-between .ensures) (at-counted .counted .given .1))) (c .arities .ensures)
 
 pub predicates-spec : {M : Type 1} → statement M
 predicates-spec =

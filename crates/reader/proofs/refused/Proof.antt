@@ -17,10 +17,17 @@ no-facts-requires c κs = search needs
 returns : tie.Need-returns
 unfolding blankTask
 returns c =
+    let at-no-arities = c .before .before in
+    let start = at-no-arities .before in
     λ i. record {
-      verdict = Refused (c .before .before .before .args .refusal);
+      verdict = Refused (start .args .refusal);
       task =
-          record { predicates = c .before .before .no-arities .ensures i; objects = 0; schemas = c .before .no-schemas .ensures i; facts = c .no-facts .ensures i };
+          record {
+            predicates = at-no-arities .no-arities .ensures i;
+            objects = 0;
+            schemas = c .before .no-schemas .ensures i;
+            facts = c .no-facts .ensures i;
+          };
     }
 
 pub refused-spec : {M : Type 1} → statement M

@@ -26,8 +26,10 @@ enum-told c = search needs
 
 returns-2 : tie.Need-returns-2
 returns-2 c =
+    let at-byte = c .before .before in
+    let at-if1 = at-byte .before in
     let told = c .enum-told .given .1 in
-    hands-on told (role-present _ _ (not-false _ (c .before .before .before .if1 .left)) ∙ byteThat-ends _ _ _ (byte-refused (c .before .before .byte .ensures) told))
+    hands-on told (role-present _ _ (not-false _ (at-if1 .if1 .left)) ∙ byteThat-ends _ _ _ (byte-refused (at-byte .byte .ensures) told))
 
 returns-3 : tie.Need-returns-3
 unfolding refusalNumber
@@ -48,9 +50,12 @@ returns-4 c =
 returns-5 : tie.Need-returns-5
 unfolding refusalNumber
 returns-5 c =
-    let read = byte-read (c .before .before .before .before .before .byte .ensures) (c .before .before .before .read .given .1) in
-    let many : 6 < c .before .before .before .read .given .0 .0 = omega (arith, c .if3 .left) in
-    refuses (role-present _ _ (not-false _ (c .before .before .before .before .before .before .if1 .left)) ∙ byteThat-fails _ _ _ read (above-high _ _ _ many))
+    let at-read = c .before .before .before in
+    let at-byte = at-read .before .before in
+    let at-if1 = at-byte .before in
+    let read = byte-read (at-byte .byte .ensures) (at-read .read .given .1) in
+    let many : 6 < at-read .read .given .0 .0 = omega (arith, c .if3 .left) in
+    refuses (role-present _ _ (not-false _ (at-if1 .if1 .left)) ∙ byteThat-fails _ _ _ read (above-high _ _ _ many))
 
 pub role-count-spec : {M : Type 1} → statement M
 role-count-spec =

@@ -23,7 +23,9 @@ no-schema-requires c κs = search needs
 
 returns : tie.Need-returns
 returns c =
-    let e = byte-refusal (c .before .before .before .before .map-byte .ensures) (c .before .before .enum-told .given .1) (c .before .refusal .ensures) in
+    let at-enum-told = c .before .before in
+    let at-map-byte = at-enum-told .before .before in
+    let e = byte-refusal (at-map-byte .map-byte .ensures) (at-enum-told .enum-told .given .1) (c .before .refusal .ensures) in
     schema-refused _ (c .no-schema .ensures) (map-refused _ _ e)
 
 role-count-requires : tie.Need-role-count-requires
@@ -43,8 +45,11 @@ no-schema-requires-2 c κs = search needs
 
 returns-2 : tie.Need-returns-2
 returns-2 c =
-    let m = byte-read (c .before .before .before .before .before .before .before .before .map-byte .ensures) (c .before .before .before .before .before .before .read .given .1) in
-    let e = byte-refusal (c .before .before .before .before .role-count .ensures) (c .before .before .enum-told2 .given .1) (c .before .refusal2 .ensures) in
+    let at-role-count = c .before .before .before .before in
+    let at-read = at-role-count .before .before in
+    let at-map-byte = at-read .before .before in
+    let m = byte-read (at-map-byte .map-byte .ensures) (at-read .read .given .1) in
+    let e = byte-refusal (at-role-count .role-count .ensures) (c .before .before .enum-told2 .given .1) (c .before .refusal2 .ensures) in
     schema-refused _ (c .no-schema2 .ensures) (roles-refused _ _ _ m (bit-zero _) e)
 
 cast-lists : tie.Need-cast-lists
@@ -52,12 +57,16 @@ cast-lists c = search needs
 
 lists-requires : tie.Need-lists-requires
 lists-requires c κs =
-    (byte-within (c .before .before .before .role-count .ensures) (c .before .read2 .given .1), c .before .before .before .before .before .before .before .before .before .before .pre)
+    let start = c .before .before .before .before .before .before .before .before .before .before in
+    (byte-within (c .before .before .before .role-count .ensures) (c .before .read2 .given .1), start .pre)
 
 returns-3 : tie.Need-returns-3
 returns-3 c =
-    let m = byte-read (c .before .before .before .before .before .before .before .before .map-byte .ensures) (c .before .before .before .before .before .before .read .given .1) in
-    let r = byte-read (c .before .before .before .before .role-count .ensures) (c .before .before .read2 .given .1) in
+    let at-role-count = c .before .before .before .before in
+    let at-read = at-role-count .before .before in
+    let at-map-byte = at-read .before .before in
+    let m = byte-read (at-map-byte .map-byte .ensures) (at-read .read .given .1) in
+    let r = byte-read (at-role-count .role-count .ensures) (c .before .before .read2 .given .1) in
     reads-as (head-read _ _ _ m (bit-zero _) _ r) (c .lists .ensures)
 
 pub schema-spec : {M : Type 1} → statement M

@@ -1,6 +1,6 @@
 -- `schemas` reads as the definition does.
-use Prim.Native.Nat.{_≤_, _-_}
-use mathlib.Core.Path.{_≡_, refl, _∙_}
+use Prim.Native.Nat.{_-_}
+use mathlib.Core.Path.{refl, _∙_}
 use native.Mathlib.Omega.{arith}
 use lib.ListN.{drop}
 use Rattle.model.specs.Card.{schema}
@@ -48,12 +48,16 @@ cast-count c = search needs
 
 loop-holds : tie.Need-loop-holds Inv-loop μ-loop
 loop-holds c =
-    let w = c .before .before .before .byte-between .ensures in
+    let at-byte-between = c .before .before .before in
+    let at-no-schemas = at-byte-between .before in
+    let w = at-byte-between .byte-between .ensures in
     let e = c .before .counted .given .1 in
-    plain-starts _ _ _ _ _ _ _ _ (between-held _ _ _ _ (byte-read w e) .1) (byte-within w e) refl (blank-schemas (c .before .before .before .before .no-schemas .ensures))
+    plain-starts _ _ _ _ _ _ _ _ (between-held _ _ _ _ (byte-read w e) .1) (byte-within w e) refl (blank-schemas (at-no-schemas .no-schemas .ensures))
 
 schema-requires : tie.Need-schema-requires Inv-loop μ-loop
-schema-requires c κs = c .before .before .before .before .before .before .before .before .before .pre
+schema-requires c κs =
+    let start = c .before .before .before .before .before .before .before .before .before in
+    start .pre
 
 enum-known-step : tie.Need-enum-known-step Inv-loop μ-loop
 enum-known-step c = search needs
@@ -70,36 +74,53 @@ no-schemas-requires-2 c κs = search needs
 returns-2 : tie.Need-returns-2 Inv-loop μ-loop
 unfolding schemas refusalNumber
 returns-2 c =
-    let no-schema = refusal-by (c .before .before .before .before .schema .ensures) (c .before .before .enum-told2 .given .1) (c .before .refusal2 .ensures) in
-    let counted = goes _ (schemas-counted _ ∙ byte-read (c .before .before .before .before .before .before .before .before .before .before .byte-between .ensures) (c .before .before .before .before .before .before .before .before .counted .given .1)) in
-    refuses-beside (counted ∙ plain-stops _ _ _ _ _ _ _ _ (c .before .before .before .before .before .before .loop .inv) (c .before .before .before .before .before .loop-test .taken) no-schema) (c .no-schemas2 .ensures)
+    let at-schema = c .before .before .before .before in
+    let at-loop-test = at-schema .before in
+    let at-loop = at-loop-test .before in
+    let at-counted = at-loop .before .before in
+    let at-byte-between = at-counted .before .before in
+    let no-schema = refusal-by (at-schema .schema .ensures) (c .before .before .enum-told2 .given .1) (c .before .refusal2 .ensures) in
+    let counted = goes _ (schemas-counted _ ∙ byte-read (at-byte-between .byte-between .ensures) (at-counted .counted .given .1)) in
+    refuses-beside (counted ∙ plain-stops _ _ _ _ _ _ _ _ (at-loop .loop .inv) (at-loop-test .loop-test .taken) no-schema) (c .no-schemas2 .ensures)
 
 mul-s : tie.Need-mul-s Inv-loop μ-loop
 mul-s c =
-    omega (arith, c .before .before .before .before .before .loop-test .taken, c .before .before .before .before .before .before .loop .inv .filling .room)
+    let at-loop-test = c .before .before .before .before .before in
+    let at-loop = at-loop-test .before in
+    omega (arith, at-loop-test .loop-test .taken, at-loop .loop .inv .filling .room)
 
 element-set-from-s : tie.Need-element-set-from-s Inv-loop μ-loop
 element-set-from-s c =
-    omega (arith, c .before .before .before .before .before .loop-test .taken, c .before .before .before .before .before .before .loop .inv .filling .room)
+    let at-loop-test = c .before .before .before .before .before in
+    let at-loop = at-loop-test .before in
+    omega (arith, at-loop-test .loop-test .taken, at-loop .loop .inv .filling .room)
 
 add-i : tie.Need-add-i Inv-loop μ-loop
 add-i c =
-    omega (arith, c .before .before .before .before .before .loop-test .taken, c .before .before .before .before .before .before .loop .inv .filling .room)
+    let at-loop-test = c .before .before .before .before .before in
+    let at-loop = at-loop-test .before in
+    omega (arith, at-loop-test .loop-test .taken, at-loop .loop .inv .filling .room)
 
 loop-less : tie.Need-loop-less Inv-loop μ-loop
 loop-less c = omega (arith, c .before .before .before .before .before .loop-test .taken)
 
 loop-again : tie.Need-loop-again Inv-loop μ-loop
 loop-again c =
-    let w = c .before .before .before .before .schema .ensures in
+    let at-schema = c .before .before .before .before in
+    let at-loop-test = at-schema .before in
+    let at-loop = at-loop-test .before in
+    let w = at-schema .schema .ensures in
     let e = c .before .before .step .given .1 in
-    plain-goes-on _ _ _ _ _ _ _ _ (c .before .before .before .before .before .before .loop .inv) (c .before .before .before .before .before .loop-test .taken) (accepted-by w e) (within-card w e) (kept-as w e)
+    plain-goes-on _ _ _ _ _ _ _ _ (at-loop .loop .inv) (at-loop-test .loop-test .taken) (accepted-by w e) (within-card w e) (kept-as w e)
 
 returns-3 : tie.Need-returns-3 Inv-loop μ-loop
 unfolding schemas refusalNumber
 returns-3 c =
+    let at-counted = c .before .before .before in
+    let at-byte-between = at-counted .before .before in
     let i = c .before .loop .inv in
-    reads-as (goes _ (schemas-counted _ ∙ byte-read (c .before .before .before .before .before .byte-between .ensures) (c .before .before .before .counted .given .1))) (schemas-filled _ _ (i .within) (c .loop-test .left) (i .filling))
+    let counted = byte-read (at-byte-between .byte-between .ensures) (at-counted .counted .given .1) in
+    reads-as (goes _ (schemas-counted _ ∙ counted)) (schemas-filled _ _ (i .within) (c .loop-test .left) (i .filling))
 
 pub schemas-spec : {M : Type 1} → statement M
 schemas-spec =

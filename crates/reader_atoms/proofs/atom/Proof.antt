@@ -21,7 +21,8 @@ refusal-requires c κs = search needs
 
 returns : tie.Need-returns
 returns c =
-    refuses (predicate-refused _ _ _ _ (byte-refusal (c .before .before .before .byte-below .ensures) (c .before .enum-told .given .1) (c .refusal .ensures)))
+    let at-byte-below = c .before .before .before in
+    refuses (predicate-refused _ _ _ _ (byte-refusal (at-byte-below .byte-below .ensures) (c .before .enum-told .given .1) (c .refusal .ensures)))
 
 cast-arity : tie.Need-cast-arity
 cast-arity c = search needs
@@ -32,11 +33,15 @@ shared-slice-read-arity c =
 
 arguments-requires : tie.Need-arguments-requires
 arguments-requires c κs =
-    in-range _ _ (c .before .before .before .before .before .before .before .pre) (ltb-true _ _ (byteThat-held _ _ _ (byte-read (c .before .before .before .before .byte-below .ensures) (c .before .before .read .given .1))))
+    let at-read = c .before .before in
+    let at-byte-below = at-read .before .before in
+    let start = at-byte-below .before .before .before in
+    in-range _ _ (start .pre) (ltb-true _ _ (byteThat-held _ _ _ (byte-read (at-byte-below .byte-below .ensures) (at-read .read .given .1))))
 
 returns-2 : tie.Need-returns-2
 returns-2 c =
-    predicate-read _ _ _ _ _ (byte-read (c .before .before .before .before .before .byte-below .ensures) (c .before .before .before .read .given .1)) (c .arguments .ensures)
+    let at-byte-below = c .before .before .before .before .before in
+    predicate-read _ _ _ _ _ (byte-read (at-byte-below .byte-below .ensures) (c .before .before .before .read .given .1)) (c .arguments .ensures)
 
 pub atom-spec : {M : Type 1} → statement M
 atom-spec =

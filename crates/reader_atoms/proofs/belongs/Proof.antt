@@ -26,11 +26,13 @@ returns c = search needs
 
 returns-2 : tie.Need-returns-2
 returns-2 c =
-    c .has .ensures ∙ sym (ap (λ s. belongsBytes s (c .before .before .before .args .preconditions) (c .before .before .before .args .a)) (c .before .enum-told2 .given .1))
+    let start = c .before .before .before in
+    c .has .ensures ∙ sym (ap (λ s. belongsBytes s (start .args .preconditions) (start .args .a)) (c .before .enum-told2 .given .1))
 
 returns-3 : tie.Need-returns-3
 returns-3 c =
-    ap not (c .has2 .ensures) ∙ sym (ap (λ s. belongsBytes s (c .before .before .before .args .preconditions) (c .before .before .before .args .a)) (c .before .enum-told3 .given .1))
+    let start = c .before .before .before in
+    ap not (c .has2 .ensures) ∙ sym (ap (λ s. belongsBytes s (start .args .preconditions) (start .args .a)) (c .before .enum-told3 .given .1))
 
 pub belongs-spec : {M : Type 1} → statement M
 belongs-spec =

@@ -26,13 +26,15 @@ returns-2 c =
 
 returns-3 : tie.Need-returns-3
 returns-3 c =
-    let w = c .before .before .before .before .before .byte .ensures in
+    let at-byte = c .before .before .before .before .before in
+    let w = at-byte .byte .ensures in
     let e = c .before .before .before .read .given .1 in
     accepts (byteThat-passes _ _ _ (byte-read w e) (in-bounds _ _ _ (c .before .if1 .left) (c .if2 .taken))) (byte-within w e) refl
 
 returns-4 : tie.Need-returns-4
 returns-4 c =
-    let w = c .before .before .before .before .before .byte .ensures in
+    let at-byte = c .before .before .before .before .before in
+    let w = at-byte .byte .ensures in
     let e = c .before .before .before .read .given .1 in
     refuses (byteThat-fails _ _ _ (byte-read w e) (above-high _ _ _ (c .if2 .left)))
 

@@ -29,18 +29,22 @@ is-above-requires c κs = search needs
 returns-2 : tie.Need-returns-2
 unfolding refusalNumber
 returns-2 c =
-    let w = c .before .before .before .before .before .atom .ensures in
+    let at-atom = c .before .before .before .before .before in
+    let start = at-atom .before .before .before in
+    let w = at-atom .atom .ensures in
     let e = c .before .before .before .read .given .1 in
     let k = atom-kept w e in
-    let o = above-bytes _ _ k _ (c .before .before .before .before .before .before .before .before .pre .1) ∙ sym (c .before .is-above .ensures) ∙ c .if1 .taken in
+    let o = above-bytes _ _ k _ (start .pre .1) ∙ sym (c .before .is-above .ensures) ∙ c .if1 .taken in
     accepts (fact-passes _ _ _ _ (atom-read w e) o) (atom-within w e) k
 
 returns-3 : tie.Need-returns-3
 unfolding refusalNumber
 returns-3 c =
-    let w = c .before .before .before .before .before .atom .ensures in
+    let at-atom = c .before .before .before .before .before in
+    let start = at-atom .before .before .before in
+    let w = at-atom .atom .ensures in
     let e = c .before .before .before .read .given .1 in
-    let o = above-bytes _ _ (atom-kept w e) _ (c .before .before .before .before .before .before .before .before .pre .1) ∙ sym (c .before .is-above .ensures) ∙ c .if1 .left in
+    let o = above-bytes _ _ (atom-kept w e) _ (start .pre .1) ∙ sym (c .before .is-above .ensures) ∙ c .if1 .left in
     refuses (fact-unordered _ _ _ _ (atom-read w e) o)
 
 pub fact-spec : {M : Type 1} → statement M

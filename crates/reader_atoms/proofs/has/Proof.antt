@@ -28,8 +28,11 @@ is-same-requires c κs = search needs
 
 returns : tie.Need-returns Inv-loop μ-loop
 returns c =
-    let found = has-found _ _ _ _ (c .before .before .before .before .before .pre .1) (c .before .before .before .before .before .pre .0) (c .before .before .before .loop-test .taken) (c .before .is-same .ensures) (c .if1 .taken) in
-    sym (c .before .before .before .before .loop .inv .1 ∙ found)
+    let at-loop-test = c .before .before .before in
+    let at-loop = at-loop-test .before in
+    let start = at-loop .before in
+    let found = has-found _ _ _ _ (start .pre .1) (start .pre .0) (at-loop-test .loop-test .taken) (c .before .is-same .ensures) (c .if1 .taken) in
+    sym (at-loop .loop .inv .1 ∙ found)
 
 add-i : tie.Need-add-i Inv-loop μ-loop
 add-i c = search needs
@@ -39,8 +42,11 @@ loop-less c = search needs
 
 loop-again : tie.Need-loop-again Inv-loop μ-loop
 loop-again c =
-    let next = has-next _ _ _ _ (c .before .before .before .before .before .pre .1) (c .before .before .before .before .before .pre .0) (c .before .before .before .loop-test .taken) (c .before .is-same .ensures) (c .if1 .left) in
-    (omega arith, c .before .before .before .before .loop .inv .1 ∙ next)
+    let at-loop-test = c .before .before .before in
+    let at-loop = at-loop-test .before in
+    let start = at-loop .before in
+    let next = has-next _ _ _ _ (start .pre .1) (start .pre .0) (at-loop-test .loop-test .taken) (c .before .is-same .ensures) (c .if1 .left) in
+    (omega arith, at-loop .loop .inv .1 ∙ next)
 
 returns-2 : tie.Need-returns-2 Inv-loop μ-loop
 returns-2 c = sym (c .before .loop .inv .1 ∙ has-last _ _ _ (c .loop-test .left))

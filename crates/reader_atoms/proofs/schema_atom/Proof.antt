@@ -31,14 +31,17 @@ is-above-requires c κs = search needs
 returns-2 : tie.Need-returns-2
 unfolding refusalNumber
 returns-2 c =
-    let w = c .before .before .before .before .before .atom .ensures in
+    let at-atom = c .before .before .before .before .before in
+    let start = at-atom .before .before .before in
+    let w = at-atom .atom .ensures in
     let e = c .before .before .before .read .given .1 in
-    let o = above-bytes _ _ (atom-kept w e) _ (c .before .before .before .before .before .before .before .before .pre .2) ∙ sym (c .before .is-above .ensures) ∙ not-true _ (c .if1 .taken) in
+    let o = above-bytes _ _ (atom-kept w e) _ (start .pre .2) ∙ sym (c .before .is-above .ensures) ∙ not-true _ (c .if1 .taken) in
     refuses (section-unordered _ _ _ _ _ _ (atom-read w e) o)
 
 belongs-requires : tie.Need-belongs-requires
 belongs-requires c κs =
-    (c .before .before .before .before .before .before .before .before .pre .1 .few, list-long (c .before .before .before .before .before .before .before .before .pre .1))
+    let start = c .before .before .before .before .before .before .before .before in
+    (start .pre .1 .few, list-long (start .pre .1))
 
 refusal-of-requires : tie.Need-refusal-of-requires
 refusal-of-requires c κs = search needs
@@ -46,21 +49,28 @@ refusal-of-requires c κs = search needs
 returns-3 : tie.Need-returns-3
 unfolding refusalNumber
 returns-3 c =
-    let w = c .before .before .before .before .before .before .before .before .atom .ensures in
-    let e = c .before .before .before .before .before .before .read .given .1 in
+    let at-is-above = c .before .before .before .before in
+    let at-read = at-is-above .before .before in
+    let at-atom = at-read .before .before in
+    let start = at-atom .before .before .before in
+    let w = at-atom .atom .ensures in
+    let e = at-read .read .given .1 in
     let k = atom-kept w e in
-    let o = above-bytes _ _ k _ (c .before .before .before .before .before .before .before .before .before .before .before .pre .2) ∙ sym (c .before .before .before .before .is-above .ensures) ∙ not-false _ (c .before .before .before .if1 .left) in
-    let t = belongs-bytes _ _ _ _ k (c .before .before .before .before .before .before .before .before .before .before .before .pre .1) ∙ sym (c .before .before .belongs .ensures) ∙ not-true _ (c .before .if2 .taken) in
+    let o = above-bytes _ _ k _ (start .pre .2) ∙ sym (at-is-above .is-above .ensures) ∙ not-false _ (c .before .before .before .if1 .left) in
+    let t = belongs-bytes _ _ _ _ k (start .pre .1) ∙ sym (c .before .before .belongs .ensures) ∙ not-true _ (c .before .if2 .taken) in
     refuses (section-strange _ _ _ _ _ _ (atom-read w e) o t ∙ ap (λ r. refused (refusalNumber r)) (sym (c .refusal-of .ensures)))
 
 returns-4 : tie.Need-returns-4
 unfolding refusalNumber
 returns-4 c =
-    let w = c .before .before .before .before .before .before .before .atom .ensures in
-    let e = c .before .before .before .before .before .read .given .1 in
+    let at-read = c .before .before .before .before .before in
+    let at-atom = at-read .before .before in
+    let start = at-atom .before .before .before in
+    let w = at-atom .atom .ensures in
+    let e = at-read .read .given .1 in
     let k = atom-kept w e in
-    let o = above-bytes _ _ k _ (c .before .before .before .before .before .before .before .before .before .before .pre .2) ∙ sym (c .before .before .before .is-above .ensures) ∙ not-false _ (c .before .before .if1 .left) in
-    let t = belongs-bytes _ _ _ _ k (c .before .before .before .before .before .before .before .before .before .before .pre .1) ∙ sym (c .before .belongs .ensures) ∙ not-false _ (c .if2 .left) in
+    let o = above-bytes _ _ k _ (start .pre .2) ∙ sym (c .before .before .before .is-above .ensures) ∙ not-false _ (c .before .before .if1 .left) in
+    let t = belongs-bytes _ _ _ _ k (start .pre .1) ∙ sym (c .before .belongs .ensures) ∙ not-false _ (c .if2 .left) in
     accepts (section-passes _ _ _ _ _ _ (atom-read w e) o t) (atom-within w e) k
 
 pub schema-atom-spec : {M : Type 1} → statement M

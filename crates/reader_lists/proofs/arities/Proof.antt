@@ -1,6 +1,6 @@
 -- `arities` reads as the definition does.
-use Prim.Native.Nat.{_≤_, _-_}
-use mathlib.Core.Path.{_≡_, refl, _∙_}
+use Prim.Native.Nat.{_-_}
+use mathlib.Core.Path.{refl}
 use native.Mathlib.Omega.{arith}
 use lib.ListN.{drop}
 use Rattle.model.specs.Card.{byteThat, between}
@@ -44,8 +44,11 @@ no-arities-requires-2 c κs = search needs
 returns : tie.Need-returns Inv-loop μ-loop
 unfolding refusalNumber
 returns c =
-    let no-arity = byte-refusal (c .before .before .before .before .byte-between .ensures) (c .before .before .enum-told .given .1) (c .before .refusal .ensures) in
-    refuses-beside (plain-stops _ _ _ _ _ _ _ _ (c .before .before .before .before .before .before .loop .inv) (c .before .before .before .before .before .loop-test .taken) no-arity) (c .no-arities2 .ensures)
+    let at-byte-between = c .before .before .before .before in
+    let at-loop-test = at-byte-between .before in
+    let at-loop = at-loop-test .before in
+    let no-arity = byte-refusal (at-byte-between .byte-between .ensures) (c .before .before .enum-told .given .1) (c .before .refusal .ensures) in
+    refuses-beside (plain-stops _ _ _ _ _ _ _ _ (at-loop .loop .inv) (at-loop-test .loop-test .taken) no-arity) (c .no-arities2 .ensures)
 
 element-write-list : tie.Need-element-write-list Inv-loop μ-loop
 element-write-list c = omega arith
@@ -59,9 +62,11 @@ loop-less c = omega arith
 loop-again : tie.Need-loop-again Inv-loop μ-loop
 unfolding refusalNumber
 loop-again c =
+    let at-loop-test = c .before .before .before .before in
+    let at-loop = at-loop-test .before in
     let w = c .before .before .before .byte-between .ensures in
     let e = c .before .read .given .1 in
-    plain-goes-on _ _ _ _ _ _ _ _ (c .before .before .before .before .before .loop .inv) (c .before .before .before .before .loop-test .taken) (byte-read w e) (byte-within w e) refl
+    plain-goes-on _ _ _ _ _ _ _ _ (at-loop .loop .inv) (at-loop-test .loop-test .taken) (byte-read w e) (byte-within w e) refl
 
 returns-2 : tie.Need-returns-2 Inv-loop μ-loop
 returns-2 c =

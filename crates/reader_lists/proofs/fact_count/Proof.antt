@@ -37,7 +37,9 @@ refusal-requires-2 c κs = search needs
 
 returns-2 : tie.Need-returns-2
 returns-2 c =
-    let high = byte-read (c .before .before .before .before .before .before .before .byte .ensures) (c .before .before .before .before .before .read .given .1) in
+    let at-read = c .before .before .before .before .before in
+    let at-byte = at-read .before .before in
+    let high = byte-read (at-byte .byte .ensures) (at-read .read .given .1) in
     refuses (low-ends _ _ high (byte-refusal (c .before .before .before .byte2 .ensures) (c .before .enum-told2 .given .1) (c .refusal2 .ensures)))
 
 cast-count : tie.Need-cast-count
@@ -54,17 +56,23 @@ add-count c = search needs
 
 returns-3 : tie.Need-returns-3
 returns-3 c =
-    let w = c .before .before .before .before .byte2 .ensures in
+    let at-byte2 = c .before .before .before .before in
+    let at-read = at-byte2 .before .before in
+    let at-byte = at-read .before .before in
+    let w = at-byte2 .byte2 .ensures in
     let e = c .before .before .read2 .given .1 in
-    let high = byte-read (c .before .before .before .before .before .before .before .before .byte .ensures) (c .before .before .before .before .before .before .read .given .1) in
+    let high = byte-read (at-byte .byte .ensures) (at-read .read .given .1) in
     accepts (count-read _ _ high (byte-read w e) (c .if1 .taken)) (byte-within w e) refl
 
 returns-4 : tie.Need-returns-4
 unfolding refusalNumber
 returns-4 c =
-    let w = c .before .before .before .before .byte2 .ensures in
+    let at-byte2 = c .before .before .before .before in
+    let at-read = at-byte2 .before .before in
+    let at-byte = at-read .before .before in
+    let w = at-byte2 .byte2 .ensures in
     let e = c .before .before .read2 .given .1 in
-    let high = byte-read (c .before .before .before .before .before .before .before .before .byte .ensures) (c .before .before .before .before .before .before .read .given .1) in
+    let high = byte-read (at-byte .byte .ensures) (at-read .read .given .1) in
     refuses (count-over _ _ high (byte-read w e) (c .if1 .left))
 
 pub fact-count-spec : {M : Type 1} → statement M

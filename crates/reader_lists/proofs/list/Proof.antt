@@ -1,12 +1,11 @@
 -- `list` reads as the definition does.
-use mathlib.Core.Path.{refl}
 use Prim.Native.Nat.{_+_, _≤_}
 use lib.ListN.{length}
 use native.Mathlib.Omega.{arith}
 use borrow.Author.Tests.{not-true, not-false}
 use Rattle.card.specs.Represents.{refusalNumber}
 use Rattle.reader_atoms.proofs.Answers.{between-held}
-use Rattle.reader_atoms.proofs.Reading.{accepts, refuses-beside, byte-read, byte-within, byte-refusal}
+use Rattle.reader_atoms.proofs.Reading.{refuses-beside, byte-read, byte-within, byte-refusal}
 use Rattle.reader_lists.proofs.AtomLists.{list-absent, list-uncounted, list-counted, part-read, part-refused, part-within, no-list}
 use borrow.Author.Needs.{needs}
 use Rattle.reader_lists.proofs.list.Statement.{statement}
@@ -37,8 +36,10 @@ no-atoms-requires-2 c κs = search needs
 returns-2 : tie.Need-returns-2
 unfolding refusalNumber
 returns-2 c =
-    let uncounted = byte-refusal (c .before .before .before .before .byte-between .ensures) (c .before .before .enum-told .given .1) (c .before .refusal .ensures) in
-    refuses-beside (list-uncounted _ _ _ (not-false _ (c .before .before .before .before .before .if1 .left)) uncounted) (c .no-atoms2 .ensures)
+    let at-byte-between = c .before .before .before .before in
+    let at-if1 = at-byte-between .before in
+    let uncounted = byte-refusal (at-byte-between .byte-between .ensures) (c .before .before .enum-told .given .1) (c .before .refusal .ensures) in
+    refuses-beside (list-uncounted _ _ _ (not-false _ (at-if1 .if1 .left)) uncounted) (c .no-atoms2 .ensures)
 
 sub-atoms : tie.Need-sub-atoms
 sub-atoms c =
@@ -56,7 +57,10 @@ cast-atoms c = search needs
 
 atoms-requires : tie.Need-atoms-requires
 atoms-requires c κs =
-    (between-held _ _ _ _ (byte-read (c .before .before .before .before .byte-between .ensures) (c .before .before .counted .given .1)) .1, c .before .before .before .before .before .before .before .before .pre .1, c .before .before .before .before .before .before .before .before .pre .2)
+    let at-counted = c .before .before in
+    let at-byte-between = at-counted .before .before in
+    let start = at-byte-between .before .before .before .before in
+    (between-held _ _ _ _ (byte-read (at-byte-between .byte-between .ensures) (at-counted .counted .given .1)) .1, start .pre .1, start .pre .2)
 
 enum-known-step : tie.Need-enum-known-step
 enum-known-step c = search needs
@@ -67,26 +71,37 @@ enum-told-2 c = search needs
 returns-3 : tie.Need-returns-3
 unfolding refusalNumber
 returns-3 c =
-    let w = c .before .before .before .before .before .before .before .byte-between .ensures in
-    let e = c .before .before .before .before .before .counted .given .1 in
-    let counted = list-counted _ _ _ (not-false _ (c .before .before .before .before .before .before .before .before .if1 .left)) (byte-read w e) in
+    let at-counted = c .before .before .before .before .before in
+    let at-byte-between = at-counted .before .before in
+    let at-if1 = at-byte-between .before in
+    let w = at-byte-between .byte-between .ensures in
+    let e = at-counted .counted .given .1 in
+    let counted = list-counted _ _ _ (not-false _ (at-if1 .if1 .left)) (byte-read w e) in
     part-refused _ _ _ _ (byte-within w e) (c .before .before .atoms .ensures) counted (c .enum-told2 .given .1)
 
 add-t24 : tie.Need-add-t24
 add-t24 c =
-    let w = c .before .before .before .before .before .before .before .before .before .before .byte-between .ensures in
-    let e = c .before .before .before .before .before .before .before .before .counted .given .1 in
-    let end : c .before .before .before .before .before .before .before .before .counted .given .0 .1 .0 .at + c .before .before .before .step .given .0 .0 .at ≤ length (c .before .before .before .before .before .before .before .before .before .before .before .before .before .before .args .card .now) =
-    part-within (c .before .before .before .before .before .before .before .before .before .before .before .before .before .before .args .card .now) _ _ _ (byte-within w e) (c .before .before .before .before .before .atoms .ensures) (c .before .before .before .step .given .1) in
-    omega (arith, c .before .before .before .before .before .before .before .before .before .before .before .before .before .before .good .0)
+    let at-atoms = c .before .before .before .before .before in
+    let at-counted = at-atoms .before .before .before in
+    let at-byte-between = at-counted .before .before in
+    let start = at-byte-between .before .before .before .before in
+    let w = at-byte-between .byte-between .ensures in
+    let e = at-counted .counted .given .1 in
+    let end : at-counted .counted .given .0 .1 .0 .at + c .before .before .before .step .given .0 .0 .at ≤ length (start .args .card .now) =
+    part-within (start .args .card .now) _ _ _ (byte-within w e) (at-atoms .atoms .ensures) (c .before .before .before .step .given .1) in
+    omega (arith, start .good .0)
 
 returns-4 : tie.Need-returns-4
 unfolding refusalNumber
 returns-4 c =
-    let w = c .before .before .before .before .before .before .before .before .before .before .byte-between .ensures in
-    let e = c .before .before .before .before .before .before .before .before .counted .given .1 in
-    let counted = list-counted _ _ _ (not-false _ (c .before .before .before .before .before .before .before .before .before .before .before .if1 .left)) (byte-read w e) in
-    part-read _ _ _ _ (byte-within w e) (c .before .before .before .before .before .atoms .ensures) counted (c .before .before .before .step .given .1)
+    let at-atoms = c .before .before .before .before .before in
+    let at-counted = at-atoms .before .before .before in
+    let at-byte-between = at-counted .before .before in
+    let at-if1 = at-byte-between .before in
+    let w = at-byte-between .byte-between .ensures in
+    let e = at-counted .counted .given .1 in
+    let counted = list-counted _ _ _ (not-false _ (at-if1 .if1 .left)) (byte-read w e) in
+    part-read _ _ _ _ (byte-within w e) (at-atoms .atoms .ensures) counted (c .before .before .before .step .given .1)
 
 pub list-spec : {M : Type 1} → statement M
 list-spec =
