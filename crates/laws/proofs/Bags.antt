@@ -119,9 +119,11 @@ contains-antisym a b p q =
 -- strict containment: contained, and another bag
 pub strictly-at : (a b : Bag) → strictlyContains a b ≡ true → (contains a b ≡ true) × (a ≡ b → ⊥)
 unfolding strictlyContains
-strictly-at a b e =
-    (and-left (contains a b) (not (same a b)) e, λ p.
-    never (sym (subst (λ (c : Bag). same a c ≡ true) p (same-refl a)) ∙ not-true (same a b) (and-right (contains a b) (not (same a b)) e)))
+strictly-at a b e = (
+  and-left (contains a b) (not (same a b)) e,
+  λ p.
+      never (sym (subst (λ (c : Bag). same a c ≡ true) p (same-refl a)) ∙ not-true (same a b) (and-right (contains a b) (not (same a b)) e)),
+)
 
 pub strictly-intro : (a b : Bag) → contains a b ≡ true → (a ≡ b → ⊥) → strictlyContains a b ≡ true
 unfolding strictlyContains
@@ -160,6 +162,7 @@ contains-same-sum (x ∷ b) (y ∷ a) e h =
   where
     first : y ≤ x → sum a ≤ sum b → x ≡ y
     first p q = omega arith
+
     rest : y ≤ x → sum a ≤ sum b → sum b ≤ sum a
     rest p q = omega arith
 
@@ -296,9 +299,10 @@ module _ {A : Type 0} where
   pub pairwise-append : (R : A → A → Type 0) (xs ys : List A) → Pairwise R xs → Pairwise R ys
       → ((x y : A) → List·Memᴰ x xs → List·Memᴰ y ys → R x y) → Pairwise R (xs ++ ys)
   pairwise-append R [] ys p q h = q
-  pairwise-append R (x ∷ xs) ys p q h =
-      (λ y k. ⊎-elim (p .0 y) (h x y (List·Memᴰ·head refl)) (List·Memᴰ·append-cases xs k),
-      pairwise-append R xs ys (p .1) q (λ z y k. h z y (List·Memᴰ·tail k)))
+  pairwise-append R (x ∷ xs) ys p q h = (
+    λ y k. ⊎-elim (p .0 y) (h x y (List·Memᴰ·head refl)) (List·Memᴰ·append-cases xs k),
+    pairwise-append R xs ys (p .1) q (λ z y k. h z y (List·Memᴰ·tail k)),
+  )
 
   -- no element stands twice
   abbrev pub NoRepeat : List A → Type 0

@@ -56,18 +56,19 @@ module _ {A : Type 0} where
     where
       first : x ≡ y → Rest x (y ∷ ys)
       first p = record {
-          rest = ys;
-          counts = λ f. ap (λ (z : A). count f (z ∷ ys)) (sym p);
-          members = λ z k. ⊎-elim (λ q. inl (q ∙ sym p)) (λ j. inr j) (List·Memᴰ·cases-cons k)
-        }
+        rest = ys;
+        counts = λ f. ap (λ (z : A). count f (z ∷ ys)) (sym p);
+        members = λ z k. ⊎-elim (λ q. inl (q ∙ sym p)) (λ j. inr j) (List·Memᴰ·cases-cons k);
+      }
+
       later : Rest x ys → Rest x (y ∷ ys)
       later r = record {
-          rest = y ∷ r .rest;
-          counts = λ f. count-cons f y ys (x ∷ r .rest) (r .counts f) ∙ count-swap f y x (r .rest);
-          members = λ z k. ⊎-elim (λ q. inr (List·Memᴰ·head q))
-              (λ j. ⊎-elim (λ q. inl q) (λ i. inr (List·Memᴰ·tail i)) (r .members z j))
-              (List·Memᴰ·cases-cons k)
-        }
+        rest = y ∷ r .rest;
+        counts = λ f. count-cons f y ys (x ∷ r .rest) (r .counts f) ∙ count-swap f y x (r .rest);
+        members = λ z k. ⊎-elim (λ q. inr (List·Memᴰ·head q))
+            (λ j. ⊎-elim (λ q. inl q) (λ i. inr (List·Memᴰ·tail i)) (r .members z j))
+            (List·Memᴰ·cases-cons k);
+      }
 
   -- a list that repeats nothing and whose elements are all in another counts no more than that one
   pub count-within : (f : A → Bool) (xs ys : List A) → Apart xs → ((x : A) → List·Memᴰ x xs → List·Memᴰ x ys) → count f xs ≤ count f ys
@@ -76,7 +77,7 @@ module _ {A : Type 0} where
   count-within f (x ∷ xs) ys apart inside =
       let r = taken-out x ys (inside x (List·Memᴰ·head refl)) in
       let others = count-within f xs (r .rest) (apart .1) (λ y m.
-          ⊎-elim (λ p. absurd (apart .0 (subst (λ (z : A). List·Memᴰ z xs) p m))) (λ k. k) (r .members y (inside y (List·Memᴰ·tail m)))) in
+      ⊎-elim (λ p. absurd (apart .0 (subst (λ (z : A). List·Memᴰ z xs) p m))) (λ k. k) (r .members y (inside y (List·Memᴰ·tail m)))) in
       go (f x) (r .rest) (r .counts f) others
     where
       go : (b : Bool) (zs : List A) → count f ys ≡ cond b (suc (count f zs)) (count f zs) → count f xs ≤ count f zs
@@ -124,16 +125,17 @@ module _ {A : Type 0} where
   -- two lists with no element in common
   pub apart-append : (xs ys : List A) → Apart xs → Apart ys → ((x : A) → List·Memᴰ x xs → List·Memᴰ x ys → ⊥) → Apart (xs ++ ys)
   apart-append [] ys p q differ = q
-  apart-append (x ∷ xs) ys p q differ =
-      (λ m. ⊎-elim (p .0) (differ x (List·Memᴰ·head refl)) (List·Memᴰ·append-cases xs m),
-      apart-append xs ys (p .1) q (λ y m. differ y (List·Memᴰ·tail m)))
+  apart-append (x ∷ xs) ys p q differ = (
+    λ m. ⊎-elim (p .0) (differ x (List·Memᴰ·head refl)) (List·Memᴰ·append-cases xs m),
+    apart-append xs ys (p .1) q (λ y m. differ y (List·Memᴰ·tail m)),
+  )
 
   -- elements taken out of a list: the count falls by theirs
   pub count-removed : (f gone : A → Bool) (xs out : List A) → Picks gone out → Apart xs → Apart out
       → ((x : A) → List·Memᴰ x out → List·Memᴰ x xs) → count f (keep (λ x. not (gone x)) xs) + count f out ≡ count f xs
   count-removed f gone xs out p apart once inside =
       let same = count-alike f (keep gone xs) out (apart-keep gone xs apart) once
-          (λ x m. p .picked x (keep-at gone xs x m .1)) (λ x m. keep-intro gone xs x (inside x m) (p .picks x m)) in
+      (λ x m. p .picked x (keep-at gone xs x m .1)) (λ x m. keep-intro gone xs x (inside x m) (p .picks x m)) in
       omega (arith, count-split f gone xs)
 
   -- elements put into a list: the count rises by theirs, less those that were there
@@ -148,10 +150,12 @@ module _ {A : Type 0} where
     where
       differ : (x : A) → List·Memᴰ x xs → List·Memᴰ x (keep (λ x. not (there x)) new) → ⊥
       differ x m k = never (sym (p .picks x m) ∙ not-true (there x) (keep-at (λ x. not (there x)) new x k .1))
+
       into : (x : A) → List·Memᴰ x all → List·Memᴰ x (xs ++ keep (λ x. not (there x)) new)
       into x m = by-test (there x) (λ e. Memᴰ·append-left (keep (λ x. not (there x)) new) (p .picked x e))
           (λ e. ⊎-elim (λ k. Memᴰ·append-left (keep (λ x. not (there x)) new) k)
           (λ k. Memᴰ·append-right xs (keep-intro (λ x. not (there x)) new x k (to-not-true (there x) e))) (from x m))
+
       back : (x : A) → List·Memᴰ x (xs ++ keep (λ x. not (there x)) new) → List·Memᴰ x all
       back x m = ⊎-elim (old x) (λ k. more x (keep-at (λ x. not (there x)) new x k .0)) (List·Memᴰ·append-cases xs m)
 
@@ -160,10 +164,11 @@ module _ {A B : Type 0} where
   pub apart-map : (f : A → B) (xs : List A) → ((x y : A) → List·Memᴰ x xs → List·Memᴰ y xs → f x ≡ f y → x ≡ y)
       → Apart xs → Apart (map f xs)
   apart-map f [] injective apart = tt
-  apart-map f (x ∷ xs) injective apart =
-      (λ m. let r = Memᴰ·of-map f xs m in
-      apart .0 (subst (λ (z : A). List·Memᴰ z xs) (injective (r .0) x (List·Memᴰ·tail (r .1)) (List·Memᴰ·head refl) (r .2)) (r .1)),
-      apart-map f xs (λ y z m k. injective y z (List·Memᴰ·tail m) (List·Memᴰ·tail k)) (apart .1))
+  apart-map f (x ∷ xs) injective apart = (
+    λ m. let r = Memᴰ·of-map f xs m in
+        apart .0 (subst (λ (z : A). List·Memᴰ z xs) (injective (r .0) x (List·Memᴰ·tail (r .1)) (List·Memᴰ·head refl) (r .2)) (r .1)),
+    apart-map f xs (λ y z m k. injective y z (List·Memᴰ·tail m) (List·Memᴰ·tail k)) (apart .1),
+  )
 
   -- counting what a function gives is counting by the test of what it gives
   pub count-map : (f : B → Bool) (g : A → B) (xs : List A) → count f (map g xs) ≡ count (λ x. f (g x)) xs

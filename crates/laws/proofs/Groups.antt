@@ -37,17 +37,17 @@ module _ {A B : Type 0} where
   foldl-reaches Holds Reached f (x ∷ xs) keeps stays y m reach b h =
       ⊎-elim
       (λ p.
-        foldl-keeps (λ c. Holds c × Reached c) f xs
-        (λ c z k both. (keeps c z (List·Memᴰ·tail k) (both .0), stays c z (List·Memᴰ·tail k) (both .0) (both .1)))
-        (f b x)
-        (keeps b x (List·Memᴰ·head refl) h, subst (λ (z : A). Reached (f b z)) p (reach b h))
-        .1)
+      foldl-keeps (λ c. Holds c × Reached c) f xs
+      (λ c z k both. (keeps c z (List·Memᴰ·tail k) (both .0), stays c z (List·Memᴰ·tail k) (both .0) (both .1)))
+      (f b x)
+      (keeps b x (List·Memᴰ·head refl) h, subst (λ (z : A). Reached (f b z)) p (reach b h))
+      .1)
       (λ k.
-        foldl-reaches Holds Reached f xs
-        (λ c z j. keeps c z (List·Memᴰ·tail j))
-        (λ c z j. stays c z (List·Memᴰ·tail j))
-        y k reach (f b x)
-        (keeps b x (List·Memᴰ·head refl) h))
+      foldl-reaches Holds Reached f xs
+      (λ c z j. keeps c z (List·Memᴰ·tail j))
+      (λ c z j. stays c z (List·Memᴰ·tail j))
+      y k reach (f b x)
+      (keeps b x (List·Memᴰ·head refl) h))
       (List·Memᴰ·cases-cons m)
 
   -- an element of a mapped list
@@ -93,8 +93,8 @@ module _ {A : Type 0} where
   keep-ext f g [] h = refl
   keep-ext f g (x ∷ xs) h =
       λ i.
-        let kept = keep-ext f g xs (λ y m. h y (List·Memᴰ·tail m)) i in
-        cond (h x (List·Memᴰ·head refl) i) (x ∷ kept) kept
+      let kept = keep-ext f g xs (λ y m. h y (List·Memᴰ·tail m)) i in
+      cond (h x (List·Memᴰ·head refl) i) (x ∷ kept) kept
 
   -- no more elements pass than there are
   pub count-most : (f : A → Bool) (xs : List A) → count f xs ≤ length xs
@@ -129,6 +129,7 @@ module _ {A : Type 0} where
     where
       later : (z : A) → List·Memᴰ z ys → f z ≡ true → g z ≡ true
       later z k = h z (List·Memᴰ·tail k)
+
       go : (b : Bool) → f y ≡ b → (c : Bool) → g y ≡ c → (b ≡ true → c ≡ true) → count f ys ≤ count g ys
           → (count g ys ≤ count f ys → List·Memᴰ x ys → g x ≡ f x)
           → cond c (suc (count g ys)) (count g ys) ≤ cond b (suc (count f ys)) (count f ys)
@@ -166,36 +167,36 @@ module _ {A : Type 0} (xs : List A) (step : (A → Bool) → A → Bool) where
 
     module _
         (own : (f g : A → Bool) → ((x : A) → List·Memᴰ x xs → f x ≡ g x) → (x : A) → List·Memᴰ x xs → step f x ≡ step g x)
-        where
-      -- a step adds an element or nothing changes any more
-      step-grows : (k : ℕ) (f : A → Bool) → (k ≤ count f xs) ⊎ Stable f → (suc k ≤ count (step f) xs) ⊎ Stable (step f)
-      step-grows k f (inr stable) = inr (own (step f) f stable)
-      step-grows k f (inl most) =
-          by-test (ltb (count f xs) (count (step f) xs))
-          (λ e. let more = ltb-true (count f xs) (count (step f) xs) e in inl (omega arith))
-          (λ e.
+      where
+        -- a step adds an element or nothing changes any more
+        step-grows : (k : ℕ) (f : A → Bool) → (k ≤ count f xs) ⊎ Stable f → (suc k ≤ count (step f) xs) ⊎ Stable (step f)
+        step-grows k f (inr stable) = inr (own (step f) f stable)
+        step-grows k f (inl most) =
+            by-test (ltb (count f xs) (count (step f) xs))
+            (λ e. let more = ltb-true (count f xs) (count (step f) xs) e in inl (omega arith))
+            (λ e.
             inr
             (own (step f) f
             (count-settles f (step f) xs (λ x m. adds f x) (ltb-false (count f xs) (count (step f) xs) e))))
 
-      repeat-grows : (n k : ℕ) (f : A → Bool) → (k ≤ count f xs) ⊎ Stable f → (k + n ≤ count (repeat n f) xs) ⊎ Stable (repeat n f)
-      unfolding repeat
-      repeat-grows zero k f (inl most) = inl (omega arith)
-      repeat-grows zero k f (inr stable) = inr stable
-      repeat-grows (suc n) k f h =
-          ⊎-elim (λ (most : suc k + n ≤ count (repeat n (step f)) xs). inl (omega arith)) (λ stable. inr stable)
-          (repeat-grows n (suc k) (step f) (step-grows k f h))
+        repeat-grows : (n k : ℕ) (f : A → Bool) → (k ≤ count f xs) ⊎ Stable f → (k + n ≤ count (repeat n f) xs) ⊎ Stable (repeat n f)
+        unfolding repeat
+        repeat-grows zero k f (inl most) = inl (omega arith)
+        repeat-grows zero k f (inr stable) = inr stable
+        repeat-grows (suc n) k f h =
+            ⊎-elim (λ (most : suc k + n ≤ count (repeat n (step f)) xs). inl (omega arith)) (λ stable. inr stable)
+            (repeat-grows n (suc k) (step f) (step-grows k f h))
 
-      -- as many steps as the list has elements are enough
-      pub repeat-closes : (f : A → Bool) → Stable (repeat (length xs) f)
-      repeat-closes f =
-          ⊎-elim
-          (λ (most : 0 + length xs ≤ count (repeat (length xs) f) xs).
+        -- as many steps as the list has elements are enough
+        pub repeat-closes : (f : A → Bool) → Stable (repeat (length xs) f)
+        repeat-closes f =
+            ⊎-elim
+            (λ (most : 0 + length xs ≤ count (repeat (length xs) f) xs).
             let last = repeat (length xs) f in
             let fits = count-most (step last) xs in
             count-settles last (step last) xs (λ x m. adds last x) (omega arith))
-          (λ stable. stable)
-          (repeat-grows (length xs) 0 f (inl zero-le))
+            (λ stable. stable)
+            (repeat-grows (length xs) 0 f (inl zero-le))
 
 -- numbers in sequence are distinct, and so are those kept of distinct numbers
 pub distinct-keep : (test : ℕ → Bool) (ns : List ℕ) → distinct ns ≡ true → distinct (keep test ns) ≡ true
@@ -207,6 +208,7 @@ distinct-keep test (n ∷ ns) e = go (test n) (distinct-keep test ns (and-right 
     fresh =
         not-member n (keep test ns)
         (λ m. member-not n ns (not-true (member n ns) (and-left (not (member n ns)) (distinct ns) e)) (keep-at test ns n m .0))
+
     go : (b : Bool) → distinct (keep test ns) ≡ true → distinct (cond b (n ∷ keep test ns) (keep test ns)) ≡ true
     go true later =
         and-intro (not (member n (keep test ns))) (distinct (keep test ns)) (to-not-true (member n (keep test ns)) fresh) later

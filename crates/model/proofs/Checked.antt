@@ -75,10 +75,10 @@ module _ (arities : List ℕ) (parameters : ℕ) (test : Atom → Bool) (number 
       → CheckedList arities parameters test atoms
   unfolding checkList checkSchemaAtom
   list-checked atoms e = record {
-      atoms-known = λ a m. need-passed _ _ (first-accepted _ _ (each-at _ none atoms (then-accepted _ _ e) a m .1));
-      atoms-pass = λ a m. need-passed _ _ (then-accepted _ _ (then-accepted _ _ (each-at _ none atoms (then-accepted _ _ e) a m .1)));
-      in-order = each-ascending none atoms (then-accepted _ _ e)
-    }
+    atoms-known = λ a m. need-passed _ _ (first-accepted _ _ (each-at _ none atoms (then-accepted _ _ e) a m .1));
+    atoms-pass = λ a m. need-passed _ _ (then-accepted _ _ (then-accepted _ _ (each-at _ none atoms (then-accepted _ _ e) a m .1)));
+    in-order = each-ascending none atoms (then-accepted _ _ e);
+  }
 
 -- A schema that passed: 7 and 8 of its three lists, 9 of the deletes and 10 of the adds.
 pub record CheckedSchema (arities : List ℕ) (s : Schema) : Type 0 where
@@ -94,7 +94,7 @@ schema-checked arities s e =
     record {
       preconditions = list-checked arities (s .parameters) (λ a. true) 8 (s .preconditions) (first-accepted _ _ lists);
       deletes = list-checked arities (s .parameters) (has (s .preconditions)) 9 (s .deletes) (first-accepted _ _ changes);
-      adds = list-checked arities (s .parameters) (λ a. not (has (s .preconditions) a)) 10 (s .adds) (then-accepted _ _ changes)
+      adds = list-checked arities (s .parameters) (λ a. not (has (s .preconditions) a)) 10 (s .adds) (then-accepted _ _ changes);
     }
 
 -- every schema of an accepted task passed
@@ -119,5 +119,5 @@ action-named t a e =
       schema-known = ltb-true _ _ (need-passed _ _ (first-accepted _ _ e));
       complete = eqb-true _ _ (and-left _ _ right);
       objects-known = and-right (eqb (length (a .objects)) (schemaAt t (a .schema) .parameters)) _ right;
-      different = need-passed _ _ (then-accepted _ _ (then-accepted _ _ e))
+      different = need-passed _ _ (then-accepted _ _ (then-accepted _ _ e));
     }

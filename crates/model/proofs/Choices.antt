@@ -57,11 +57,12 @@ before-first m n a b h = or-left (ltb m n) (eqb m n && before a b) (lt-ltb m n h
 
 ascending-map : (n : ℕ) (bags : List Bag) → Ascending bags → Ascending (map (λ b. n ∷ b) bags)
 ascending-map n [] p = tt
-ascending-map n (a ∷ bags) p =
-    (λ y k.
-    let r = Memᴰ·of-map (λ b. n ∷ b) bags k in
-    subst (λ (x : Bag). before (n ∷ a) x ≡ true) (r .2) (before-rest n a (r .0) (p .0 (r .0) (r .1))),
-    ascending-map n bags (p .1))
+ascending-map n (a ∷ bags) p = (
+  λ y k.
+      let r = Memᴰ·of-map (λ b. n ∷ b) bags k in
+      subst (λ (x : Bag). before (n ∷ a) x ≡ true) (r .2) (before-rest n a (r .0) (p .0 (r .0) (r .1))),
+  ascending-map n bags (p .1),
+)
 
 ascending-from : (start size : ℕ) (bags : List Bag) → Ascending bags → Ascending (flatMap (λ n. map (λ b. n ∷ b) bags) (from start size))
 unfolding flatMap from

@@ -49,11 +49,11 @@ unfolding spacesWith spaceWith
 spacesWith-ext t f g h =
     map-ext (spaceWith t f) (spaceWith t g) (labels t)
     (λ l m i.
-      record {
-        properties = propertiesAt t l;
-        rules = rulesAt t l;
-        members = keep-ext (λ o. f o l) (λ o. g o l) (upTo (t .objects)) (λ o k. h o l (upTo-at (t .objects) o k) m) i;
-      })
+    record {
+      properties = propertiesAt t l;
+      rules = rulesAt t l;
+      members = keep-ext (λ o. f o l) (λ o. g o l) (upTo (t .objects)) (λ o k. h o l (upTo-at (t .objects) o k) m) i;
+    })
 
 -- One object alone: a rule admits an object that is in the spaces of labels that pass a test, and a round adds a label for it.
 unfoldable pub admitted : Task → (ℕ → Bool) → Transition → Bool
@@ -72,17 +72,17 @@ step-own : (t : Task) (f g : ℕ → Bool) → ((l : ℕ) → List·Memᴰ l (la
 unfolding step admitted
 step-own t f g h l m =
     λ i.
-      h l m i
-      || any-ext (admitted t f) (admitted t g) (rulesAt t l)
-        (λ r k j.
-          isEmpty (r .start)
-          && all-ext (λ c. any (λ x. member c (propertiesAt t x) && f x) (labels t))
-            (λ c. any (λ x. member c (propertiesAt t x) && g x) (labels t)) (support (r .enablers))
-            (λ c n.
-              any-ext (λ x. member c (propertiesAt t x) && f x) (λ x. member c (propertiesAt t x) && g x) (labels t)
-              (λ x p. ap (λ (b : Bool). member c (propertiesAt t x) && b) (h x p)))
-            j)
-        i
+    h l m i
+    || any-ext (admitted t f) (admitted t g) (rulesAt t l)
+    (λ r k j.
+    isEmpty (r .start)
+    && all-ext (λ c. any (λ x. member c (propertiesAt t x) && f x) (labels t))
+    (λ c. any (λ x. member c (propertiesAt t x) && g x) (labels t)) (support (r .enablers))
+    (λ c n.
+    any-ext (λ x. member c (propertiesAt t x) && f x) (λ x. member c (propertiesAt t x) && g x) (labels t)
+    (λ x p. ap (λ (b : Bool). member c (propertiesAt t x) && b) (h x p)))
+    j)
+    i
 
 -- a rule admits an object to the spaces as it does the object alone
 hasMember-alone : (t : Task) (joins : ℕ → ℕ → Bool) (o c : ℕ) → o < t .objects
@@ -91,7 +91,7 @@ unfolding hasMember spacesWith spaceWith
 hasMember-alone t joins o c h =
     any-map (λ s. member c (s .properties) && member o (s .members)) (spaceWith t joins) (labels t)
     ∙ any-ext _ _ (labels t)
-      (λ l m. ap (λ (b : Bool). member c (propertiesAt t l) && b) (member-keep-upTo (λ x. joins x l) (t .objects) o h))
+    (λ l m. ap (λ (b : Bool). member c (propertiesAt t l) && b) (member-keep-upTo (λ x. joins x l) (t .objects) o h))
 
 admits-alone : (t : Task) (joins : ℕ → ℕ → Bool) (o : ℕ) (r : Transition) → o < t .objects
     → admits (spacesWith t joins) o r ≡ admitted t (joins o) r
@@ -106,11 +106,11 @@ unfolding round gain spacesWith spaceWith step
 round-alone t joins =
     map-map (gain t (spacesWith t joins)) (spaceWith t joins) (labels t)
     ∙ spacesWith-ext t
-      (λ o l. member o (keep (λ x. joins x l) (upTo (t .objects))) || any (admits (spacesWith t joins) o) (rulesAt t l))
-      (λ o. step t (joins o))
-      (λ o l h m i.
-        member-keep-upTo (λ x. joins x l) (t .objects) o h i
-        || any-ext (admits (spacesWith t joins) o) (admitted t (joins o)) (rulesAt t l) (λ r n. admits-alone t joins o r h) i)
+    (λ o l. member o (keep (λ x. joins x l) (upTo (t .objects))) || any (admits (spacesWith t joins) o) (rulesAt t l))
+    (λ o. step t (joins o))
+    (λ o l h m i.
+    member-keep-upTo (λ x. joins x l) (t .objects) o h i
+    || any-ext (admits (spacesWith t joins) o) (admitted t (joins o)) (rulesAt t l) (λ r n. admits-alone t joins o r h) i)
 
 rounds-alone : (t : Task) (n : ℕ) (joins : ℕ → ℕ → Bool)
     → rounds t n (spacesWith t joins) ≡ spacesWith t (λ o. repeat (labels t) (step t) n (joins o))
@@ -161,7 +161,7 @@ pub data Within : List Space → List Space → Type 0 where
 abbrev pub Closed : Task → List Space → List Space → Type 0
 Closed t later part =
     (s : Space) → List·Memᴰ s part → (r : Transition) → List·Memᴰ r (s .rules) → (o : ℕ) → o < t .objects → admits later o r ≡ true
-      → member o (s .members) ≡ true
+    → member o (s .members) ≡ true
 
 -- more members admit more
 within-hasMember : {now later : List Space} → Within now later → (o c : ℕ) → hasMember now o c ≡ true → hasMember later o c ≡ true
@@ -170,12 +170,12 @@ within-hasMember none-within o c e = e
 within-hasMember (one-within {s = s} {s′ = s′} {ss = ss} {ss′ = ss′} p q more rest) o c e =
     ⊎-elim
     (λ k.
-      or-left (member c (s′ .properties) && member o (s′ .members)) (hasMember ss′ o c)
-      (and-intro (member c (s′ .properties)) (member o (s′ .members))
-        (ap (member c) (sym p) ∙ and-left (member c (s .properties)) (member o (s .members)) k)
-        (more o (and-right (member c (s .properties)) (member o (s .members)) k))))
+    or-left (member c (s′ .properties) && member o (s′ .members)) (hasMember ss′ o c)
+    (and-intro (member c (s′ .properties)) (member o (s′ .members))
+    (ap (member c) (sym p) ∙ and-left (member c (s .properties)) (member o (s .members)) k)
+    (more o (and-right (member c (s .properties)) (member o (s .members)) k))))
     (λ k.
-      or-right (member c (s′ .properties) && member o (s′ .members)) (hasMember ss′ o c) (within-hasMember rest o c k))
+    or-right (member c (s′ .properties) && member o (s′ .members)) (hasMember ss′ o c) (within-hasMember rest o c k))
     (or-cases (member c (s .properties) && member o (s .members)) (hasMember ss o c) e)
 
 within-admits : {now later : List Space} → Within now later → (o : ℕ) (r : Transition) → admits now o r ≡ true → admits later o r ≡ true
@@ -186,8 +186,8 @@ within-admits {now} {later} h o r e =
     (and-left (isEmpty (r .start)) (all (hasMember now o) enabled) e)
     (all-intro (hasMember later o) enabled
     (λ c m.
-      within-hasMember h o c
-      (all-at (hasMember now o) enabled (and-right (isEmpty (r .start)) (all (hasMember now o) enabled) e) c m)))
+    within-hasMember h o c
+    (all-at (hasMember now o) enabled (and-right (isEmpty (r .start)) (all (hasMember now o) enabled) e) c m)))
 
 -- what spaces gain by a round stays within a closed list that they are within
 gain-within : (t : Task) (now later : List Space) → Within now later → {part rest : List Space} → Within part rest
@@ -199,14 +199,15 @@ gain-within t now later h (one-within {s = s} {s′ = s′} p q more rest) close
   where
     stays : ℕ → Bool
     stays o = member o (s .members) || any (admits now o) (s .rules)
+
     gained : (o : ℕ) → member o (keep stays (upTo (t .objects))) ≡ true → member o (s′ .members) ≡ true
     gained o e =
         let passed = keep-at stays (upTo (t .objects)) o (member-at o (keep stays (upTo (t .objects))) e) in
         ⊎-elim (more o)
         (λ k.
-          let rule = any-at (admits now o) (s .rules) k in
-          closed s′ (List·Memᴰ·head refl) (rule .0) (subst (List·Memᴰ (rule .0)) q (rule .1)) o
-          (upTo-at (t .objects) o (passed .0)) (within-admits h o (rule .0) (rule .2)))
+        let rule = any-at (admits now o) (s .rules) k in
+        closed s′ (List·Memᴰ·head refl) (rule .0) (subst (List·Memᴰ (rule .0)) q (rule .1)) o
+        (upTo-at (t .objects) o (passed .0)) (within-admits h o (rule .0) (rule .2)))
         (or-cases (member o (s .members)) (any (admits now o) (s .rules)) (passed .1))
 
 within-rounds : (t : Task) (n : ℕ) (now later : List Space) → Closed t later later → Within now later → Within (rounds t n now) later

@@ -43,7 +43,7 @@ list-grounded : (arities : List ℕ) (parameters : ℕ) (test : Atom → Bool) (
     → CheckedList arities parameters test atoms → length objects ≡ parameters → distinct objects ≡ true → Grounded objects atoms
 list-grounded arities parameters test objects atoms checked complete different =
     let within : (a : Atom) → List·Memᴰ a atoms → bounded objects (a .arguments) ≡ true =
-        (λ a m. subst (λ (n : ℕ). all (λ x. ltb x n) (a .arguments) ≡ true) (sym complete) (known-bound arities parameters a (checked .atoms-known a m))) in
+    (λ a m. subst (λ (n : ℕ). all (λ x. ltb x n) (a .arguments) ≡ true) (sym complete) (known-bound arities parameters a (checked .atoms-known a m))) in
     record { bound = within; once = ground-apart objects different atoms within (ascending-apart none atoms (checked .in-order)) }
 
 -- an action that a valid state of an accepted task allows
@@ -54,7 +54,7 @@ allowed-ready t s a ok valid allowed =
     let named = action-named t a (allowed .named) in
     let checked = task-schema t ok (a .schema) (named .schema-known) in
     let hold : (f : Atom) → List·Memᴰ f (map (ground (a .objects)) (schemaAt t (a .schema) .preconditions)) → List·Memᴰ f s =
-        (λ f m. has-picks s .picked f (all-at (has s) _ (allowed .holds) f m)) in
+    (λ f m. has-picks s .picked f (all-at (has s) _ (allowed .holds) f m)) in
     record {
       different = named .different;
       in-order = valid .in-order;
@@ -65,7 +65,7 @@ allowed-ready t s a ok valid allowed =
       deletes-hold = λ f m.
           let r = Memᴰ·of-map (ground (a .objects)) (schemaAt t (a .schema) .deletes) m in
           let among = has-picks (schemaAt t (a .schema) .preconditions) .picked (r .0) (checked .deletes .atoms-pass (r .0) (r .1)) in
-          subst (λ (g : Atom). List·Memᴰ g s) (r .2) (hold _ (Memᴰ·map (ground (a .objects)) among))
+          subst (λ (g : Atom). List·Memᴰ g s) (r .2) (hold _ (Memᴰ·map (ground (a .objects)) among));
     }
 
 -- the facts that a state keeps, and the adds that are among them: absorbed, since they are put in and change nothing
@@ -105,7 +105,7 @@ ready-change f schema objects s r =
       absorbed-added = omega (arith, count-split f (has kept) new);
       absorbed-kept =
           count-within f (keep (has kept) new) kept (apart-keep (has kept) new (r .adds .once))
-          (λ g m. has-picks kept .picked g (keep-at (has kept) new g m .1))
+          (λ g m. has-picks kept .picked g (keep-at (has kept) new g m .1));
     }
 
 -- The effect of an action on an object's bag, over some number of properties: from the bag before it and the bags P, D and A of a parameter
@@ -124,21 +124,21 @@ effect-by-counts : {A : Type 0} (p d a was now absorbed : A → ℕ) (xs : List 
     × (now x + absorbed x ≡ (was x - d x) + a x))
     → Effect (length xs) (map p xs) (map d xs) (map a xs) (map was xs) (map now xs)
 effect-by-counts p d a was now absorbed xs h = record {
-    absorbed = map absorbed xs;
-    absorbed-length = length-map xs absorbed;
-    preconditions-there = contains-map was p xs (λ x m. h x .0);
-    deletes-there = contains-map was d xs (λ x m. h x .1);
-    absorbed-within =
-        ap (λ (b : Bag). contains (meet (map a xs) b) (map absorbed xs)) (less-map was d xs)
-        ∙ ap (λ (b : Bag). contains b (map absorbed xs)) (meet-map a (λ x. was x - d x) xs)
-        ∙ contains-map (λ x. min (a x) (was x - d x)) absorbed xs (λ x m. let e = h x in omega arith);
-    becomes =
-        map-ext now (λ x. was x - d x + a x - absorbed x) xs (λ x m. let e = h x in omega arith)
-        ∙ sym (
-        ap (λ (b : Bag). less (plus b (map a xs)) (map absorbed xs)) (less-map was d xs)
-        ∙ ap (λ (b : Bag). less b (map absorbed xs)) (plus-map (λ x. was x - d x) a xs)
-        ∙ less-map (λ x. was x - d x + a x) absorbed xs)
-  }
+  absorbed = map absorbed xs;
+  absorbed-length = length-map xs absorbed;
+  preconditions-there = contains-map was p xs (λ x m. h x .0);
+  deletes-there = contains-map was d xs (λ x m. h x .1);
+  absorbed-within =
+      ap (λ (b : Bag). contains (meet (map a xs) b) (map absorbed xs)) (less-map was d xs)
+      ∙ ap (λ (b : Bag). contains b (map absorbed xs)) (meet-map a (λ x. was x - d x) xs)
+      ∙ contains-map (λ x. min (a x) (was x - d x)) absorbed xs (λ x m. let e = h x in omega arith);
+  becomes =
+      map-ext now (λ x. was x - d x + a x - absorbed x) xs (λ x m. let e = h x in omega arith)
+      ∙ sym (
+      ap (λ (b : Bag). less (plus b (map a xs)) (map absorbed xs)) (less-map was d xs)
+      ∙ ap (λ (b : Bag). less b (map absorbed xs)) (plus-map (λ x. was x - d x) a xs)
+      ∙ less-map (λ x. was x - d x + a x) absorbed xs);
+}
 
 module _ (t : Task) (s : State) (a : Action) (ok : checkTask t ≡ accepted tt) (valid : Valid t s) (allowed : Allowed t s a) where
   -- the object of a parameter: its preconditions' properties are there, deletes go, and adds come less those that were there
@@ -154,15 +154,20 @@ module _ (t : Task) (s : State) (a : Action) (ok : checkTask t ≡ accepted tt) 
     where
       schema : Schema
       schema = schemaAt t (a .schema)
+
       ready : Ready schema (a .objects) s
       ready = allowed-ready t s a ok valid allowed
+
       here : Property → Atom → Bool
       here c f = occurs (getD (a .objects) k 0) f c
+
       absorbed : Property → ℕ
       absorbed c = count (here c) (absorbedFacts schema (a .objects) s)
+
       over : (c : Property) (atoms : List Atom) → Grounded (a .objects) atoms
           → count (here c) (map (ground (a .objects)) atoms) ≡ count (λ b. occurs k b c) atoms
       over c atoms g = count-bound (a .objects) (ready .different) k c atoms h (g .bound)
+
       counts : (c : Property)
           → (count (λ b. occurs k b c) (schema .preconditions) ≤ count (here c) s)
           × (count (λ b. occurs k b c) (schema .deletes) ≤ count (here c) s)

@@ -51,8 +51,8 @@ merged-holds : (Holds : ℕ → Type 0) (g h l : ℕ) → Holds g → Holds h �
 merged-holds Holds g h l pg ph pl =
     ⊎-elim
     (λ e.
-      subst Holds (sym (merged-joined g h l e))
-      (⊎-elim (λ q. subst Holds (sym q) pg) (λ q. subst Holds (sym q) ph) (min-cases g h)))
+    subst Holds (sym (merged-joined g h l e))
+    (⊎-elim (λ q. subst Holds (sym q) pg) (λ q. subst Holds (sym q) ph) (min-cases g h)))
     (λ e. subst Holds (sym e) pl)
     (merged-cases g h l)
 
@@ -100,7 +100,7 @@ uniteAll-keeps Holds (c ∷ cs) keeps groups h =
 -- what bringing any two properties of one rule together keeps, the grouping keeps
 grouping-keeps : (Holds : List ℕ → Type 0) (size : ℕ) (rules : List Transition)
     → ((groups : List ℕ) (r : Transition) → List·Memᴰ r rules → (c d : ℕ) → List·Memᴰ c (moved r) → List·Memᴰ d (moved r)
-      → Holds groups → Holds (unite c groups d))
+    → Holds groups → Holds (unite c groups d))
     → Holds (upTo size) → Holds (grouping size rules)
 unfolding grouping
 grouping-keeps Holds size rules keeps =
@@ -146,17 +146,20 @@ unite-lowest size groups a b ha hb h =
   where
     new : ℕ → ℕ
     new x = merged (label groups a) (label groups b) (label groups x)
+
     now : (x : ℕ) → x < size → label (unite a groups b) x ≡ new x
     now x hx = label-unite a groups b x (subst (λ (n : ℕ). x < n) (sym (h .sized)) hx)
+
     low : (x : ℕ) → x < size → new x ≤ x
     low x hx = le-trans (merged-at-most (label groups a) (label groups b) (label groups x)) (h .at-most x hx)
+
     own : (x : ℕ) → x < size → label (unite a groups b) (label (unite a groups b) x) ≡ label (unite a groups b) x
     own x hx =
         let below : new x ≤ x = low x hx in
         ap (label (unite a groups b)) (now x hx)
         ∙ now (new x) (omega arith)
         ∙ ap (merged (label groups a) (label groups b))
-          (merged-holds (λ l. label groups l ≡ l) (label groups a) (label groups b) (label groups x) (h .own a ha) (h .own b hb) (h .own x hx))
+        (merged-holds (λ l. label groups l ≡ l) (label groups a) (label groups b) (label groups x) (h .own a ha) (h .own b hb) (h .own x hx))
         ∙ merged-again (label groups a) (label groups b) (label groups x)
         ∙ sym (now x hx)
 
@@ -189,12 +192,12 @@ module _ (size : ℕ) (rules : List Transition)
       first x m =
           ⊎-elim (λ p. ap (label (foldl (unite a) groups cs)) (sym p))
           (λ i.
-            foldl-reaches (λ now. length now ≡ size) (λ now. label now a ≡ label now x) (unite a) cs
-            (λ now y l e. length-unite a now y ∙ e)
-            (λ now y l e. stays-joined now e a y a x (below a (List·Memᴰ·head refl)) (below x m))
-            x i
-            (λ now e. now-joined now e a x (below a (List·Memᴰ·head refl)) (below x m))
-            groups sized)
+          foldl-reaches (λ now. length now ≡ size) (λ now. label now a ≡ label now x) (unite a) cs
+          (λ now y l e. length-unite a now y ∙ e)
+          (λ now y l e. stays-joined now e a y a x (below a (List·Memᴰ·head refl)) (below x m))
+          x i
+          (λ now e. now-joined now e a x (below a (List·Memᴰ·head refl)) (below x m))
+          groups sized)
           (List·Memᴰ·cases-cons m)
 
   -- "All start and finish properties of one rule share a space"
@@ -206,11 +209,11 @@ module _ (size : ℕ) (rules : List Transition)
       (λ groups q. uniteAll groups (moved q)) rules
       (λ groups q l. uniteAll-keeps (λ now. length now ≡ size) (moved q) (λ now a b i₁ i₂ e. length-unite a now b ∙ e) groups)
       (λ groups q l e same.
-        uniteAll-keeps (λ now. (length now ≡ size) × (label now c ≡ label now d)) (moved q)
-        (λ now a b i₁ i₂ h.
-          (length-unite a now b ∙ h .0, stays-joined now (h .0) a b c d (known r m c j) (known r m d k) (h .1)))
-        groups (e, same)
-        .1)
+      uniteAll-keeps (λ now. (length now ≡ size) × (label now c ≡ label now d)) (moved q)
+      (λ now a b i₁ i₂ h.
+      (length-unite a now b ∙ h .0, stays-joined now (h .0) a b c d (known r m c j) (known r m d k) (h .1)))
+      groups (e, same)
+      .1)
       r m
       (λ groups e. uniteAll-joins (moved r) (known r m) groups e c d j k)
       (upTo size) (length-upTo size)
@@ -264,8 +267,8 @@ remaining-sized p start finish es ef r = go (isEmpty start)
   where
     go : (b : Bool)
         → List·Memᴰ r
-          (cond b (map (λ c. record { enablers = less p start; start = start; finish = single (length p) c }) (support finish))
-          (record { enablers = less p start; start = start; finish = finish } ∷ []))
+        (cond b (map (λ c. record { enablers = less p start; start = start; finish = single (length p) c }) (support finish))
+        (record { enablers = less p start; start = start; finish = finish } ∷ []))
         → Sized (length p) r
     go true m =
         let q = Memᴰ·of-map _ (support finish) m in
@@ -282,7 +285,7 @@ rulesOf-sized p d a ed ea r m =
     let common : length (meet d a) ≡ length p = length-meet d a (ed ∙ sym ea) ∙ ed in
     ⊎-elim (exchanges-sized p (meet d a) r)
     (remaining-sized p (less d (meet d a)) (less a (meet d a))
-      (length-less d (meet d a) (ed ∙ sym common) ∙ ed) (length-less a (meet d a) (ea ∙ sym common) ∙ ea) r)
+    (length-less d (meet d a) (ed ∙ sym common) ∙ ed) (length-less a (meet d a) (ea ∙ sym common) ∙ ea) r)
     (List·Memᴰ·append-cases (exchanges p (meet d a)) m)
 
 length-bagOf : (cs : List Property) (atoms : List Atom) (x : ℕ) → length (bagOf cs atoms x) ≡ length cs
@@ -300,7 +303,7 @@ transitions-sized t r m =
     let size : (atoms : List Atom) → length (bag atoms) ≡ length (properties t) = λ atoms. length-bagOf (properties t) atoms (k .0) in
     subst (λ (n : ℕ). Sized n r) (size (s .preconditions))
     (rulesOf-sized (bag (s .preconditions)) (bag (s .deletes)) (bag (s .adds))
-      (size (s .deletes) ∙ sym (size (s .preconditions))) (size (s .adds) ∙ sym (size (s .preconditions))) r (k .2))
+    (size (s .deletes) ∙ sym (size (s .preconditions))) (size (s .adds) ∙ sym (size (s .preconditions))) r (k .2))
 
 -- the start and finish properties of a rule are properties of the task
 pub moved-known : (t : Task) (r : Transition) → List·Memᴰ r (transitions t) → (c : ℕ) → List·Memᴰ c (moved r) → c < length (properties t)

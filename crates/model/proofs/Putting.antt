@@ -36,8 +36,10 @@ before-trans (x ∷ xs) (y ∷ ys) (z ∷ zs) p q =
   where
     less : x < z → (ltb x z || (eqb x z && before xs zs)) ≡ true
     less h = or-left (ltb x z) (eqb x z && before xs zs) (lt-ltb x z h)
+
     first : (x y : ℕ) (b : Bool) → (eqb x y && b) ≡ true → x ≡ y
     first x y b e = eqb-true x y (and-left (eqb x y) b e)
+
     go : (before xs ys ≡ true → before ys zs ≡ true → before xs zs ≡ true)
         → (ltb x y ≡ true) ⊎ ((eqb x y && before xs ys) ≡ true) → (ltb y z ≡ true) ⊎ ((eqb y z && before ys zs) ≡ true)
         → (ltb x z || (eqb x z && before xs zs)) ≡ true
@@ -98,11 +100,11 @@ same-self a =
 pub has-picks : (atoms : List Atom) → Picks (has atoms) atoms
 unfolding has
 has-picks atoms = record {
-    picked = λ a e.
-        let r = any-at (sameAtom a) atoms e in
-        subst (λ (b : Atom). List·Memᴰ b atoms) (sym (same-atom a (r .0) (r .2))) (r .1);
-    picks = λ a m. any-intro (sameAtom a) atoms a m (same-self a)
-  }
+  picked = λ a e.
+      let r = any-at (sameAtom a) atoms e in
+      subst (λ (b : Atom). List·Memᴰ b atoms) (sym (same-atom a (r .0) (r .2))) (r .1);
+  picks = λ a m. any-intro (sameAtom a) atoms a m (same-self a);
+}
 
 -- what stands above something above stands above
 above-trans : (previous : Option Atom) (a b : Atom) → above previous a ≡ true → below a b ≡ true → above previous b ≡ true

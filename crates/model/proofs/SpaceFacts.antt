@@ -33,7 +33,7 @@ two-sided : (rules : List Transition) → (kindOf rules ≡ attribute → ⊥) �
     → (isEmpty (r .start) ≡ false) × (isEmpty (r .finish) ≡ false)
 two-sided rules other r m =
     let both : (isEmpty (r .start) || isEmpty (r .finish)) ≡ false =
-          by-test (isEmpty (r .start) || isEmpty (r .finish)) (λ e. absurd (other (one-sided-attribute rules r m e))) (λ e. e) in
+    by-test (isEmpty (r .start) || isEmpty (r .finish)) (λ e. absurd (other (one-sided-attribute rules r m e))) (λ e. e) in
     (or-false-left (isEmpty (r .start)) (isEmpty (r .finish)) both, or-false-right (isEmpty (r .start)) (isEmpty (r .finish)) both)
 
 pub property-rules : (rules : List Transition) → kindOf rules ≡ property → (r : Transition) → List·Memᴰ r rules
@@ -66,9 +66,10 @@ module _ (t : Task) where
   at-label : (l c : ℕ) → member c (propertiesAt t l) ≡ true → (c < length (properties t)) × (label (groups t) c ≡ l)
   unfolding propertiesAt
   at-label l c e =
-      let below = kept-below (λ d. eqb (getD (groups t) d 0) l) (length (groups t)) c e in
-      ( subst (λ (n : ℕ). c < n) (lowest .sized) below
-      , eqb-true (getD (groups t) c 0) l (sym (member-keep-upTo (λ d. eqb (getD (groups t) d 0) l) (length (groups t)) c below) ∙ e) )
+      let below = kept-below (λ d. eqb (getD (groups t) d 0) l) (length (groups t)) c e in (
+        subst (λ (n : ℕ). c < n) (lowest .sized) below,
+        eqb-true (getD (groups t) c 0) l (sym (member-keep-upTo (λ d. eqb (getD (groups t) d 0) l) (length (groups t)) c below) ∙ e),
+      )
 
   to-label : (l c : ℕ) → c < length (properties t) → label (groups t) c ≡ l → member c (propertiesAt t l) ≡ true
   unfolding propertiesAt
@@ -88,13 +89,14 @@ module _ (t : Task) where
   space-of c h =
       let l = label (groups t) c in
       let own : List·Memᴰ l (labels t) =
-            keep-intro (λ x. eqb (getD (groups t) x 0) x) (upTo (length (groups t))) l
-            (upTo-intro (length (groups t)) l
-              (subst (λ (n : ℕ). l < n) (sym (lowest .sized)) (label-known (length (properties t)) (groups t) lowest c h)))
-            (eq-eqb (label (groups t) l) l (lowest .own c h)) in
-      ( spaceWith t (belongs t) l
-      , subst (List·Memᴰ (spaceWith t (belongs t) l)) (sym (spaces-alone t)) (Memᴰ·map (spaceWith t (belongs t)) own)
-      , to-label l c h refl )
+      keep-intro (λ x. eqb (getD (groups t) x 0) x) (upTo (length (groups t))) l
+      (upTo-intro (length (groups t)) l
+      (subst (λ (n : ℕ). l < n) (sym (lowest .sized)) (label-known (length (properties t)) (groups t) lowest c h)))
+      (eq-eqb (label (groups t) l) l (lowest .own c h)) in (
+        spaceWith t (belongs t) l,
+        subst (List·Memᴰ (spaceWith t (belongs t) l)) (sym (spaces-alone t)) (Memᴰ·map (spaceWith t (belongs t)) own),
+        to-label l c h refl,
+      )
 
   -- and in no other
   pub space-unique : (s s′ : Space) → List·Memᴰ s (spaces t) → List·Memᴰ s′ (spaces t) → (c : ℕ)
@@ -103,8 +105,8 @@ module _ (t : Task) where
   space-unique s s′ m m′ c =
       of-labels (λ u. member c (u .properties) ≡ true → member c (s′ .properties) ≡ true → u ≡ s′)
       (λ l k.
-        of-labels (λ u′. member c (propertiesAt t l) ≡ true → member c (u′ .properties) ≡ true → spaceWith t (belongs t) l ≡ u′)
-        (λ l′ k′ e e′. ap (spaceWith t (belongs t)) (sym (at-label l c e .1) ∙ at-label l′ c e′ .1)) s′ m′)
+      of-labels (λ u′. member c (propertiesAt t l) ≡ true → member c (u′ .properties) ≡ true → spaceWith t (belongs t) l ≡ u′)
+      (λ l′ k′ e e′. ap (spaceWith t (belongs t)) (sym (at-label l c e .1) ∙ at-label l′ c e′ .1)) s′ m′)
       s m
 
   module _ (s : Space) (m : List·Memᴰ s (spaces t)) where
@@ -125,10 +127,11 @@ module _ (t : Task) where
     rule-in-one-space r k c j =
         of-labels
         (λ u. member c (u .properties) ≡ true
-          → ((d : ℕ) → List·Memᴰ d (moved r) → member d (u .properties) ≡ true) × List·Memᴰ r (u .rules))
-        (λ l n e.
-          ( λ d i. to-label l d (moved-known t r k d i) (shared r k d c i j ∙ at-label l c e .1)
-          , keep-intro (moves (propertiesAt t l)) (transitions t) r k (any-intro (λ x. member x (propertiesAt t l)) (moved r) c j e) ))
+        → ((d : ℕ) → List·Memᴰ d (moved r) → member d (u .properties) ≡ true) × List·Memᴰ r (u .rules))
+        (λ l n e. (
+          λ d i. to-label l d (moved-known t r k d i) (shared r k d c i j ∙ at-label l c e .1),
+          keep-intro (moves (propertiesAt t l)) (transitions t) r k (any-intro (λ x. member x (propertiesAt t l)) (moved r) c j e),
+        ))
         s m
 
     -- the rules of a space are rules of the task that move one of its properties
@@ -138,10 +141,10 @@ module _ (t : Task) where
     rules-of-space r =
         of-labels
         (λ u. List·Memᴰ r (u .rules)
-          → List·Memᴰ r (transitions t) × ((c : ℕ) × List·Memᴰ c (moved r) × (member c (u .properties) ≡ true)))
+        → List·Memᴰ r (transitions t) × ((c : ℕ) × List·Memᴰ c (moved r) × (member c (u .properties) ≡ true)))
         (λ l n k.
-          let kept = keep-at (moves (propertiesAt t l)) (transitions t) r k in
-          (kept .0, any-at (λ c. member c (propertiesAt t l)) (moved r) (kept .1)))
+        let kept = keep-at (moves (propertiesAt t l)) (transitions t) r k in
+        (kept .0, any-at (λ c. member c (propertiesAt t l)) (moved r) (kept .1)))
         s m
 
     -- the rules of a space move its properties alone
@@ -167,9 +170,9 @@ module _ (t : Task) where
     initial-members o h =
         of-labels (λ u. isEmpty (condition t (u .properties) (t .facts) o) ≡ false → member o (u .members) ≡ true)
         (λ l k e.
-          member-keep-upTo (λ x. belongs t x l) (t .objects) o h
-          ∙ repeat-adds (labels t) (step t) (step-adds t) (length (labels t)) (opens t o) l
-            (to-not-true (isEmpty (condition t (propertiesAt t l) (t .facts) o)) e))
+        member-keep-upTo (λ x. belongs t x l) (t .objects) o h
+        ∙ repeat-adds (labels t) (step t) (step-adds t) (length (labels t)) (opens t o) l
+        (to-not-true (isEmpty (condition t (propertiesAt t l) (t .facts) o)) e))
         s m
 
     -- members are objects of the task, each once
@@ -188,15 +191,15 @@ module _ (t : Task) where
     fixed-members started o =
         of-labels
         (λ u. ((r : Transition) → List·Memᴰ r (u .rules) → isEmpty (r .start) ≡ false) → member o (u .members) ≡ true
-          → isEmpty (condition t (u .properties) (t .facts) o) ≡ false)
+        → isEmpty (condition t (u .properties) (t .facts) o) ≡ false)
         (λ l k starts e.
-          let leaves : (f : ℕ → Bool) → step t f l ≡ f l =
-                λ f.
-                  or-neutral (f l) (any (admitted t f) (rulesAt t l))
-                  (any-false (admitted t f) (rulesAt t l) (λ r j. and-false-left (isEmpty (r .start)) _ (starts r j))) in
-          not-true (isEmpty (condition t (propertiesAt t l) (t .facts) o))
-          (sym (repeat-leaves (labels t) (step t) l leaves (length (labels t)) (opens t o))
-          ∙ sym (member-keep-upTo (λ x. belongs t x l) (t .objects) o (kept-below (λ x. belongs t x l) (t .objects) o e)) ∙ e))
+        let leaves : (f : ℕ → Bool) → step t f l ≡ f l =
+        λ f.
+        or-neutral (f l) (any (admitted t f) (rulesAt t l))
+        (any-false (admitted t f) (rulesAt t l) (λ r j. and-false-left (isEmpty (r .start)) _ (starts r j))) in
+        not-true (isEmpty (condition t (propertiesAt t l) (t .facts) o))
+        (sym (repeat-leaves (labels t) (step t) l leaves (length (labels t)) (opens t o))
+        ∙ sym (member-keep-upTo (λ x. belongs t x l) (t .objects) o (kept-below (λ x. belongs t x l) (t .objects) o e)) ∙ e))
         s m started
 
     -- so have property spaces and static spaces
