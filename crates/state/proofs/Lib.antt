@@ -1,1 +1,2 @@
 pub mod Ascending
+pub mod Shifting

@@ -47,7 +47,7 @@ pub fn find(numbers: &[u32], n: u32) -> Found
 }
 
 // The number at a place goes, and those after it move down.
-fn close(numbers: &mut [u32], at: usize, count: usize)
+fn close_gap(numbers: &mut [u32], at: usize, count: usize)
     requires { ⌜ (at < count) × (count ≤ length (now numbers)) ⌝ }
     ensures { λ r. ⌜ now (numbers .exit) ≡ closed at count (now (numbers .entry)) ⌝ }
 {
@@ -59,7 +59,7 @@ fn close(numbers: &mut [u32], at: usize, count: usize)
 }
 
 // A number comes to a place, and those from there on move up.
-fn open(numbers: &mut [u32], at: usize, count: usize, n: u32)
+fn make_room(numbers: &mut [u32], at: usize, count: usize, n: u32)
     requires { ⌜ (at ≤ count) × (count < length (now numbers)) ⌝ }
     ensures { λ r. ⌜ now (numbers .exit) ≡ opened at count n (now (numbers .entry)) ⌝ }
 {
@@ -80,7 +80,7 @@ pub fn remove(numbers: &mut [u32], count: usize, n: u32) -> usize
     let Found::At(at) = there else {
         return count;
     };
-    close(numbers, at, count);
+    close_gap(numbers, at, count);
     count - 1
 }
 
@@ -93,6 +93,6 @@ pub fn insert(numbers: &mut [u32], count: usize, n: u32) -> usize
     let Found::Missing(at) = there else {
         return count;
     };
-    open(numbers, at, count, n);
+    make_room(numbers, at, count, n);
     count + 1
 }
