@@ -1,2 +1,3 @@
 pub mod Ascending
 pub mod Shifting
+pub mod Changing

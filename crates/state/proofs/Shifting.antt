@@ -61,17 +61,20 @@ closing-step at count was i now c h k =
          back = drop-set-lt (suc i) now i _ (le-refl (suc i)) ∙ kept-behind i was now (c .back)
        }
 
-pub closing-end : (at count : ℕ) (was : List ℕ) (i : ℕ) (now : List ℕ) → Closing at count was i now → count ≤ suc i → now ≡ closed at count was
+pub closing-end :
+    (at count : ℕ) (was : List ℕ) (i : ℕ) (now : List ℕ) → Closing at count was i now → count ≤ suc i → count ≤ length was
+    → set now i 0 ≡ closed at count was
 unfolding closed
-closing-end at count was i now c h =
+closing-end at count was i now c h k =
     let high = c .high in
+    let size = c .size in
     let last : suc i ≡ count = omega arith in
-    let all-moved : drop (suc i) (take count was) ≡ [] = (ap (λ (k : ℕ). drop k (take count was)) last ∙ drop-take count was) in
-    let before : i ≡ count - 1 = omega arith in
-    sym (take-append-drop i now)
-    ∙ ap (λ (l : List ℕ). take i now ++ l) (c .back ∙ ap (λ (k : ℕ). drop k was) before)
-    ∙ ap (λ (l : List ℕ). l ++ drop (count - 1) was)
+    let all-moved : drop (suc i) (take count was) ≡ [] = (ap (λ (m : ℕ). drop m (take count was)) last ∙ drop-take count was) in
+    set-split now i 0 (omega arith)
+    ∙ ap (λ (l : List ℕ). l ++ 0 ∷ drop (suc i) now)
       (sym (append-nil (take i now)) ∙ ap (λ (l : List ℕ). take i now ++ l) (sym all-moved) ∙ c .front)
+    ∙ ap (λ (l : List ℕ). take at was ++ drop (suc at) (take count was) ++ 0 ∷ l)
+      (kept-behind i was now (c .back) ∙ ap (λ (m : ℕ). drop m was) last)
   where
     append-nil : (xs : List ℕ) → xs ++ [] ≡ xs
     append-nil [] = refl

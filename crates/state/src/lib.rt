@@ -5,7 +5,7 @@ ghost use mathlib.Core.Path.{_≡_};
 ghost use mathlib.Core.List.{_++_};
 ghost use lib.ListN.{length, take, drop};
 ghost use Rattle.laws.specs.Lists.{member};
-ghost use Rattle.state.specs.Numbers.{rising, place, found, without, inserted, withoutAll, insertedAll, closed, opened, Writes};
+ghost use Rattle.state.specs.Numbers.{rising, place, found, without, inserted, withoutAll, insertedAll, closed, opened, Holds, Becomes};
 
 // Where a number stands on an ascending list, or where it would stand.
 pub enum Found {
@@ -46,7 +46,7 @@ pub fn find(numbers: &[u32], n: u32) -> Found
     }
 }
 
-// The number at a place goes, and those after it move down.
+// The number at a place goes, those after it move down, and 0 comes behind them.
 fn close_gap(numbers: &mut [u32], at: usize, count: usize)
     requires { ⌜ (at < count) × (count ≤ length (now numbers)) ⌝ }
     ensures { λ r. ⌜ now (numbers .exit) ≡ closed at count (now (numbers .entry)) ⌝ }
@@ -56,6 +56,7 @@ fn close_gap(numbers: &mut [u32], at: usize, count: usize)
         numbers[i] = numbers[i + 1];
         i = i + 1;
     }
+    numbers[i] = 0;
 }
 
 // A number comes to a place, and those from there on move up.
@@ -73,8 +74,8 @@ fn make_room(numbers: &mut [u32], at: usize, count: usize, n: u32)
 
 // Takes a number out of the first `count`.
 pub fn remove(numbers: &mut [u32], count: usize, n: u32) -> usize
-    requires { ⌜ (count ≤ length (now numbers)) × (rising 0 (take count (now numbers)) ≡ true) ⌝ }
-    ensures { λ r. ⌜ Writes (without n (take count (now (numbers .entry)))) (now (numbers .entry)) (now (numbers .exit)) r ⌝ }
+    requires { ⌜ Holds count (now numbers) ⌝ }
+    ensures { λ r. ⌜ Becomes (without n (take count (now (numbers .entry)))) (now (numbers .entry)) (now (numbers .exit)) r ⌝ }
 {
     let there = find(&numbers[0..count], n);
     let Found::At(at) = there else {
@@ -86,8 +87,8 @@ pub fn remove(numbers: &mut [u32], count: usize, n: u32) -> usize
 
 // Puts a number into its place among the first `count`; nothing changes if it is there.
 pub fn insert(numbers: &mut [u32], count: usize, n: u32) -> usize
-    requires { ⌜ (count < length (now numbers)) × (rising 0 (take count (now numbers)) ≡ true) ⌝ }
-    ensures { λ r. ⌜ Writes (inserted n (take count (now (numbers .entry)))) (now (numbers .entry)) (now (numbers .exit)) r ⌝ }
+    requires { ⌜ (count < length (now numbers)) × Holds count (now numbers) ⌝ }
+    ensures { λ r. ⌜ Becomes (inserted n (take count (now (numbers .entry)))) (now (numbers .entry)) (now (numbers .exit)) r ⌝ }
 {
     let there = find(&numbers[0..count], n);
     let Found::Missing(at) = there else {
@@ -95,4 +96,32 @@ pub fn insert(numbers: &mut [u32], count: usize, n: u32) -> usize
     };
     make_room(numbers, at, count, n);
     count + 1
+}
+
+// Takes numbers out, one after the other.
+pub fn remove_all(numbers: &mut [u32], count: usize, out: &[u32]) -> usize
+    requires { ⌜ Holds count (now numbers) ⌝ }
+    ensures { λ r. ⌜ Becomes (withoutAll (now (out .entry)) (take count (now (numbers .entry)))) (now (numbers .entry)) (now (numbers .exit)) r ⌝ }
+{
+    let mut left = count;
+    let mut i = 0;
+    while i < out.len() {
+        left = remove(numbers, left, out[i]);
+        i = i + 1;
+    }
+    left
+}
+
+// Puts numbers in, one after the other.
+pub fn insert_all(numbers: &mut [u32], count: usize, new: &[u32]) -> usize
+    requires { ⌜ (count + length (now new) ≤ length (now numbers)) × Holds count (now numbers) ⌝ }
+    ensures { λ r. ⌜ Becomes (insertedAll (now (new .entry)) (take count (now (numbers .entry)))) (now (numbers .entry)) (now (numbers .exit)) r ⌝ }
+{
+    let mut held = count;
+    let mut i = 0;
+    while i < new.len() {
+        held = insert(numbers, held, new[i]);
+        i = i + 1;
+    }
+    held
 }

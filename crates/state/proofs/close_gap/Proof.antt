@@ -1,6 +1,8 @@
 -- The numbers after the gap move down one by one.
 use Prim.Native.Nat.{ℕ, _-_, _≤_}
 use native.Mathlib.Omega.{arith}
+use mathlib.Core.Path.{_≡_, _∙_}
+use lib.ListN.{length-set}
 use Rattle.state.proofs.Shifting.{Closing, closing-start, closing-step, closing-end}
 use Rattle.state.proofs.close_gap.Statement.{statement}
 use Rattle.state.proofs.close_gap.Tie as tie
@@ -44,16 +46,22 @@ loop-again c =
     let head = c .before .before .loop in
     closing-step (start .args .at) (start .args .count) (start .args .numbers .now) (head .i) (head .numbers) (head .inv) (omega arith) (start .pre .1)
 
+mul-numbers-3 : tie.Need-mul-numbers-3 Inv-loop μ-loop
+mul-numbers-3 c = omega arith
+
+slice-write-numbers-2 : tie.Need-slice-write-numbers-2 Inv-loop μ-loop
+slice-write-numbers-2 c = omega arith
+
 same-length : tie.Need-same-length Inv-loop μ-loop
-same-length c = c .before .loop .inv .size
+same-length c = length-set (c .before .loop .numbers) _ _ ∙ c .before .loop .inv .size
 
 returns : tie.Need-returns Inv-loop μ-loop
 returns c =
     let start = c .before .before in
     let head = c .before .loop in
-    closing-end (start .args .at) (start .args .count) (start .args .numbers .now) (head .i) (head .numbers) (head .inv) (omega arith)
+    closing-end (start .args .at) (start .args .count) (start .args .numbers .now) (head .i) (head .numbers) (head .inv) (omega arith) (start .pre .1)
 
 pub close-gap-spec : {M : Type 1} → statement M
 close-gap-spec =
     tie.close
-    (tie.spec Inv-loop μ-loop loop-holds add-loop add-numbers mul-numbers slice-read-numbers mul-numbers-2 slice-write-numbers add-i loop-less loop-again same-length returns)
+    (tie.spec Inv-loop μ-loop loop-holds add-loop add-numbers mul-numbers slice-read-numbers mul-numbers-2 slice-write-numbers add-i loop-less loop-again mul-numbers-3 slice-write-numbers-2 same-length returns)

@@ -1,72 +1,88 @@
+-- A number that is not found comes to its place, where room is made; one that is found leaves the list.
+use Prim.Native.Nat.{ℕ, _<_}
+use native.Mathlib.Nat.{le-of-lt}
+use native.Mathlib.Omega.{arith}
+use mathlib.Core.Path.{_≡_, sym, ap, _∙_}
+use mathlib.Core.Bool.{Bool, false}
+use mathlib.Core.List.{List}
+use lib.ListN.{take}
+use lib.Seq.{length-take-le}
 use borrow.Author.Needs.{needs}
+use Rattle.laws.specs.Lists.{member}
+use Rattle.state.specs.Numbers.{rising, place, found}
+use Rattle.state.proofs.Ascending.{place-within}
+use Rattle.state.proofs.Changing.{part-front, found-there, found-missing, inserted-again, inserted-new}
 use Rattle.state.proofs.insert.Statement.{statement}
 use Rattle.state.proofs.insert.Tie as tie
-use Rattle.state.proofs.insert.Reads as reads
-use Rattle.state.proofs.insert.Lts as lts
-use Rattle.state.proofs.find.Reads as find-reads
-use Rattle.state.proofs.make_room.Reads as make-room-reads
 
--- src/lib.rt:92:22
 sub-find : tie.Need-sub-find
 sub-find c = search needs
 
--- src/lib.rt:92:22
 part-find-start : tie.Need-part-find-start
 part-find-start c = search needs
 
--- src/lib.rt:92:22
 part-find-end : tie.Need-part-find-end
 part-find-end c = search needs
 
--- src/lib.rt:92:9
 find-requires : tie.Need-find-requires
-find-requires c κs = ?
+find-requires c κs =
+    let start = c .before .before .before in
+    ap (rising 0) (part-front (start .args .count) (start .args .numbers .now)) ∙ start .pre .1 .ascends
 
--- src/lib.rt:93:24
 enum-known-there : tie.Need-enum-known-there
 enum-known-there c = search needs
 
--- src/lib.rt:94:9
 enum-told : tie.Need-enum-told
 enum-told c = search needs
 
--- src/lib.rt:94:9
 same-length : tie.Need-same-length
 same-length c = search needs
 
--- src/lib.rt:94:9
 returns : tie.Need-returns
-returns c = ?
+returns c =
+    let start = c .before .before .before .before .before .before in
+    let list : List ℕ = start .args .numbers .now in
+    let told = found-there _ (start .args .n) _ (take (start .args .count) list)
+        (c .before .before .find .ensures ∙ ap (found (start .args .n)) (part-front (start .args .count) list)) (c .enum-told .given .1) in
+    inserted-again (start .args .count) (start .args .n) list (start .pre .1) (told .0)
 
--- src/lib.rt:96:5
+-- where the number was not found
+abbrev list : tie.After-there → List ℕ
+list c = let start = c .before .before .before .before .before .before in take (start .args .count) (start .args .numbers .now)
+
+abbrev n : tie.After-there → ℕ
+n c = c .before .before .before .before .before .before .args .n
+
+told : (c : tie.After-there) → (member (n c) (list c) ≡ false) × (c .there .given .0 .0 ≡ place (n c) (list c))
+told c =
+    let start = c .before .before .before .before .before .before in
+    found-missing _ (n c) _ (list c)
+    (c .before .before .find .ensures ∙ ap (found (n c)) (part-front (start .args .count) (start .args .numbers .now)))
+    (c .there .given .1)
+
 make-room-requires : tie.Need-make-room-requires
-make-room-requires c κs = ?
+make-room-requires c κs =
+    let there = c .before .before in
+    let start = there .before .before .before .before .before .before in
+    let size = length-take-le (start .args .count) (start .args .numbers .now) (le-of-lt (start .pre .0)) in
+    let inside = place-within (n there) (list there) in
+    let at = told there .1 in
+    (omega arith, start .pre .0)
 
--- src/lib.rt:97:5
 add-result : tie.Need-add-result
 add-result c = search needs
 
--- src/lib.rt:88:1
 same-length-2 : tie.Need-same-length-2
 same-length-2 c = search needs
 
--- src/lib.rt:88:1
 returns-2 : tie.Need-returns-2
-returns-2 c = ?
+returns-2 c =
+    let there = c .before .before .before .before .before in
+    let start = there .before .before .before .before .before .before in
+    inserted-new (start .args .count) (start .args .n) (start .args .numbers .now) (start .pre .1)
+    (there .there .given .0 .0) _ (start .pre .0) (told there .0) (told there .1) (c .before .before .make-room .ensures)
 
 pub insert-spec : {M : Type 1} → statement M
 insert-spec =
     tie.close
-    (tie.spec
-    sub-find
-    part-find-start
-    part-find-end
-    find-requires
-    enum-known-there
-    enum-told
-    same-length
-    returns
-    make-room-requires
-    add-result
-    same-length-2
-    returns-2)
+    (tie.spec sub-find part-find-start part-find-end find-requires enum-known-there enum-told same-length returns make-room-requires add-result same-length-2 returns-2)
