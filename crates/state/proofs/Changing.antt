@@ -15,7 +15,7 @@ use Rattle.laws.proofs.Tests.{never, by-test}
 use Rattle.state.specs.Numbers.{rising, place, found, without, inserted, closed, opened, filled, Holds, Becomes}
 use Rattle.state.specs.declared.Found.{Found}
 use Rattle.state.specs.declared.Found.the-variants.{At, Missing}
-use Rattle.state.proofs.Ascending.{place-within, member-past-end, without-absent, without-there, inserted-absent, inserted-there}
+use Rattle.state.proofs.Ascending.{place-within, member-past-end, without-rising, inserted-rising, length-without, length-inserted, without-absent, without-there, inserted-absent, inserted-there}
 
 -- a part from the front on
 pub part-front : (count : ℕ) (xs : List ℕ) → take (count - 0) xs ≡ take count xs
@@ -212,3 +212,47 @@ changing-start change ns before count holds =
       room = omega arith;
       fits = omega arith
     }
+
+-- what stands between two changes
+module _ (change : List ℕ → ℕ → List ℕ) (ns list before : List ℕ) (i : ℕ) (now : List ℕ) (r : ℕ) (c : Changing change ns list before i now r) where
+  pub changing-holds : Holds r now
+  changing-holds = left-holds (foldl change list (take i ns)) before now r (c .becomes) (c .fits) (c .ascends)
+
+  pub changing-length : length now ≡ length before
+  changing-length = left-length (foldl change list (take i ns)) before now r (c .becomes) (c .fits)
+
+  -- no more numbers than those at the start and one for each change
+  pub changing-count : r ≤ length list + i
+  changing-count = let counted = c .becomes .counted in let room = c .room in omega arith
+
+-- a number taken out after those before it
+abbrev pub takeOut : List ℕ → ℕ → List ℕ
+takeOut ms n = without n ms
+
+pub removing-step :
+    (ns list before : List ℕ) (i : ℕ) (now next : List ℕ) (r s : ℕ) → Changing takeOut ns list before i now r → i < length ns
+    → Becomes (without (getD ns i 0) (take r now)) now next s → Changing takeOut ns list before (i + 1) next s
+removing-step ns list before i now next r s c h b =
+    let holds = changing-holds takeOut ns list before i now r c in
+    let same = changing-length takeOut ns list before i now r c in
+    let few = holds .few in
+    let size = length-take-le r now few in
+    let fewer = length-without (getD ns i 0) (take r now) in
+    changing-step takeOut ns list before i now next r s c h b (without-rising (getD ns i 0) 0 (take r now) (holds .ascends))
+    (omega arith) (omega arith)
+
+-- a number put in after those before it
+abbrev pub putIn : List ℕ → ℕ → List ℕ
+putIn ms n = inserted n ms
+
+pub inserting-step :
+    (ns list before : List ℕ) (i : ℕ) (now next : List ℕ) (r s : ℕ) → Changing putIn ns list before i now r → i < length ns
+    → length list + length ns ≤ length before
+    → Becomes (inserted (getD ns i 0) (take r now)) now next s → Changing putIn ns list before (i + 1) next s
+inserting-step ns list before i now next r s c h enough b =
+    let holds = changing-holds putIn ns list before i now r c in
+    let count = changing-count putIn ns list before i now r c in
+    let size = length-take-le r now (holds .few) in
+    let more = length-inserted (getD ns i 0) (take r now) in
+    changing-step putIn ns list before i now next r s c h b (inserted-rising (getD ns i 0) 0 (take r now) zero-le (holds .ascends))
+    (omega arith) (omega arith)

@@ -1,63 +1,75 @@
+-- Numbers come one after the other.
+use Prim.Native.Nat.{ℕ, _+_, _-_, _≤_}
+use native.Mathlib.Omega.{arith}
+use mathlib.Core.List.{List}
+use lib.ListN.{length, take}
+use lib.Seq.{length-take-le}
+use Rattle.state.specs.Numbers.{insertedAll}
+use Rattle.state.proofs.Changing.{Changing, putIn, changing-start, changing-end, changing-holds, changing-length, changing-count, inserting-step}
 use Rattle.state.proofs.insert_all.Statement.{statement}
 use Rattle.state.proofs.insert_all.Tie as tie
-use Rattle.state.proofs.insert_all.Reads as reads
-use Rattle.state.proofs.insert_all.Lts as lts
-use Rattle.state.proofs.insert.Reads as insert-reads
 
 abbrev Inv-loop : tie.InvT-loop
-Inv-loop numbers₀ count new held₀ i₀ numbers held i = ?
+Inv-loop numbers₀ count new held₀ i₀ numbers held i = Changing putIn new (take count numbers₀) numbers₀ i numbers held
 
 abbrev μ-loop : tie.MeasureT-loop
-μ-loop numbers₀ count new held₀ i₀ numbers held i = ?
+μ-loop numbers₀ count new held₀ i₀ numbers held i = length new - i
 
--- src/lib.rt:122:5
 loop-holds : tie.Need-loop-holds Inv-loop μ-loop
-loop-holds c = ?
+loop-holds c =
+    let start = c .before .before in
+    changing-start putIn (start .args .new .now) (start .args .numbers .now) (start .args .count) (start .pre .1)
 
--- src/lib.rt:123:38
 mul-insert : tie.Need-mul-insert Inv-loop μ-loop
-mul-insert c = ?
+mul-insert c = omega arith
 
--- src/lib.rt:123:38
 shared-slice-read-insert : tie.Need-shared-slice-read-insert Inv-loop μ-loop
-shared-slice-read-insert c = ?
+shared-slice-read-insert c = omega arith
 
--- src/lib.rt:123:9
 insert-requires : tie.Need-insert-requires Inv-loop μ-loop
-insert-requires c κs = ?
+insert-requires c κs =
+    let start = c .before .before .before .before .before .before in
+    let head = c .before .before .before .loop in
+    let list : List ℕ = take (start .args .count) (start .args .numbers .now) in
+    let size = length-take-le (start .args .count) (start .args .numbers .now) (start .pre .1 .few) in
+    let same = changing-length putIn (start .args .new .now) list (start .args .numbers .now) (head .i) (head .numbers) (head .held) (head .inv) in
+    let count = changing-count putIn (start .args .new .now) list (start .args .numbers .now) (head .i) (head .numbers) (head .held) (head .inv) in
+    (omega arith,
+    changing-holds putIn (start .args .new .now) (take (start .args .count) (start .args .numbers .now)) (start .args .numbers .now)
+    (head .i) (head .numbers) (head .held) (head .inv))
 
--- src/lib.rt:124:13
 add-i : tie.Need-add-i Inv-loop μ-loop
-add-i c = ?
+add-i c = omega arith
 
--- src/lib.rt:122:5
 loop-less : tie.Need-loop-less Inv-loop μ-loop
-loop-less c = ?
+loop-less c = omega arith
 
--- src/lib.rt:122:5
 loop-again : tie.Need-loop-again Inv-loop μ-loop
-loop-again c = ?
+loop-again c =
+    let start = c .before .before .before .before .before .before .before .before .before in
+    let head = c .before .before .before .before .before .before .loop in
+    let size = length-take-le (start .args .count) (start .args .numbers .now) (start .pre .1 .few) in
+    let enough : length (take (start .args .count) (start .args .numbers .now)) + length (start .args .new .now) ≤ length (start .args .numbers .now) =
+        omega arith in
+    inserting-step (start .args .new .now) (take (start .args .count) (start .args .numbers .now)) (start .args .numbers .now)
+    (head .i) (head .numbers) _ (head .held) _ (head .inv) (omega arith) enough (c .before .before .insert .ensures)
 
--- src/lib.rt:116:1
 same-length : tie.Need-same-length Inv-loop μ-loop
-same-length c = ?
+same-length c =
+    let start = c .before .before .before .before in
+    let head = c .before .loop in
+    changing-length putIn (start .args .new .now) (take (start .args .count) (start .args .numbers .now)) (start .args .numbers .now)
+    (head .i) (head .numbers) (head .held) (head .inv)
 
--- src/lib.rt:116:1
 returns : tie.Need-returns Inv-loop μ-loop
-returns c = ?
+unfolding insertedAll
+returns c =
+    let start = c .before .before .before .before in
+    let head = c .before .loop in
+    changing-end putIn (start .args .new .now) (take (start .args .count) (start .args .numbers .now)) (start .args .numbers .now)
+    (head .i) (head .numbers) (head .held) (head .inv) (omega arith)
 
 pub insert-all-spec : {M : Type 1} → statement M
 insert-all-spec =
     tie.close
-    (tie.spec
-    Inv-loop
-    μ-loop
-    loop-holds
-    mul-insert
-    shared-slice-read-insert
-    insert-requires
-    add-i
-    loop-less
-    loop-again
-    same-length
-    returns)
+    (tie.spec Inv-loop μ-loop loop-holds mul-insert shared-slice-read-insert insert-requires add-i loop-less loop-again same-length returns)
