@@ -1,3 +1,0 @@
-pub mod Ascending
-pub mod Shifting
-pub mod Changing

@@ -6,7 +6,7 @@ use lib.Dec.{leb, ltb, eqb}
 use lib.ListN.{length, getD, take, drop, replicate}
 use Rattle.laws.specs.Lists.{all}
 use Rattle.model.specs.Card.{Atom, Task, between}
-use Rattle.model.specs.Strips.{filler, stateBytes, factBytes}
+use Rattle.model.specs.Strips.{filler, stateBytes, factBytes, rowRight}
 
 unfoldable pub rowNumber : List ℕ → ℕ
 rowNumber row = getD row 0 0 * 16777216 + getD row 1 0 * 65536 + getD row 2 0 * 256 + getD row 3 0
@@ -34,6 +34,17 @@ signature arities objects = record { arities = arities; objects = objects; schem
 -- every arity is 1 to 3
 unfoldable pub inRange : List ℕ → Bool
 inRange arities = all (between 1 3) arities
+
+-- the byte at place k of a row is right: a known object up to the arity, filler after it
+unfoldable pub placeRight : ℕ → ℕ → ℕ → ℕ → Bool
+placeRight objects arity k byte = cond (leb k arity) (ltb byte objects) (eqb byte filler)
+
+-- the first n rows are right, and their numbers ascend from `least` on
+unfoldable pub rowsIn : Task → ℕ → ℕ → List ℕ → Bool
+rowsIn t least zero buffer = true
+rowsIn t least (suc n) buffer =
+    rowRight t (take 4 buffer) && leb least (rowNumber (take 4 buffer))
+    && rowsIn t (suc (rowNumber (take 4 buffer))) n (drop 4 buffer)
 
 -- rows written to the front of a buffer, then 0 up to byte 4,096; the bytes beyond are unchanged
 unfoldable pub stored : List ℕ → List ℕ → List ℕ

@@ -3,9 +3,9 @@ use Prim.Native.Nat.{ℕ, _-_, _≤_}
 use native.Mathlib.Omega.{arith}
 use mathlib.Core.Path.{_≡_, _∙_}
 use lib.ListN.{length-set}
-use Rattle.state.proofs.Shifting.{Opening, opening-start, opening-step, opening-end}
-use Rattle.state.proofs.make_room.Statement.{statement}
-use Rattle.state.proofs.make_room.Tie as tie
+use Rattle.sets.proofs.Shifting.{Opening, opening-start, opening-step, opening-end}
+use Rattle.sets.proofs.make_room.Statement.{statement}
+use Rattle.sets.proofs.make_room.Tie as tie
 
 abbrev Inv-loop : tie.InvT-loop
 Inv-loop numbers₀ at count n i₀ numbers i = Opening at count numbers₀ i numbers

@@ -4,10 +4,10 @@ use native.Mathlib.Omega.{arith}
 use mathlib.Core.List.{List}
 use lib.ListN.{length, take}
 use lib.Seq.{length-take-le}
-use Rattle.state.specs.Numbers.{insertedAll}
-use Rattle.state.proofs.Changing.{Changing, putIn, changing-start, changing-end, changing-holds, changing-length, changing-count, inserting-step}
-use Rattle.state.proofs.insert_all.Statement.{statement}
-use Rattle.state.proofs.insert_all.Tie as tie
+use Rattle.sets.specs.Numbers.{insertedAll}
+use Rattle.sets.proofs.Changing.{Changing, putIn, changing-start, changing-end, changing-holds, changing-length, changing-count, inserting-step}
+use Rattle.sets.proofs.insert_all.Statement.{statement}
+use Rattle.sets.proofs.insert_all.Tie as tie
 
 abbrev Inv-loop : tie.InvT-loop
 Inv-loop numbers₀ count new held₀ i₀ numbers held i = Changing putIn new (take count numbers₀) numbers₀ i numbers held

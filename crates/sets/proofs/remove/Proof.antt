@@ -8,10 +8,10 @@ use lib.ListN.{take}
 use lib.Seq.{length-take-le}
 use borrow.Author.Needs.{needs}
 use Rattle.laws.specs.Lists.{member}
-use Rattle.state.specs.Numbers.{rising, place, found}
-use Rattle.state.proofs.Changing.{part-front, found-there, found-missing, there-within, removed-missing, removed-there}
-use Rattle.state.proofs.remove.Statement.{statement}
-use Rattle.state.proofs.remove.Tie as tie
+use Rattle.sets.specs.Numbers.{rising, place, found}
+use Rattle.sets.proofs.Changing.{part-front, found-there, found-missing, there-within, removed-missing, removed-there}
+use Rattle.sets.proofs.remove.Statement.{statement}
+use Rattle.sets.proofs.remove.Tie as tie
 
 sub-find : tie.Need-sub-find
 sub-find c = search needs

@@ -9,11 +9,11 @@ use lib.ListN.{take}
 use lib.Seq.{length-take-le}
 use borrow.Author.Needs.{needs}
 use Rattle.laws.specs.Lists.{member}
-use Rattle.state.specs.Numbers.{rising, place, found}
-use Rattle.state.proofs.Ascending.{place-within}
-use Rattle.state.proofs.Changing.{part-front, found-there, found-missing, inserted-again, inserted-new}
-use Rattle.state.proofs.insert.Statement.{statement}
-use Rattle.state.proofs.insert.Tie as tie
+use Rattle.sets.specs.Numbers.{rising, place, found}
+use Rattle.sets.proofs.Ascending.{place-within}
+use Rattle.sets.proofs.Changing.{part-front, found-there, found-missing, inserted-again, inserted-new}
+use Rattle.sets.proofs.insert.Statement.{statement}
+use Rattle.sets.proofs.insert.Tie as tie
 
 sub-find : tie.Need-sub-find
 sub-find c = search needs

@@ -3,10 +3,10 @@ use Prim.Native.Nat.{ℕ, _-_}
 use native.Mathlib.Omega.{arith}
 use mathlib.Core.List.{List}
 use lib.ListN.{length, take}
-use Rattle.state.specs.Numbers.{withoutAll}
-use Rattle.state.proofs.Changing.{Changing, takeOut, changing-start, changing-end, changing-holds, changing-length, removing-step}
-use Rattle.state.proofs.remove_all.Statement.{statement}
-use Rattle.state.proofs.remove_all.Tie as tie
+use Rattle.sets.specs.Numbers.{withoutAll}
+use Rattle.sets.proofs.Changing.{Changing, takeOut, changing-start, changing-end, changing-holds, changing-length, removing-step}
+use Rattle.sets.proofs.remove_all.Statement.{statement}
+use Rattle.sets.proofs.remove_all.Tie as tie
 
 abbrev Inv-loop : tie.InvT-loop
 Inv-loop numbers₀ count out left₀ i₀ numbers left i = Changing takeOut out (take count numbers₀) numbers₀ i numbers left

@@ -12,10 +12,10 @@ use lib.ListN.{length, getD, take, drop, replicate, length-append, length-drop, 
 use lib.Seq.{take-take, take-all, take-at, drop-at, drop-drop, length-take-le}
 use Rattle.laws.specs.Lists.{member}
 use Rattle.laws.proofs.Tests.{never, by-test}
-use Rattle.state.specs.Numbers.{rising, place, found, without, inserted, closed, opened, filled, Holds, Becomes}
-use Rattle.state.specs.declared.Found.{Found}
-use Rattle.state.specs.declared.Found.the-variants.{At, Missing}
-use Rattle.state.proofs.Ascending.{place-within, member-past-end, without-rising, inserted-rising, length-without, length-inserted, without-absent, without-there, inserted-absent, inserted-there}
+use Rattle.sets.specs.Numbers.{rising, place, found, without, inserted, closed, opened, filled, Holds, Becomes}
+use Rattle.sets.specs.declared.Found.{Found}
+use Rattle.sets.specs.declared.Found.the-variants.{At, Missing}
+use Rattle.sets.proofs.Ascending.{place-within, member-past-end, without-rising, inserted-rising, length-without, length-inserted, without-absent, without-there, inserted-absent, inserted-there}
 
 -- a part from the front on
 pub part-front : (count : ℕ) (xs : List ℕ) → take (count - 0) xs ≡ take count xs

@@ -7,7 +7,7 @@ use mathlib.Core.Path.{_≡_, refl, sym, ap, _∙_, subst}
 use mathlib.Core.List.{List, [], _∷_, _++_, append-assoc}
 use lib.ListN.{length, getD, take, drop, set, length-set, length-take, take-append-drop, drop-of-length-le}
 use lib.Seq.{take-suc-set, take-set-le, take-take, take-suc, drop-set-lt, drop-cons, drop-drop, getD-take, getD-drop, getD-set-same, set-split, length-take-le}
-use Rattle.state.specs.Numbers.{closed, opened}
+use Rattle.sets.specs.Numbers.{closed, opened}
 
 -- nothing is left behind a front part's own length
 drop-take : (n : ℕ) (xs : List ℕ) → drop n (take n xs) ≡ []

@@ -3,9 +3,9 @@ use Prim.Native.Nat.{ℕ, _-_, _≤_}
 use native.Mathlib.Omega.{arith}
 use mathlib.Core.Path.{_≡_, _∙_}
 use lib.ListN.{length-set}
-use Rattle.state.proofs.Shifting.{Closing, closing-start, closing-step, closing-end}
-use Rattle.state.proofs.close_gap.Statement.{statement}
-use Rattle.state.proofs.close_gap.Tie as tie
+use Rattle.sets.proofs.Shifting.{Closing, closing-start, closing-step, closing-end}
+use Rattle.sets.proofs.close_gap.Statement.{statement}
+use Rattle.sets.proofs.close_gap.Tie as tie
 
 abbrev Inv-loop : tie.InvT-loop
 Inv-loop numbers₀ at count i₀ numbers i = Closing at count numbers₀ i numbers

@@ -10,7 +10,7 @@ use lib.ListN.{length, getD, take, drop}
 use borrow.Author.Tests.{eqb-true, eqb-false, eq-eqb, ne-eqb, ltb-true, ltb-false, lt-ltb, le-ltb, leb-true, le-leb}
 use Rattle.laws.specs.Lists.{any, keep, member}
 use Rattle.laws.proofs.Tests.{never, and-left, and-right, and-intro, or-false-left, or-false-right, or-false-intro, cond-true, cond-false, by-test}
-use Rattle.state.specs.Numbers.{rising, place, without, inserted, withoutAll, insertedAll}
+use Rattle.sets.specs.Numbers.{rising, place, without, inserted, withoutAll, insertedAll}
 
 -- the first number of an ascending list is at or above the bound, and the rest ascends from above it
 pub rising-first : (bound n : ℕ) (ns : List ℕ) → rising bound (n ∷ ns) ≡ true → bound ≤ n

@@ -2,10 +2,10 @@
 use Prim.Native.Nat.{ℕ, _+_, _-_, _/_, _≤_}
 use native.Mathlib.Omega.{arith}
 use lib.ListN.{length}
-use Rattle.state.specs.Numbers.{place}
-use Rattle.state.proofs.Ascending.{place-within, place-past, place-up-to}
-use Rattle.state.proofs.place.Statement.{statement}
-use Rattle.state.proofs.place.Tie as tie
+use Rattle.sets.specs.Numbers.{place}
+use Rattle.sets.proofs.Ascending.{place-within, place-past, place-up-to}
+use Rattle.sets.proofs.place.Statement.{statement}
+use Rattle.sets.proofs.place.Tie as tie
 
 abbrev Inv-loop : tie.InvT-loop
 Inv-loop numbers n low₀ high₀ low high = (low ≤ place n numbers) × (place n numbers ≤ high) × (high ≤ length numbers)

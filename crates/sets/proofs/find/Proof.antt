@@ -8,12 +8,12 @@ use lib.ListN.{length, getD}
 use borrow.Author.Needs.{needs}
 use borrow.Author.Tests.{eq-eqb, ne-eqb}
 use Rattle.laws.specs.Lists.{member}
-use Rattle.state.specs.Numbers.{rising, place, found}
-use Rattle.state.specs.declared.Found.{Found}
-use Rattle.state.specs.declared.Found.the-variants.{At, Missing}
-use Rattle.state.proofs.Ascending.{member-at-place, member-past-end}
-use Rattle.state.proofs.find.Statement.{statement}
-use Rattle.state.proofs.find.Tie as tie
+use Rattle.sets.specs.Numbers.{rising, place, found}
+use Rattle.sets.specs.declared.Found.{Found}
+use Rattle.sets.specs.declared.Found.the-variants.{At, Missing}
+use Rattle.sets.proofs.Ascending.{member-at-place, member-past-end}
+use Rattle.sets.proofs.find.Statement.{statement}
+use Rattle.sets.proofs.find.Tie as tie
 
 -- what is found, by whether the number is on the list
 found-by : (n i : ℕ) (ns : List ℕ) (b : Bool) → i ≡ place n ns → member n ns ≡ b → cond b (At i) (Missing i) ≡ found n ns
