@@ -1,15 +1,19 @@
+-- A place up to the arity holds an object, one after it filler.
+use mathlib.Core.Path.{_≡_, sym, _∙_}
+use lib.Dec.{ltb, leb, eqb}
+use borrow.Author.Tests.{le-leb, lt-leb}
+use Rattle.laws.proofs.Tests.{cond-true, cond-false}
+use Rattle.state.specs.Rows.{placeRight}
 use Rattle.state.proofs.place_right.Statement.{statement}
 use Rattle.state.proofs.place_right.Tie as tie
-use Rattle.state.proofs.place_right.Reads as reads
-use Rattle.state.proofs.place_right.Lts as lts
 
--- src/lib.rt:41:1
 returns : tie.Need-returns
-returns c = ?
+unfolding placeRight
+returns c = sym (cond-true _ _ _ (le-leb _ _ (c .if1 .taken)))
 
--- src/lib.rt:41:1
 returns-2 : tie.Need-returns-2
-returns-2 c = ?
+unfolding placeRight
+returns-2 c = sym (cond-false _ _ _ (lt-leb _ _ (c .if1 .left)))
 
 pub place-right-spec : {M : Type 1} → statement M
 place-right-spec = tie.close (tie.spec returns returns-2)

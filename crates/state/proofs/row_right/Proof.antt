@@ -7,11 +7,11 @@ use Rattle.state.proofs.place_right.Reads as place-right-reads
 
 -- src/lib.rt:56:14
 mul-at : tie.Need-mul-at
-mul-at c = search needs
+mul-at c = ?
 
 -- src/lib.rt:57:21
 shared-slice-read-predicate : tie.Need-shared-slice-read-predicate
-shared-slice-read-predicate c = search needs
+shared-slice-read-predicate c = ?
 
 -- src/lib.rt:57:21
 cast-predicate : tie.Need-cast-predicate
@@ -23,19 +23,19 @@ returns c = ?
 
 -- src/lib.rt:61:17
 shared-slice-read-arity : tie.Need-shared-slice-read-arity
-shared-slice-read-arity c = search needs
+shared-slice-read-arity c = ?
 
 -- src/lib.rt:62:27
 add-place-right : tie.Need-add-place-right
-add-place-right c = search needs
+add-place-right c = ?
 
 -- src/lib.rt:62:21
 shared-slice-read-place-right : tie.Need-shared-slice-read-place-right
-shared-slice-read-place-right c = search needs
+shared-slice-read-place-right c = ?
 
 -- src/lib.rt:62:9
 place-right-requires : tie.Need-place-right-requires
-place-right-requires c κs = search needs
+place-right-requires c κs = ?
 
 -- src/lib.rt:63:9
 returns-2 : tie.Need-returns-2
@@ -43,15 +43,15 @@ returns-2 c = ?
 
 -- src/lib.rt:65:27
 add-place-right-2 : tie.Need-add-place-right-2
-add-place-right-2 c = search needs
+add-place-right-2 c = ?
 
 -- src/lib.rt:65:21
 shared-slice-read-place-right-2 : tie.Need-shared-slice-read-place-right-2
-shared-slice-read-place-right-2 c = search needs
+shared-slice-read-place-right-2 c = ?
 
 -- src/lib.rt:65:9
 place-right-requires-2 : tie.Need-place-right-requires-2
-place-right-requires-2 c κs = search needs
+place-right-requires-2 c κs = ?
 
 -- src/lib.rt:66:9
 returns-3 : tie.Need-returns-3
@@ -59,15 +59,15 @@ returns-3 c = ?
 
 -- src/lib.rt:68:23
 add-place-right-3 : tie.Need-add-place-right-3
-add-place-right-3 c = search needs
+add-place-right-3 c = ?
 
 -- src/lib.rt:68:17
 shared-slice-read-place-right-3 : tie.Need-shared-slice-read-place-right-3
-shared-slice-read-place-right-3 c = search needs
+shared-slice-read-place-right-3 c = ?
 
 -- src/lib.rt:68:5
 place-right-requires-3 : tie.Need-place-right-requires-3
-place-right-requires-3 c κs = search needs
+place-right-requires-3 c κs = ?
 
 -- src/lib.rt:52:1
 returns-4 : tie.Need-returns-4
