@@ -73,13 +73,13 @@ fn rows_right(state: &[u8], count: usize, arities: &[u8], objects: usize) -> boo
     requires { ⌜ (4 * count ≤ length (now state)) × (inRange (now arities) ≡ true) ⌝ }
     ensures { λ r. ⌜ r ≡ rowsIn (signature (now (arities .entry)) objects) 0 count (now (state .entry)) ⌝ }
 {
-    let mut least: u32 = 0;
+    let mut least: u64 = 0;
     let mut i = 0;
     while i < count {
         if !row_right(state, i, arities, objects) {
             return false;
         }
-        let n = row(state, i);
+        let n = row(state, i) as u64;
         if n < least {
             return false;
         }
@@ -91,7 +91,7 @@ fn rows_right(state: &[u8], count: usize, arities: &[u8], objects: usize) -> boo
 
 // The buffer and the count hold a state.
 pub fn well_formed(state: &[u8], count: usize, arities: &[u8], objects: usize) -> bool
-    requires { ⌜ (inRange (now arities) ≡ true) × (length (now arities) ≤ 20) ⌝ }
+    requires { ⌜ inRange (now arities) ≡ true ⌝ }
     ensures { λ r. ⌜ r ≡ wellFormed (signature (now (arities .entry)) objects) (now (state .entry)) count ⌝ }
 {
     if state.len() < 4096 {

@@ -23,9 +23,13 @@ row-right-requires c κs = ?
 returns : tie.Need-returns Inv-loop μ-loop
 returns c = ?
 
--- src/lib.rt:82:13
+-- src/lib.rt:82:17
 row-requires : tie.Need-row-requires Inv-loop μ-loop
 row-requires c κs = ?
+
+-- src/lib.rt:82:17
+cast-n : tie.Need-cast-n Inv-loop μ-loop
+cast-n c = ?
 
 -- src/lib.rt:84:13
 returns-2 : tie.Need-returns-2 Inv-loop μ-loop
@@ -61,6 +65,7 @@ rows-right-spec =
     row-right-requires
     returns
     row-requires
+    cast-n
     returns-2
     add-least
     add-i

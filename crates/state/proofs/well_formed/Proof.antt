@@ -1,3 +1,4 @@
+use borrow.Author.Needs.{needs}
 use Rattle.state.proofs.well_formed.Statement.{statement}
 use Rattle.state.proofs.well_formed.Tie as tie
 use Rattle.state.proofs.well_formed.Reads as reads
@@ -14,7 +15,7 @@ returns-2 c = ?
 
 -- src/lib.rt:103:5
 rows-right-requires : tie.Need-rows-right-requires
-rows-right-requires c κs = ?
+rows-right-requires c κs = search needs
 
 -- src/lib.rt:93:1
 returns-3 : tie.Need-returns-3
