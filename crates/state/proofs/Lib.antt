@@ -1,2 +1,3 @@
 pub mod RowBytes
 pub mod RightRows
+pub mod Writing

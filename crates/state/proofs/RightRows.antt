@@ -1,6 +1,7 @@
 -- Right rows: four bytes that are right place by place, the fact they stand for, and a buffer's rows in order.
 use Prim.Native.Nat.{ℕ, zero, suc, _+_, _-_, _*_, _≤_, _<_, zero-le, suc-le-suc}
-use native.Mathlib.Nat.{le-of-suc-le-suc, not-suc-le-zero}
+use native.Mathlib.Nat.{le-of-suc-le-suc, not-suc-le-zero, sub-zero}
+use native.Mathlib.Numerals.{add-one}
 use native.Mathlib.Omega.{arith}
 use mathlib.Core.Path.{_≡_, refl, sym, ap, _∙_, subst}
 use mathlib.Core.Bool.{Bool, true, false, cond, _&&_, _||_}
@@ -197,3 +198,79 @@ small-buffer t buffer count h = rw (lt-leb 4096 (length buffer) h)
 pub large-count : (t : Task) (buffer : List ℕ) (count : ℕ) → 4096 ≤ length buffer → 1024 < count → wellFormed t buffer count ≡ false
 unfolding wellFormed
 large-count t buffer count h k = rw (le-leb 4096 (length buffer) h, lt-leb count 1024 k)
+
+-- a test that fails, and the last of three
+pub first-fails : (a b c : Bool) → a ≡ false → false ≡ (a && b && c)
+first-fails true b c e = never e
+first-fails false b c e = refl
+
+pub second-fails : (a b c : Bool) → a ≡ true → b ≡ false → false ≡ (a && b && c)
+second-fails true true c e k = never k
+second-fails true false c e k = refl
+second-fails false b c e k = never (sym e)
+
+pub third-decides : (a b c : Bool) → a ≡ true → b ≡ true → c ≡ (a && b && c)
+third-decides true true c e k = refl
+third-decides true false c e k = never (sym k)
+third-decides false b c e k = never (sym e)
+
+-- row i of a buffer, byte by byte
+module _ (arities : List ℕ) (objects i : ℕ) (buffer : List ℕ) (room : 4 * i + 4 ≤ length buffer) where
+  pub row-unknown : length arities ≤ getD buffer (4 * i) 0 → false ≡ rowRight (signature arities objects) (rowAt i buffer)
+  unfolding rowAt
+  row-unknown h =
+      sym (ap (rowRight (signature arities objects)) (four-at (4 * i) buffer room)
+      ∙ row-right-unknown arities objects (getD buffer (4 * i) 0) _ _ _ h)
+
+  -- the test of place k
+  abbrev pub placeTest : ℕ → Bool
+  placeTest k = placeRight objects (getD arities (getD buffer (4 * i) 0) 0) k (getD buffer (4 * i + k) 0)
+
+  pub row-places :
+      inRange arities ≡ true → getD buffer (4 * i) 0 < length arities
+      → (placeTest 1 && placeTest 2 && placeTest 3) ≡ rowRight (signature arities objects) (rowAt i buffer)
+  unfolding rowAt
+  row-places right h =
+      let p : ℕ = getD buffer (4 * i) 0 in
+      sym (ap (rowRight (signature arities objects)) (four-at (4 * i) buffer room)
+      ∙ row-right-places arities objects p _ _ _ (getD arities p 0) refl h (arity-low arities p right h) (arity-high arities p right h))
+
+-- The pass over the rows: what the rows from i on say.
+module _ (t : Task) (count : ℕ) (buffer : List ℕ) where
+  pub rows-start : rowsIn t 0 (count - 0) (drop (4 * 0) buffer) ≡ rowsIn t 0 count buffer
+  rows-start = ap (λ (n : ℕ). rowsIn t 0 n buffer) (sub-zero count)
+
+  pub rows-step :
+      (least i : ℕ) → i < count
+      → (rowRight t (rowAt i buffer) && leb least (rowNumber (rowAt i buffer))
+      && rowsIn t (rowNumber (rowAt i buffer) + 1) (count - (i + 1)) (drop (4 * (i + 1)) buffer))
+      ≡ rowsIn t least (count - i) (drop (4 * i) buffer)
+  unfolding rowsIn rowAt
+  rows-step least i h =
+      let left : count - i ≡ suc (count - (i + 1)) = omega arith in
+      let next : 4 * i + 4 ≡ 4 * (i + 1) = omega arith in
+      let row : List ℕ = take 4 (drop (4 * i) buffer) in
+      ap (λ (m : ℕ). rowRight t row && leb least (rowNumber row) && rowsIn t m (count - (i + 1)) (drop (4 * (i + 1)) buffer)) (add-one (rowNumber row))
+      ∙ ap (λ (l : List ℕ). rowRight t row && leb least (rowNumber row) && rowsIn t (suc (rowNumber row)) (count - (i + 1)) l)
+        (ap (λ (k : ℕ). drop k buffer) (sym next) ∙ sym (drop-drop 4 (4 * i) buffer))
+      ∙ ap (λ (k : ℕ). rowsIn t least k (drop (4 * i) buffer)) (sym left)
+
+  pub rows-end : (least i : ℕ) → count ≤ i → true ≡ rowsIn t least (count - i) (drop (4 * i) buffer)
+  unfolding rowsIn
+  rows-end least i h = sym (ap (λ (k : ℕ). rowsIn t least k (drop (4 * i) buffer)) (let none-left : count - i ≡ 0 = omega arith in none-left))
+
+  -- a row that is not right decides, and so does one that is not above those before it; another leaves it to the rows after it
+  module _ (least i : ℕ) (total : Bool) (left : rowsIn t least (count - i) (drop (4 * i) buffer) ≡ total) (more : i < count) where
+    pub rows-wrong : rowRight t (rowAt i buffer) ≡ false → false ≡ total
+    rows-wrong e = first-fails _ _ _ e ∙ rows-step least i more ∙ left
+
+    pub rows-low : (n : ℕ) → rowRight t (rowAt i buffer) ≡ true → n ≡ rowNumber (rowAt i buffer) → n < least → false ≡ total
+    rows-low n e p h =
+        second-fails _ _ _ e (ap (leb least) (sym p) ∙ lt-leb least n h) ∙ rows-step least i more ∙ left
+
+    pub rows-again :
+        (n : ℕ) → rowRight t (rowAt i buffer) ≡ true → n ≡ rowNumber (rowAt i buffer) → least ≤ n
+        → rowsIn t (n + 1) (count - (i + 1)) (drop (4 * (i + 1)) buffer) ≡ total
+    rows-again n e p h =
+        ap (λ (m : ℕ). rowsIn t (m + 1) (count - (i + 1)) (drop (4 * (i + 1)) buffer)) p
+        ∙ third-decides _ _ _ e (ap (leb least) (sym p) ∙ le-leb least n h) ∙ rows-step least i more ∙ left
