@@ -23,7 +23,7 @@ use Rattle.state.specs.Rows.{rowNumber, factNumber, rowAt, numbersIn, si
 use Rattle.state.proofs.RowBytes.{Four, four-at, number-order}
 
 -- which of two numbers is named first does not matter
-eqb-swap : (m n : ℕ) → eqb m n ≡ eqb n m
+pub eqb-swap : (m n : ℕ) → eqb m n ≡ eqb n m
 eqb-swap m n =
     same-test (eqb m n) (eqb n m) (λ e. eq-eqb n m (sym (eqb-true m n e))) (λ e. eq-eqb m n (sym (eqb-true n m e)))
 

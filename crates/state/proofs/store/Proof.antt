@@ -1,29 +1,27 @@
+-- Rows, then 0 up to byte 4,096.
+use mathlib.Core.Path.{_≡_, refl, sym, ap, _∙_}
+use native.Mathlib.Omega.{arith}
+use Rattle.state.proofs.Writing.{rows-stored}
 use Rattle.state.proofs.store.Statement.{statement}
 use Rattle.state.proofs.store.Tie as tie
-use Rattle.state.proofs.store.Reads as reads
-use Rattle.state.proofs.store.Lts as lts
-use Rattle.state.proofs.clear.Reads as clear-reads
-use Rattle.state.proofs.write_rows.Reads as write-rows-reads
 
--- src/lib.rt:147:5
 write-rows-requires : tie.Need-write-rows-requires
-write-rows-requires c κs = ?
+write-rows-requires c κs = omega arith
 
--- src/lib.rt:149:18
 mul-clear : tie.Need-mul-clear
-mul-clear c = ?
+mul-clear c = omega arith
 
--- src/lib.rt:149:5
 clear-requires : tie.Need-clear-requires
-clear-requires c κs = ?
+clear-requires c κs = (omega arith, omega arith)
 
--- src/lib.rt:143:1
 same-length : tie.Need-same-length
-same-length c = ?
+same-length c = omega arith
 
--- src/lib.rt:143:1
 returns : tie.Need-returns
-returns c = ?
+returns c =
+    let start = c .before .before .before .before .before .before .before .before .before .before in
+    rows-stored (start .args .numbers .now) (start .args .state .now) _ _ (c .before .before .before .before .before .before .write-rows .ensures) (start .pre .0)
+    (c .before .before .clear .ensures)
 
 pub store-spec : {M : Type 1} → statement M
 store-spec = tie.close (tie.spec write-rows-requires mul-clear clear-requires same-length returns)
