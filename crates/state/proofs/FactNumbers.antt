@@ -19,15 +19,9 @@ use Rattle.model.specs.Strips.{State, filler, factBytes, factAt, factsIn, rowRi
 use Rattle.model.proofs.Order.{bytes-order, known-predicate, known-arity, known-arguments, sameAtom-eq, eq-sameAtom, ascending-head, ascending-tail}
 use Rattle.model.proofs.Buffer.{factAt-factBytes, put-at}
 use Rattle.sets.specs.Numbers.{rising, without, inserted, withoutAll, insertedAll}
-use Rattle.state.specs.Rows.{rowNumber, rowBytes, factNumber, numbersIn, signature, inRange, stored}
+use Rattle.state.specs.Rows.{rowNumber, rowBytes, factNumber, numbersIn, signature, inRange, stored, Shape}
 use Rattle.state.proofs.RowBytes.{Four, four-at, number-bytes, number-order, number-same}
 use Rattle.state.proofs.RightRows.{eqb-swap, arity-low, arity-high, right-row-fact}
-
--- What bounds the bytes of facts: arities of 1 to 3, and predicates and objects that fit a byte.
-pub record Shape (arities : List ℕ) (objects : ℕ) : Type 0 where
-  pub right : inRange arities ≡ true
-  pub few-predicates : length arities ≤ 20
-  pub few-objects : objects ≤ 64
 
 module _ {A : Type 0} where
   -- nothing taken out

@@ -1,5 +1,6 @@
 -- A state's rows as numbers: the four bytes of a fact, the first of them highest. Facts stand in the order of these numbers.
-use Prim.Native.Nat.{ℕ, zero, suc, _+_, _-_, _*_, _/_, _%_}
+use Prim.Native.Nat.{ℕ, zero, suc, _+_, _-_, _*_, _/_, _%_, _≤_}
+use mathlib.Core.Path.{_≡_}
 use mathlib.Core.Bool.{Bool, true, false, cond, _&&_}
 use mathlib.Core.List.{List, [], _∷_, _++_, map, flatMap}
 use lib.Dec.{leb, ltb, eqb}
@@ -34,6 +35,12 @@ signature arities objects = record { arities = arities; objects = objects; schem
 -- every arity is 1 to 3
 unfoldable pub inRange : List ℕ → Bool
 inRange arities = all (between 1 3) arities
+
+-- What bounds the bytes of facts: arities of 1 to 3, and predicates and objects that fit a byte.
+pub record Shape (arities : List ℕ) (objects : ℕ) : Type 0 where
+  pub right : inRange arities ≡ true
+  pub few-predicates : length arities ≤ 20
+  pub few-objects : objects ≤ 64
 
 -- the byte at place k of a row is right: a known object up to the arity, filler after it
 unfoldable pub placeRight : ℕ → ℕ → ℕ → ℕ → Bool

@@ -1,0 +1,52 @@
+use Rattle.strips.proofs.stands_from.Statement.{statement}
+use Rattle.strips.proofs.stands_from.Tie as tie
+use Rattle.strips.proofs.stands_from.Reads as reads
+use Rattle.strips.proofs.stands_from.Lts as lts
+
+abbrev Inv-loop : tie.InvT-loop
+Inv-loop objects at o i₀ i = ?
+
+abbrev μ-loop : tie.MeasureT-loop
+μ-loop objects at o i₀ i = ?
+
+-- src/lib.rt:157:5
+loop-holds : tie.Need-loop-holds Inv-loop μ-loop
+loop-holds c = ?
+
+-- src/lib.rt:158:12
+shared-slice-read-if1 : tie.Need-shared-slice-read-if1 Inv-loop μ-loop
+shared-slice-read-if1 c = ?
+
+-- src/lib.rt:159:13
+returns : tie.Need-returns Inv-loop μ-loop
+returns c = ?
+
+-- src/lib.rt:161:13
+add-i : tie.Need-add-i Inv-loop μ-loop
+add-i c = ?
+
+-- src/lib.rt:157:5
+loop-less : tie.Need-loop-less Inv-loop μ-loop
+loop-less c = ?
+
+-- src/lib.rt:157:5
+loop-again : tie.Need-loop-again Inv-loop μ-loop
+loop-again c = ?
+
+-- src/lib.rt:152:1
+returns-2 : tie.Need-returns-2 Inv-loop μ-loop
+returns-2 c = ?
+
+pub stands-from-spec : {M : Type 1} → statement M
+stands-from-spec =
+    tie.close
+    (tie.spec
+    Inv-loop
+    μ-loop
+    loop-holds
+    shared-slice-read-if1
+    returns
+    add-i
+    loop-less
+    loop-again
+    returns-2)
