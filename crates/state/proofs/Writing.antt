@@ -10,7 +10,7 @@ use Rattle.laws.proofs.Lists.{flatMap-append}
 use Rattle.state.specs.Rows.{rowNumber, rowBytes, rowAt, numbersIn, stored}
 
 -- a value stored right behind what has been written
-store-next :
+pub store-next :
     (xs was : List ℕ) (i v : ℕ) → length xs ≡ i → i < length was
     → set (xs ++ drop i was) i v ≡ xs ++ (v ∷ []) ++ drop (i + 1) was
 store-next xs was i v n h =

@@ -1,25 +1,29 @@
 // The initial state and applying an action, on a state in a lent buffer.
-use card::Atom;
-use card::AtomList;
+use actions::all_different;
+use actions::all_in;
+use actions::all_known;
+use actions::fact_numbers;
+use actions::grounded;
+use actions::put_in;
+use actions::taken_out;
 use card::FactList;
 use card::Refusal;
 use card::Schema;
-use sets::find;
-use sets::Found;
-use state::row_number;
+use card::Task;
+use sets::insert_all;
+use sets::remove_all;
+use state::load;
+use state::store;
+use state::well_formed;
 ghost use Prim.Native.Nat.{ℕ, _≤_, _<_};
 ghost use mathlib.Core.Bool.{true};
 ghost use mathlib.Core.Path.{_≡_};
 ghost use mathlib.Core.List.{map, _++_};
-ghost use lib.Dec.{ltb};
-ghost use lib.ListN.{length, getD, drop};
-ghost use Rattle.laws.specs.Lists.{all, member, distinct};
-ghost use Rattle.model.specs.Strips.{ground, takenOut, putIn};
-ghost use Rattle.model.specs.Writer.{known};
-ghost use Rattle.card.specs.Represents.{atomOf, atomsOf, factsOf, schemaOf};
-ghost use Rattle.sets.specs.Numbers.{rising};
-ghost use Rattle.state.specs.Rows.{factNumber, inRange};
-ghost use Rattle.strips.specs.Grounds.{upTo, factsKept, Bound, FactsRight};
+ghost use lib.ListN.{length, getD, take, drop};
+ghost use Rattle.model.specs.Strips.{factsIn};
+ghost use Rattle.card.specs.Represents.{schemaOf};
+ghost use Rattle.sets.specs.Numbers.{Becomes};
+ghost use Rattle.strips.specs.Stages.{Does, leaving, changed, nextNumbers, Ready, NextReady};
 
 // What the opening call and applying an action answer: the number of facts, or why not. A refusal of the card is handed through.
 pub enum Applied {
@@ -33,160 +37,43 @@ pub enum Applied {
     StateFull,
 }
 
-// Facts as the numbers of their rows; entries past the count are 0.
-struct Facts {
-    count: usize,
-    numbers: [u32; 8],
-}
-
-// What stands at place k of a row, 1 to 3: the byte up to the arity, filler after it.
-fn up_to(arity: u8, k: u8, byte: u8) -> u8
-    ensures { λ r. ⌜ r ≡ upTo arity k byte ⌝ }
-{
-    if k <= arity { byte } else { 255 }
-}
-
-// The number of a fact's row.
-fn fact_number(f: Atom, arities: &[u8]) -> u32
-    requires { ⌜ (inRange (now arities) ≡ true) × (f .predicate < length (now arities)) ⌝ }
-    ensures { λ r. ⌜ r ≡ factNumber (atomOf (now (arities .entry)) f) ⌝ }
-{
-    let predicate = f.predicate;
-    let arity = arities[predicate as usize];
-    let first = up_to(arity, 1, f.first);
-    let second = up_to(arity, 2, f.second);
-    let third = up_to(arity, 3, f.third);
-    row_number(predicate, first, second, third)
-}
-
-// The object for the parameter at place k of an atom, filler past the arity.
-fn object(objects: &[u8], arity: u8, k: u8, parameter: u8) -> u8
-    requires { ⌜ (k ≤ arity → parameter < length (now objects)) ⌝ }
-    ensures { λ r. ⌜ r ≡ upTo arity k (getD (now (objects .entry)) parameter 0) ⌝ }
-{
-    if k <= arity {
-        objects[parameter as usize]
-    } else {
-        255
+// The numbers of the next state, from those of the state: what the action takes out goes, then what it puts in comes.
+fn next_numbers(numbers: &mut [u32], count: usize, schema: Schema, arities: &[u8], objects: &[u8]) -> usize
+    requires { ⌜ NextReady (now arities) (now objects) schema (now numbers) count ⌝ }
+    ensures {
+        λ r. ⌜ Becomes (nextNumbers (schemaOf (now (arities .entry)) schema) (now (objects .entry)) (take count (now (numbers .entry)))) (now (numbers .entry)) (now (numbers .exit)) r ⌝
     }
+{
+    let out = taken_out(schema, arities, objects);
+    let out_count = out.count;
+    let out_numbers = out.numbers;
+    let left = remove_all(numbers, count, &out_numbers[0..out_count]);
+    let new = put_in(schema, arities, objects);
+    let new_count = new.count;
+    let new_numbers = new.numbers;
+    insert_all(numbers, left, &new_numbers[0..new_count])
 }
 
-// The number of the fact that an atom becomes with an action's objects.
-fn ground(a: Atom, arities: &[u8], objects: &[u8]) -> u32
-    requires { ⌜ (inRange (now arities) ≡ true) × (known (now arities) (length (now objects)) (atomOf (now arities) a) ≡ true) ⌝ }
-    ensures { λ r. ⌜ r ≡ factNumber (ground (now (objects .entry)) (atomOf (now (arities .entry)) a)) ⌝ }
-{
-    let predicate = a.predicate;
-    let arity = arities[predicate as usize];
-    let first = object(objects, arity, 1, a.first);
-    let second = object(objects, arity, 2, a.second);
-    let third = object(objects, arity, 3, a.third);
-    row_number(predicate, first, second, third)
-}
-
-// The facts that a list of atoms becomes.
-fn grounded(list: AtomList, arities: &[u8], objects: &[u8]) -> Facts
-    requires { ⌜ Bound (now arities) (now objects) list ⌝ }
-    ensures { λ r. ⌜ r ≡ factsKept (map (ground (now (objects .entry))) (atomsOf (now (arities .entry)) list)) ⌝ }
-{
-    let count = list.count;
-    let mut numbers = [0u32; 8];
-    let mut i = 0;
-    while i < count {
-        let a = list.atoms[i];
-        numbers[i] = ground(a, arities, objects);
-        i = i + 1;
+// 19 and 20. Nothing is written before the last check.
+fn apply_bound(schema: Schema, arities: &[u8], state: &mut [u8], count: usize, objects: &[u8]) -> Applied
+    requires { ⌜ Ready (now arities) (now objects) schema (now state) count ⌝ }
+    ensures {
+        λ r. ⌜ Does (leaving (now (state .entry)) (changed (schemaOf (now (arities .entry)) schema) (now (objects .entry)) (factsIn (now (arities .entry)) count (now (state .entry))))) (now (state .exit)) r ⌝
     }
-    Facts { count, numbers }
-}
-
-// What an action takes out.
-fn taken_out(schema: Schema, arities: &[u8], objects: &[u8]) -> Facts
-    requires { ⌜ Bound (now arities) (now objects) (schema .deletes) ⌝ }
-    ensures { λ r. ⌜ r ≡ factsKept (takenOut (schemaOf (now (arities .entry)) schema) (now (objects .entry))) ⌝ }
 {
-    let deletes = schema.deletes;
-    grounded(deletes, arities, objects)
-}
-
-// What an action puts in.
-fn put_in(schema: Schema, arities: &[u8], objects: &[u8]) -> Facts
-    requires { ⌜ Bound (now arities) (now objects) (schema .adds) ⌝ }
-    ensures { λ r. ⌜ r ≡ factsKept (putIn (schemaOf (now (arities .entry)) schema) (now (objects .entry))) ⌝ }
-{
-    let adds = schema.adds;
-    grounded(adds, arities, objects)
-}
-
-// Every number is on the ascending list.
-fn all_in(numbers: &[u32], facts: &[u32]) -> bool
-    requires { ⌜ rising 0 (now numbers) ≡ true ⌝ }
-    ensures { λ r. ⌜ r ≡ all (λ n. member n (now (numbers .entry))) (now (facts .entry)) ⌝ }
-{
-    let mut i = 0;
-    while i < facts.len() {
-        let there = find(numbers, facts[i]);
-        let Found::At(_) = there else {
-            return false;
-        };
-        i = i + 1;
+    let mut numbers = [0u32; 1032];
+    load(state, count, &mut numbers);
+    let preconditions = schema.preconditions;
+    let needed = grounded(preconditions, arities, objects);
+    let needed_count = needed.count;
+    let needed_numbers = needed.numbers;
+    if !all_in(&numbers[0..count], &needed_numbers[0..needed_count]) {
+        return Applied::PreconditionMissing;
     }
-    true
-}
-
-// Every object is below the bound.
-fn all_known(objects: &[u8], bound: usize) -> bool
-    ensures { λ r. ⌜ r ≡ all (λ o. ltb o bound) (now (objects .entry)) ⌝ }
-{
-    let mut i = 0;
-    while i < objects.len() {
-        if bound <= objects[i] as usize {
-            return false;
-        }
-        i = i + 1;
+    let next = next_numbers(&mut numbers, count, schema, arities, objects);
+    if 1024 < next {
+        return Applied::StateFull;
     }
-    true
-}
-
-// The object is among the objects from a place on.
-fn stands_from(objects: &[u8], at: usize, o: u8) -> bool
-    requires { ⌜ at ≤ length (now objects) ⌝ }
-    ensures { λ r. ⌜ r ≡ member o (drop at (now (objects .entry))) ⌝ }
-{
-    let mut i = at;
-    while i < objects.len() {
-        if objects[i] == o {
-            return true;
-        }
-        i = i + 1;
-    }
-    false
-}
-
-// No object stands twice.
-fn all_different(objects: &[u8]) -> bool
-    ensures { λ r. ⌜ r ≡ distinct (now (objects .entry)) ⌝ }
-{
-    let mut i = 0;
-    while i < objects.len() {
-        if stands_from(objects, i + 1, objects[i]) {
-            return false;
-        }
-        i = i + 1;
-    }
-    true
-}
-
-// The numbers of a task's facts, at the front of an array.
-fn fact_numbers(facts: FactList, arities: &[u8], numbers: &mut [u32])
-    requires { ⌜ FactsRight (now arities) facts (now numbers) ⌝ }
-    ensures { λ r. ⌜ now (numbers .exit) ≡ map factNumber (factsOf (now (arities .entry)) facts) ++ drop (facts .count) (now (numbers .entry)) ⌝ }
-{
-    let count = facts.count;
-    let mut i = 0;
-    while i < count {
-        let f = facts.facts[i];
-        numbers[i] = fact_number(f, arities);
-        i = i + 1;
-    }
+    store(state, &numbers[0..next]);
+    Applied::Count(next)
 }

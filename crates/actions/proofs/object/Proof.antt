@@ -2,9 +2,9 @@
 use mathlib.Core.Path.{sym}
 use borrow.Author.Tests.{le-leb, lt-leb}
 use Rattle.laws.proofs.Tests.{cond-true, cond-false}
-use Rattle.strips.specs.Grounds.{upTo}
-use Rattle.strips.proofs.object.Statement.{statement}
-use Rattle.strips.proofs.object.Tie as tie
+use Rattle.actions.specs.Grounds.{upTo}
+use Rattle.actions.proofs.object.Statement.{statement}
+use Rattle.actions.proofs.object.Tie as tie
 
 shared-slice-read-result : tie.Need-shared-slice-read-result
 shared-slice-read-result c = c .before .before .pre (c .before .if1 .taken)

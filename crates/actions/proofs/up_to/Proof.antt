@@ -2,9 +2,9 @@
 use mathlib.Core.Path.{sym}
 use borrow.Author.Tests.{le-leb, lt-leb}
 use Rattle.laws.proofs.Tests.{cond-true, cond-false}
-use Rattle.strips.specs.Grounds.{upTo}
-use Rattle.strips.proofs.up_to.Statement.{statement}
-use Rattle.strips.proofs.up_to.Tie as tie
+use Rattle.actions.specs.Grounds.{upTo}
+use Rattle.actions.proofs.up_to.Statement.{statement}
+use Rattle.actions.proofs.up_to.Tie as tie
 
 returns : tie.Need-returns
 unfolding upTo

@@ -8,9 +8,9 @@ use Rattle.model.specs.Strips.{ground}
 use Rattle.card.specs.Represents.{atomOf, blankAtom}
 use Rattle.sets.specs.Numbers.{filled}
 use Rattle.state.specs.Rows.{factNumber}
-use Rattle.strips.proofs.GroundRows.{atom-known, grounded-step, grounded-end}
-use Rattle.strips.proofs.grounded.Statement.{statement}
-use Rattle.strips.proofs.grounded.Tie as tie
+use Rattle.actions.proofs.GroundRows.{atom-known, grounded-step, grounded-end}
+use Rattle.actions.proofs.grounded.Statement.{statement}
+use Rattle.actions.proofs.grounded.Tie as tie
 
 abbrev Inv-loop : tie.InvT-loop
 Inv-loop arities objects list count numbers₀ i₀ numbers i =

@@ -14,7 +14,7 @@ use Rattle.card.specs.declared.AtomList.{AtomList}
 use Rattle.card.specs.declared.FactList.{FactList}
 use Rattle.sets.specs.Numbers.{filled}
 use Rattle.state.specs.Rows.{factNumber, inRange}
-use Rattle.strips.specs.declared.Facts.{Facts}
+use Rattle.actions.specs.declared.Facts.{Facts}
 
 -- the byte at place k of a row: what stands there up to the arity, filler after it
 unfoldable pub upTo : ℕ → ℕ → ℕ → ℕ

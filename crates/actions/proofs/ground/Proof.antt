@@ -1,10 +1,10 @@
 -- The row of a ground atom.
 use mathlib.Core.Path.{sym, _∙_}
 use lib.ListN.{length}
-use Rattle.strips.proofs.GroundRows.{ground-row, atom-predicate, atom-arguments}
+use Rattle.actions.proofs.GroundRows.{ground-row, atom-predicate, atom-arguments}
 use borrow.Author.Needs.{needs}
-use Rattle.strips.proofs.ground.Statement.{statement}
-use Rattle.strips.proofs.ground.Tie as tie
+use Rattle.actions.proofs.ground.Statement.{statement}
+use Rattle.actions.proofs.ground.Tie as tie
 
 cast-arity : tie.Need-cast-arity
 cast-arity c = search needs

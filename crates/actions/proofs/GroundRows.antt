@@ -17,14 +17,16 @@ use Rattle.model.specs.Card.{Atom}
 use Rattle.model.specs.Writer.{known}
 use Rattle.model.specs.Strips.{factBytes, ground}
 use Rattle.model.proofs.Order.{known-predicate, known-arguments}
-use Rattle.card.specs.Represents.{atomOf, atomsOf, blankAtom}
+use Rattle.card.specs.Represents.{atomOf, atomsOf, factsOf, blankAtom}
 use Rattle.card.specs.declared.Atom.{Atom as Kept}
 use Rattle.card.specs.declared.AtomList.{AtomList}
+use Rattle.card.specs.declared.FactList.{FactList}
 use Rattle.sets.specs.Numbers.{filled}
 use Rattle.state.specs.Rows.{rowNumber, factNumber, inRange}
 use Rattle.state.proofs.RightRows.{arity-low, arity-high}
-use Rattle.strips.specs.Grounds.{upTo, factsKept, Bound}
-use Rattle.strips.specs.declared.Facts.{Facts}
+use Rattle.state.proofs.Writing.{store-next}
+use Rattle.actions.specs.Grounds.{upTo, factsKept, Bound, FactsRight}
+use Rattle.actions.specs.declared.Facts.{Facts}
 
 -- the row of an atom with one to three arguments
 row-of :
@@ -164,3 +166,41 @@ module _ (arities objects : List ℕ) (l : AtomList) (bound : Bound arities obje
         (sym (map-map factNumber (λ a. ground objects (atomOf arities a)) atoms)
         ∙ ap (map factNumber) (sym (map-map (ground objects) (atomOf arities) atoms)))) in
       λ k. record { count = n k; numbers = same k }
+
+-- Facts of a task, the first i of them.
+module _ (arities : List ℕ) (l : FactList) (was : List ℕ) (kept : FactsRight arities l was) where
+  abbrev pub factNumberOf : Kept → ℕ
+  factNumberOf f = factNumber (atomOf arities f)
+
+  pub fact-predicate : (i : ℕ) → i < l .count → getD (l .facts) i blankAtom .predicate < length arities
+  unfolding factsOf atomOf
+  fact-predicate i h =
+      let few = kept .few in
+      let size = kept .size in
+      let within : i < length (take (l .count) (l .facts)) = (let n = length-take-le (l .count) (l .facts) (omega arith) in omega arith) in
+      let there = mem-getD (take (l .count) (l .facts)) i blankAtom within in
+      ltb-true _ _
+      (all-at (λ f. ltb (f .predicate) (length arities)) (factsOf arities l) (kept .predicates-known) (atomOf arities (getD (l .facts) i blankAtom))
+      (subst (λ (f : Kept). List·Memᴰ (atomOf arities f) (map (atomOf arities) (take (l .count) (l .facts))))
+      (getD-take (l .count) (l .facts) i blankAtom h) (Memᴰ·map (atomOf arities) there)))
+
+  pub facts-step :
+      (i v : ℕ) (numbers : List ℕ) → i < l .count → numbers ≡ map factNumberOf (take i (l .facts)) ++ drop i was
+      → v ≡ factNumberOf (getD (l .facts) i blankAtom) → set numbers i v ≡ map factNumberOf (take (i + 1) (l .facts)) ++ drop (i + 1) was
+  facts-step i v numbers h e p =
+      let few = kept .few in
+      let size = kept .size in
+      let room = kept .room in
+      ap (λ (ns : List ℕ). set ns i v) e
+      ∙ store-next (map factNumberOf (take i (l .facts))) was i v
+        (length-map (take i (l .facts)) factNumberOf ∙ length-take-le i (l .facts) (omega arith)) (omega arith)
+      ∙ ap (λ (ns : List ℕ). ns ++ drop (i + 1) was)
+        (ap (λ (n : ℕ). map factNumberOf (take i (l .facts)) ++ (n ∷ [])) p ∙ sym (map-next factNumberOf (l .facts) i blankAtom (omega arith)))
+
+  pub facts-end :
+      (i : ℕ) (numbers : List ℕ) → i ≡ l .count → numbers ≡ map factNumberOf (take i (l .facts)) ++ drop i was
+      → numbers ≡ map factNumber (factsOf arities l) ++ drop (l .count) was
+  unfolding factsOf
+  facts-end i numbers all e =
+      e ∙ ap (λ (k : ℕ). map factNumberOf (take k (l .facts)) ++ drop k was) all
+      ∙ ap (λ (ns : List ℕ). ns ++ drop (l .count) was) (sym (map-map factNumber (atomOf arities) (take (l .count) (l .facts))))

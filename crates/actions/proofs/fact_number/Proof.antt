@@ -1,9 +1,9 @@
 -- The row of a fact.
 use mathlib.Core.Path.{sym, _∙_}
-use Rattle.strips.proofs.GroundRows.{fact-row}
+use Rattle.actions.proofs.GroundRows.{fact-row}
 use borrow.Author.Needs.{needs}
-use Rattle.strips.proofs.fact_number.Statement.{statement}
-use Rattle.strips.proofs.fact_number.Tie as tie
+use Rattle.actions.proofs.fact_number.Statement.{statement}
+use Rattle.actions.proofs.fact_number.Tie as tie
 
 cast-arity : tie.Need-cast-arity
 cast-arity c = search needs
