@@ -1,74 +1,102 @@
+-- What the action takes out goes, then what it puts in comes.
 use borrow.Author.Needs.{needs}
+use Prim.Native.Nat.{ℕ, _+_, _-_, _≤_}
+use mathlib.Core.Path.{_≡_, refl, sym, ap, _∙_, subst}
+use mathlib.Core.List.{List, map}
+use native.Mathlib.Omega.{arith}
+use lib.ListN.{length, take, length-map}
+use Rattle.model.specs.Strips.{takenOut, putIn}
+use Rattle.card.specs.Represents.{schemaOf}
+use Rattle.sets.specs.Numbers.{withoutAll, insertedAll, Becomes}
+use Rattle.state.specs.Rows.{factNumber}
+use Rattle.strips.proofs.Numbers.{few-out, few-in, kept-within, kept-numbers, between-length, between-holds, between-few, next-becomes}
 use Rattle.strips.proofs.next_numbers.Statement.{statement}
 use Rattle.strips.proofs.next_numbers.Tie as tie
-use Rattle.strips.proofs.next_numbers.Reads as reads
-use Rattle.strips.proofs.next_numbers.Lts as lts
-use Rattle.sets.proofs.insert_all.Reads as insert-all-reads
-use Rattle.sets.proofs.remove_all.Reads as remove-all-reads
-use Rattle.strips.proofs.put_in.Reads as put-in-reads
-use Rattle.strips.proofs.taken_out.Reads as taken-out-reads
 
--- src/lib.rt:206:9
+-- what goes
+gone : (c : tie.After-remove-all)
+    → Becomes (withoutAll (map factNumber (takenOut (schemaOf (c .before .before .before .before .before .before .before .before .before .args .arities .now) (c .before .before .before .before .before .before .before .before .before .args .schema)) (c .before .before .before .before .before .before .before .before .before .args .objects .now)))
+    (take (c .before .before .before .before .before .before .before .before .before .args .count) (c .before .before .before .before .before .before .before .before .before .args .numbers .now))) (c .before .before .before .before .before .before .before .before .before .args .numbers .now) (c .remove-all .last .0) (c .remove-all .result)
+gone c =
+    let start = c .before .before .before .before .before .before .before .before .before in
+    subst (λ (l : List ℕ). Becomes (withoutAll l (take (start .args .count) (start .args .numbers .now)))
+    (start .args .numbers .now) (c .remove-all .last .0) (c .remove-all .result))
+    (kept-numbers _ (takenOut (schemaOf (start .args .arities .now) (start .args .schema)) (start .args .objects .now)) (c .before .before .before .before .before .taken-out .ensures)
+    (few-out (start .args .arities .now) (start .args .objects .now) (start .args .schema) (start .pre .deletes)))
+    (c .remove-all .ensures)
+
+-- what comes
+come : (c : tie.After-put-in)
+    → take (c .put-in .result .count - 0) (c .put-in .result .numbers)
+    ≡ map factNumber (putIn (schemaOf (c .before .before .before .before .before .before .before .before .before .before .before .before .args .arities .now) (c .before .before .before .before .before .before .before .before .before .before .before .before .args .schema)) (c .before .before .before .before .before .before .before .before .before .before .before .before .args .objects .now))
+come c =
+    let start = c .before .before .before .before .before .before .before .before .before .before .before .before in
+    kept-numbers _ (putIn (schemaOf (start .args .arities .now) (start .args .schema)) (start .args .objects .now)) (c .put-in .ensures)
+    (few-in (start .args .arities .now) (start .args .objects .now) (start .args .schema) (start .pre .adds))
+
 taken-out-requires : tie.Need-taken-out-requires
 taken-out-requires c κs = search needs
 
--- src/lib.rt:209:43
 sub-remove-all : tie.Need-sub-remove-all
 sub-remove-all c = search needs
 
--- src/lib.rt:209:43
 part-remove-all-start : tie.Need-part-remove-all-start
 part-remove-all-start c = search needs
 
--- src/lib.rt:209:43
 part-remove-all-end : tie.Need-part-remove-all-end
-part-remove-all-end c = ?
+part-remove-all-end c =
+    let start = c .before .before .before .before .before .before .before in
+    kept-within _ (takenOut (schemaOf (start .args .arities .now) (start .args .schema)) (start .args .objects .now)) (c .before .before .before .taken-out .ensures)
+    (few-out (start .args .arities .now) (start .args .objects .now) (start .args .schema) (start .pre .deletes))
 
--- src/lib.rt:209:9
 remove-all-requires : tie.Need-remove-all-requires
-remove-all-requires c κs = search needs
+remove-all-requires c κs = c .before .before .before .before .before .before .before .before .pre .holds
 
--- src/lib.rt:210:9
 put-in-requires : tie.Need-put-in-requires
 put-in-requires c κs = search needs
 
--- src/lib.rt:213:31
 sub-insert-all : tie.Need-sub-insert-all
 sub-insert-all c = search needs
 
--- src/lib.rt:213:31
 part-insert-all-start : tie.Need-part-insert-all-start
 part-insert-all-start c = search needs
 
--- src/lib.rt:213:31
 part-insert-all-end : tie.Need-part-insert-all-end
-part-insert-all-end c = ?
+part-insert-all-end c =
+    let start = c .before .before .before .before .before .before .before .before .before .before .before .before .before .before .before in
+    kept-within _ (putIn (schemaOf (start .args .arities .now) (start .args .schema)) (start .args .objects .now)) (c .before .before .before .put-in .ensures)
+    (few-in (start .args .arities .now) (start .args .objects .now) (start .args .schema) (start .pre .adds))
 
--- src/lib.rt:213:5
 insert-all-requires : tie.Need-insert-all-requires
-insert-all-requires c κs = ?
+insert-all-requires c κs =
+    let start = c .before .before .before .before .before .before .before .before .before .before .before .before .before .before .before .before in
+    let left = gone (c .before .before .before .before .before .before .before) in
+    let few = few-in (start .args .arities .now) (start .args .objects .now) (start .args .schema) (start .pre .adds) in
+    let new = come (c .before .before .before .before) in
+    let fewer = between-few (start .args .arities .now) (start .args .objects .now) (start .args .schema) (start .args .numbers .now) (start .args .count)
+        (start .pre) _ _ left in
+    let same = between-length (start .args .arities .now) (start .args .objects .now) (start .args .schema) (start .args .numbers .now) (start .args .count)
+        (start .pre) _ _ left in
+    let size = ap length new in
+    let count = length-map (putIn (schemaOf (start .args .arities .now) (start .args .schema)) (start .args .objects .now)) factNumber in
+    let room = start .pre .room in
+    (omega arith,
+    between-holds (start .args .arities .now) (start .args .objects .now) (start .args .schema) (start .args .numbers .now) (start .args .count)
+    (start .pre) _ _ left)
 
--- src/lib.rt:200:1
 same-length : tie.Need-same-length
 same-length c = search needs
 
--- src/lib.rt:200:1
 returns : tie.Need-returns
-returns c = ?
+returns c =
+    let start = c .before .before .before .before .before .before .before .before .before .before .before .before .before .before .before .before .before .before .before in
+    next-becomes (start .args .arities .now) (start .args .objects .now) (start .args .schema) (start .args .numbers .now) (start .args .count)
+    (start .pre) _ _ (gone (c .before .before .before .before .before .before .before .before .before .before)) _ _
+    (subst (λ (l : List ℕ). Becomes (insertedAll l (take (c .before .before .before .before .before .before .before .before .before .before .remove-all .result) (c .before .before .before .before .before .before .before .before .before .before .remove-all .last .0))) (c .before .before .before .before .before .before .before .before .before .before .remove-all .last .0)
+    (c .before .before .insert-all .last .0) (c .before .before .insert-all .result))
+    (come (c .before .before .before .before .before .before .before)) (c .before .before .insert-all .ensures))
 
 pub next-numbers-spec : {M : Type 1} → statement M
 next-numbers-spec =
     tie.close
-    (tie.spec
-    taken-out-requires
-    sub-remove-all
-    part-remove-all-start
-    part-remove-all-end
-    remove-all-requires
-    put-in-requires
-    sub-insert-all
-    part-insert-all-start
-    part-insert-all-end
-    insert-all-requires
-    same-length
-    returns)
+    (tie.spec taken-out-requires sub-remove-all part-remove-all-start part-remove-all-end remove-all-requires put-in-requires sub-insert-all part-insert-all-start part-insert-all-end insert-all-requires same-length returns)
