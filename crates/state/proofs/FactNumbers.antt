@@ -162,7 +162,7 @@ module _ (arities : List ℕ) (objects : ℕ) (shape : Shape arities objects) wh
       go true later = later
       go false later = ap (λ (l : List ℕ). factNumber g ∷ l) later
 
-  keep-known : (test : Atom → Bool) (s : State) → allKnown s → allKnown (keep test s)
+  pub keep-known : (test : Atom → Bool) (s : State) → allKnown s → allKnown (keep test s)
   keep-known test s k =
       all-intro (known arities objects) (keep test s) (λ g m. all-at (known arities objects) s k g (keep-at test s g m .0))
 

@@ -53,3 +53,27 @@ fn next_numbers(numbers: &mut [u32], count: usize, schema: Schema, arities: &[u8
     let new_numbers = new.numbers;
     insert_all(numbers, left, &new_numbers[0..new_count])
 }
+
+// 19 and 20. Nothing is written before the last check.
+fn apply_bound(schema: Schema, arities: &[u8], state: &mut [u8], count: usize, objects: &[u8]) -> Applied
+    requires { ⌜ Ready (now arities) (now objects) schema (now state) count ⌝ }
+    ensures {
+        λ r. ⌜ Does (leaving (now (state .entry)) (changed (schemaOf (now (arities .entry)) schema) (now (objects .entry)) (factsIn (now (arities .entry)) count (now (state .entry))))) (now (state .exit)) r ⌝
+    }
+{
+    let mut numbers = [0u32; 1032];
+    load(state, count, &mut numbers);
+    let preconditions = schema.preconditions;
+    let needed = grounded(preconditions, arities, objects);
+    let needed_count = needed.count;
+    let needed_numbers = needed.numbers;
+    if !all_in(&numbers[0..count], &needed_numbers[0..needed_count]) {
+        return Applied::PreconditionMissing;
+    }
+    let next = next_numbers(&mut numbers, count, schema, arities, objects);
+    if 1024 < next {
+        return Applied::StateFull;
+    }
+    store(state, &numbers[0..next]);
+    Applied::Count(next)
+}
