@@ -1,5 +1,6 @@
 -- Applying an action to a well-formed state: its numbers, whether it is applicable, and the numbers of the next state.
 use Prim.Native.Nat.{ℕ, zero, suc, _+_, _-_, _*_, _≤_, _<_}
+use native.Mathlib.Nat.{sub-zero}
 use native.Mathlib.Omega.{arith}
 use mathlib.Core.Path.{_≡_, refl, sym, ap, _∙_, subst}
 use mathlib.Core.Bool.{Bool, true, false, cond, not, _&&_}
@@ -30,7 +31,7 @@ use Rattle.state.proofs.Writing.{length-numbersIn}
 use Rattle.state.proofs.FactNumbers.{allKnown, member-has, numbers-puts, numbers-removed, rising-state, numbers-of-rows, stored-written, put-known, keep-known}
 use Rattle.actions.specs.Grounds.{Bound}
 use Rattle.strips.specs.Answers.{appliedSays}
-use Rattle.strips.specs.Stages.{Does, leaving, changed, nextNumbers, ListKept, SchemaKept, StateKept, Ready, NextReady}
+use Rattle.strips.specs.Stages.{Does, leaving, changed, allHeld, nextNumbers, ListKept, SchemaKept, StateKept, Ready, NextReady}
 use Rattle.strips.specs.declared.Applied.{Applied}
 use Rattle.strips.specs.declared.Applied.the-variants.{Count, PreconditionMissing, StateFull}
 
@@ -142,10 +143,8 @@ module _ (arities objects : List ℕ) (schema : Schema) (buffer : List ℕ) (cou
       (all-at (known arities (length objects)) atoms e a m))
 
   -- every precondition is among the state's numbers if the state has it
-  pub applicable-numbers :
-      all (λ n. member n (map factNumber before)) (map factNumber (map (ground objects) (atomsOf arities (schema .preconditions))))
-      ≡ applicable model-schema objects before
-  unfolding applicable schemaOf
+  pub applicable-numbers : allHeld model-schema objects (map factNumber before) ≡ applicable model-schema objects before
+  unfolding allHeld applicable schemaOf
   applicable-numbers =
       all-map factNumber (λ n. member n (map factNumber before)) (map (ground objects) (atomsOf arities (schema .preconditions)))
       ∙ all-same (map (ground objects) (atomsOf arities (schema .preconditions)))
@@ -212,3 +211,51 @@ module _ (arities objects : List ℕ) (schema : Schema) (buffer : List ℕ) (cou
             w ∙ ap (λ (l : List ℕ). stored l buffer) q
             ∙ stored-written arities (ready .known-objects) shape (successor model-schema objects before) buffer next-known
       })
+
+  -- the state's numbers loaded to the front of an array of zeros
+  module _ (numbers : List ℕ) (loaded : numbers ≡ numbersIn count buffer ++ drop count (replicate 1032 0)) where
+    few-rows : count ≤ 1024
+    few-rows = state-formed arities (ready .known-objects) buffer count (ready .state) .count-fits
+
+    enough : count ≤ 1032
+    enough = let few = few-rows in omega arith
+
+    pub held : Holds count numbers
+    held = loaded-holds arities (ready .known-objects) buffer count (ready .state) 1032 enough numbers loaded
+
+    numbers-are : take count numbers ≡ map factNumber before
+    numbers-are = loaded-set arities (ready .known-objects) buffer count (ready .state) 1032 enough numbers loaded
+
+    pub next-ready : NextReady arities objects schema numbers count
+    next-ready = record {
+      deletes = deletes-bound;
+      adds = adds-bound;
+      holds = held;
+      room =
+          let size = loaded-length arities (ready .known-objects) buffer count (ready .state) 1032 enough numbers loaded in
+          let few = few-rows in
+          omega arith
+    }
+
+    -- what the test of the preconditions says
+    pub test-says : (r : Bool) → r ≡ allHeld model-schema objects (take (count - 0) numbers) → r ≡ applicable model-schema objects before
+    test-says r e =
+        e ∙ ap (λ (k : ℕ). allHeld model-schema objects (take k numbers)) (sub-zero count)
+        ∙ ap (allHeld model-schema objects) numbers-are ∙ applicable-numbers
+
+    -- what the numbers of the next state say
+    module _ (after : List ℕ) (n : ℕ) (becomes : Becomes (nextNumbers model-schema objects (take count numbers)) numbers after n) where
+      next-are : nextNumbers model-schema objects (take count numbers) ≡ map factNumber (successor model-schema objects before)
+      next-are = ap (nextNumbers model-schema objects) numbers-are ∙ next-numbers
+
+      pub next-count : n ≡ length (successor model-schema objects before)
+      next-count = becomes .counted ∙ ap length next-are ∙ length-map (successor model-schema objects before) factNumber
+
+      pub next-stored : take (n - 0) after ≡ map factNumber (successor model-schema objects before)
+      unfolding filled
+      next-stored =
+          ap (λ (k : ℕ). take k after) (sub-zero n) ∙ ap (take n) (becomes .listed)
+          ∙ take-at (nextNumbers model-schema objects (take count numbers)) _ n (sym (becomes .counted)) ∙ next-are
+
+      pub next-length : length (take (n - 0) after) ≡ n
+      next-length = ap length next-stored ∙ length-map (successor model-schema objects before) factNumber ∙ sym next-count

@@ -5,11 +5,11 @@ use mathlib.Core.Bool.{Bool, true, _&&_}
 use mathlib.Core.List.{List, map}
 use lib.Dec.{leb, ltb, eqb}
 use lib.ListN.{length}
-use Rattle.laws.specs.Lists.{all, distinct}
+use Rattle.laws.specs.Lists.{all, member, distinct}
 use Rattle.model.specs.Answer.{Answer, refused, accepted, _>>=_, _>>_, need}
 use Rattle.model.specs.Card as model
 use Rattle.model.specs.Writer.{checkTask, checkSchema}
-use Rattle.model.specs.Strips.{State, Action, mostFacts, factsIn, wellFormed, applicable, takenOut, putIn, successor, apply}
+use Rattle.model.specs.Strips.{State, Action, mostFacts, factsIn, wellFormed, ground, applicable, takenOut, putIn, successor, apply}
 use Rattle.model.specs.Calls.{Call, finish, store}
 use Rattle.card.specs.Represents.{schemaOf, taskOf, taskFor}
 use Rattle.card.specs.declared.AtomList.{AtomList}
@@ -59,6 +59,10 @@ initialTask t buffer =
     finish buffer (do
       need (leb 4096 (length buffer)) 15
       accepted (store (t .facts) buffer))
+
+-- every precondition's number is among those of the state
+unfoldable pub allHeld : model.Schema → List ℕ → List ℕ → Bool
+allHeld schema objects numbers = all (λ n. member n numbers) (map factNumber (map (ground objects) (schema .preconditions)))
 
 -- the numbers of the next state
 unfoldable pub nextNumbers : model.Schema → List ℕ → List ℕ → List ℕ

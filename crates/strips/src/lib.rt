@@ -22,8 +22,9 @@ ghost use mathlib.Core.List.{map, _++_};
 ghost use lib.ListN.{length, getD, take, drop};
 ghost use Rattle.model.specs.Strips.{factsIn};
 ghost use Rattle.card.specs.Represents.{schemaOf};
-ghost use Rattle.sets.specs.Numbers.{Becomes};
-ghost use Rattle.strips.specs.Stages.{Does, leaving, changed, nextNumbers, Ready, NextReady};
+ghost use Rattle.sets.specs.Numbers.{rising, Becomes};
+ghost use Rattle.strips.specs.Stages.{Does, leaving, changed, allHeld, nextNumbers, Ready, NextReady};
+ghost use Rattle.actions.specs.Grounds.{Bound};
 
 // What the opening call and applying an action answer: the number of facts, or why not. A refusal of the card is handed through.
 pub enum Applied {
@@ -54,6 +55,18 @@ fn next_numbers(numbers: &mut [u32], count: usize, schema: Schema, arities: &[u8
     insert_all(numbers, left, &new_numbers[0..new_count])
 }
 
+// Every precondition is in the state.
+fn applicable(numbers: &[u32], schema: Schema, arities: &[u8], objects: &[u8]) -> bool
+    requires { ⌜ (rising 0 (now numbers) ≡ true) × Bound (now arities) (now objects) (schema .preconditions) ⌝ }
+    ensures { λ r. ⌜ r ≡ allHeld (schemaOf (now (arities .entry)) schema) (now (objects .entry)) (now (numbers .entry)) ⌝ }
+{
+    let preconditions = schema.preconditions;
+    let needed = grounded(preconditions, arities, objects);
+    let needed_count = needed.count;
+    let needed_numbers = needed.numbers;
+    all_in(numbers, &needed_numbers[0..needed_count])
+}
+
 // 19 and 20. Nothing is written before the last check.
 fn apply_bound(schema: Schema, arities: &[u8], state: &mut [u8], count: usize, objects: &[u8]) -> Applied
     requires { ⌜ Ready (now arities) (now objects) schema (now state) count ⌝ }
@@ -63,11 +76,7 @@ fn apply_bound(schema: Schema, arities: &[u8], state: &mut [u8], count: usize, o
 {
     let mut numbers = [0u32; 1032];
     load(state, count, &mut numbers);
-    let preconditions = schema.preconditions;
-    let needed = grounded(preconditions, arities, objects);
-    let needed_count = needed.count;
-    let needed_numbers = needed.numbers;
-    if !all_in(&numbers[0..count], &needed_numbers[0..needed_count]) {
+    if !applicable(&numbers[0..count], schema, arities, objects) {
         return Applied::PreconditionMissing;
     }
     let next = next_numbers(&mut numbers, count, schema, arities, objects);
