@@ -6,7 +6,6 @@ use actions::fact_numbers;
 use actions::grounded;
 use actions::put_in;
 use actions::taken_out;
-use card::FactList;
 use card::Refusal;
 use card::Schema;
 use card::Task;
@@ -21,9 +20,10 @@ ghost use mathlib.Core.Path.{_≡_};
 ghost use mathlib.Core.List.{map, _++_};
 ghost use lib.ListN.{length, getD, take, drop};
 ghost use Rattle.model.specs.Strips.{factsIn};
-ghost use Rattle.card.specs.Represents.{schemaOf};
+ghost use Rattle.card.specs.Represents.{schemaOf, taskOf};
 ghost use Rattle.sets.specs.Numbers.{rising, Becomes};
-ghost use Rattle.strips.specs.Stages.{Does, leaving, changed, allHeld, nextNumbers, Ready, NextReady};
+ghost use Rattle.strips.specs.Stages.{Does, leaving, changed, bound, pressTask, initialTask, allHeld, nextNumbers};
+ghost use Rattle.strips.specs.Stages.{Ready, NextReady, StateKept, SchemaKept, TaskKept};
 ghost use Rattle.actions.specs.Grounds.{Bound};
 
 // What the opening call and applying an action answer: the number of facts, or why not. A refusal of the card is handed through.
@@ -85,4 +85,66 @@ fn apply_bound(schema: Schema, arities: &[u8], state: &mut [u8], count: usize, o
     }
     store(state, &numbers[0..next]);
     Applied::Count(next)
+}
+
+// 17 to 20: the objects first.
+fn apply_schema(schema: Schema, arities: &[u8], known: usize, state: &mut [u8], count: usize, objects: &[u8]) -> Applied
+    requires { ⌜ (StateKept (now arities) known (now state) count) × (SchemaKept (now arities) schema) ⌝ }
+    ensures {
+        λ r. ⌜ Does (leaving (now (state .entry)) (bound known (schemaOf (now (arities .entry)) schema) (now (objects .entry)) (factsIn (now (arities .entry)) count (now (state .entry))))) (now (state .exit)) r ⌝
+    }
+{
+    let parameters = schema.parameters;
+    if objects.len() != parameters {
+        return Applied::ObjectsWrong;
+    }
+    if !all_known(objects, known) {
+        return Applied::ObjectsWrong;
+    }
+    if !all_different(objects) {
+        return Applied::ObjectsRepeated;
+    }
+    apply_bound(schema, arities, state, count, objects)
+}
+
+// 15 to 20, for a task: the state first, then the schema.
+fn apply_task(task: Task, state: &mut [u8], count: usize, schema: usize, objects: &[u8]) -> Applied
+    requires { ⌜ TaskKept task ⌝ }
+    ensures {
+        λ r. ⌜ Does (pressTask (taskOf task) (now (state .entry)) count (record { schema = schema; objects = now (objects .entry) })) (now (state .exit)) r ⌝
+    }
+{
+    let predicates = task.predicates;
+    let predicate_count = predicates.count;
+    let arities = predicates.arities;
+    let known = task.objects;
+    if !well_formed(state, count, &arities[0..predicate_count], known) {
+        return Applied::StateMalformed;
+    }
+    let schemas = task.schemas;
+    let schema_count = schemas.count;
+    if schema_count <= schema {
+        return Applied::SchemaUnknown;
+    }
+    let chosen = schemas.schemas[schema];
+    apply_schema(chosen, &arities[0..predicate_count], known, state, count, objects)
+}
+
+// The opening call for a task: its facts are stored.
+fn open_task(task: Task, state: &mut [u8]) -> Applied
+    requires { ⌜ TaskKept task ⌝ }
+    ensures { λ r. ⌜ Does (initialTask (taskOf task) (now (state .entry))) (now (state .exit)) r ⌝ }
+{
+    if state.len() < 4096 {
+        return Applied::StateMalformed;
+    }
+    let predicates = task.predicates;
+    let predicate_count = predicates.count;
+    let arities = predicates.arities;
+    let facts = task.facts;
+    let count = facts.count;
+    let mut numbers = [0u32; 512];
+    fact_numbers(facts, &arities[0..predicate_count], &mut numbers);
+    store(state, &numbers[0..count]);
+    Applied::Count(count)
 }
