@@ -2,3 +2,4 @@ pub mod Numbers
 pub mod Applying
 pub mod Tasks
 pub mod Refusing
+pub mod Pressing

@@ -44,7 +44,7 @@ length-padded size blank xs h =
     length-append xs (replicate (size - length xs) blank) ∙ (let z = length-replicate (size - length xs) blank in omega arith)
 
 -- the default does not matter in range
-getD-default : {A : Type 0} (xs : List A) (i : ℕ) (d e : A) → i < length xs → getD xs i d ≡ getD xs i e
+pub getD-default : {A : Type 0} (xs : List A) (i : ℕ) (d e : A) → i < length xs → getD xs i d ≡ getD xs i e
 getD-default [] i d e h = absurd (omega arith)
 getD-default (x ∷ xs) zero d e h = refl
 getD-default (x ∷ xs) (suc i) d e h = getD-default xs i d e (omega arith)
@@ -93,6 +93,9 @@ module _ (task : Task) (kept : TaskKept task) where
   schema-size =
       ap (λ (t : Task). length (t .schemas .schemas)) (kept .kept)
       ∙ length-padded 32 blankSchema (map schemaFor (modelTask .schemas)) (let n = length-map (modelTask .schemas) schemaFor in let few = right .few-schemas in omega arith)
+
+  pub few-schemas : (n : ℕ) → n < task .schemas .count → n < length (task .schemas .schemas)
+  few-schemas n h = let size = schema-size in let count = schema-count in let few = right .few-schemas in omega arith
 
   -- the schema of a number in range, as the code has it
   module _ (n : ℕ) (within : n < task .schemas .count) where
