@@ -33,6 +33,9 @@ module _ (task : Task) (kept : TaskKept task) where
   pub part-right : inRange part ≡ true
   part-right = ap inRange same ∙ task-shape task kept .right
 
+  pub facts-right : (numbers : List ℕ) → task .facts .count ≤ length numbers → FactsRight part (task .facts) numbers
+  facts-right numbers room = subst (λ (l : List ℕ). FactsRight l (task .facts) numbers) (sym same) (facts-kept task kept numbers room)
+
   module _ (buffer : List ℕ) (count : ℕ) (action : Action) where
     -- what 15 says
     pub formed : (r : Bool) → r ≡ wellFormed (signature part (task .objects)) buffer count → r ≡ wellFormed (modelTask task kept) buffer count

@@ -97,6 +97,9 @@ module _ (task : Task) (kept : TaskKept task) where
   pub few-schemas : (n : ℕ) → n < task .schemas .count → n < length (task .schemas .schemas)
   few-schemas n h = let size = schema-size in let count = schema-count in let few = right .few-schemas in omega arith
 
+  pub schema-below : (n : ℕ) → n < task .schemas .count → n < 32
+  schema-below n h = let count = schema-count in let few = right .few-schemas in omega arith
+
   -- the schema of a number in range, as the code has it
   module _ (n : ℕ) (within : n < task .schemas .count) where
     abbrev chosen : Schema

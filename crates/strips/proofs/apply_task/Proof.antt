@@ -1,92 +1,77 @@
+-- 15 and 16, then the rest with the schema.
 use borrow.Author.Needs.{needs}
+use Prim.Native.Nat.{ℕ}
+use mathlib.Core.Path.{_≡_, refl, sym, ap, _∙_}
+use native.Mathlib.Omega.{arith}
+use borrow.Author.Tests.{not-true, not-false}
+use Rattle.strips.proofs.Tasks.{predicates-within, schema-below}
+use Rattle.strips.proofs.Pressing.{part-right, refused-malformed, refused-unknown, state-kept, schema-kept, pressed}
 use Rattle.strips.proofs.apply_task.Statement.{statement}
 use Rattle.strips.proofs.apply_task.Tie as tie
-use Rattle.strips.proofs.apply_task.Reads as reads
-use Rattle.strips.proofs.apply_task.Lts as lts
-use Rattle.state.proofs.well_formed.Reads as well-formed-reads
-use Rattle.strips.proofs.apply_schema.Reads as apply-schema-reads
 
--- src/lib.rt:121:35
 sub-well-formed : tie.Need-sub-well-formed
-sub-well-formed c = ?
+sub-well-formed c = search needs
 
--- src/lib.rt:121:35
 part-well-formed-start : tie.Need-part-well-formed-start
-part-well-formed-start c = ?
+part-well-formed-start c = search needs
 
--- src/lib.rt:121:35
 part-well-formed-end : tie.Need-part-well-formed-end
-part-well-formed-end c = ?
+part-well-formed-end c = let start = c .before .before .before .before .before .before in predicates-within (start .args .task) (start .pre)
 
--- src/lib.rt:121:9
 well-formed-requires : tie.Need-well-formed-requires
-well-formed-requires c κs = ?
+well-formed-requires c κs = let start = c .before .before .before .before .before .before .before in part-right (start .args .task) (start .pre)
 
--- src/lib.rt:122:9
 same-length : tie.Need-same-length
-same-length c = ?
+same-length c = search needs
 
--- src/lib.rt:122:9
 returns : tie.Need-returns
-returns c = ?
+returns c =
+    let start = c .before .before .before .before .before .before .before .before .before in
+    refused-malformed (start .args .task) (start .pre) (start .args .state .now) (start .args .count) (record { schema = start .args .schema; objects = start .args .objects .now })
+    _ (c .before .well-formed .ensures) (not-true _ (c .if1 .taken))
 
--- src/lib.rt:127:9
 same-length-2 : tie.Need-same-length-2
-same-length-2 c = ?
+same-length-2 c = search needs
 
--- src/lib.rt:127:9
 returns-2 : tie.Need-returns-2
-returns-2 c = ?
+returns-2 c =
+    let start = c .before .before .before .before .before .before .before .before .before .before .before in
+    refused-unknown (start .args .task) (start .pre) (start .args .state .now) (start .args .count) (record { schema = start .args .schema; objects = start .args .objects .now })
+    _ (c .before .before .before .well-formed .ensures) (not-false _ (c .before .before .if1 .left)) (c .if2 .taken)
 
--- src/lib.rt:129:18
 mul-chosen : tie.Need-mul-chosen
-mul-chosen c = ?
+mul-chosen c = let start = c .before .before .before .before .before .before .before .before .before .before .before in let below = schema-below (start .args .task) (start .pre) (start .args .schema) (c .if2 .left) in omega (arith, below)
 
--- src/lib.rt:129:18
 element-copy-out-chosen : tie.Need-element-copy-out-chosen
-element-copy-out-chosen c = ?
+element-copy-out-chosen c = let start = c .before .before .before .before .before .before .before .before .before .before .before in schema-below (start .args .task) (start .pre) (start .args .schema) (c .if2 .left)
 
--- src/lib.rt:130:26
 sub-apply-schema : tie.Need-sub-apply-schema
-sub-apply-schema c = ?
+sub-apply-schema c = search needs
 
--- src/lib.rt:130:26
 part-apply-schema-start : tie.Need-part-apply-schema-start
-part-apply-schema-start c = ?
+part-apply-schema-start c = search needs
 
--- src/lib.rt:130:26
 part-apply-schema-end : tie.Need-part-apply-schema-end
-part-apply-schema-end c = ?
+part-apply-schema-end c = let start = c .before .before .before .before .before .before .before .before .before .before .before .before .before in predicates-within (start .args .task) (start .pre)
 
--- src/lib.rt:130:5
 apply-schema-requires : tie.Need-apply-schema-requires
-apply-schema-requires c κs = ?
+apply-schema-requires c κs =
+    let start = c .before .before .before .before .before .before .before .before .before .before .before .before .before .before .before in
+    (state-kept (start .args .task) (start .pre) (start .args .state .now) (start .args .count) (record { schema = start .args .schema; objects = start .args .objects .now })
+    _ (c .before .before .before .before .before .before .before .well-formed .ensures) (not-false _ (c .before .before .before .before .before .before .if1 .left)),
+    schema-kept (start .args .task) (start .pre) (start .args .state .now) (start .args .count) (record { schema = start .args .schema; objects = start .args .objects .now })
+    _ (c .before .before .before .before .before .before .before .well-formed .ensures) (not-false _ (c .before .before .before .before .before .before .if1 .left)) _ (c .before .before .before .before .if2 .left))
 
--- src/lib.rt:111:1
 same-length-3 : tie.Need-same-length-3
-same-length-3 c = ?
+same-length-3 c = search needs
 
--- src/lib.rt:111:1
 returns-3 : tie.Need-returns-3
-returns-3 c = ?
+returns-3 c =
+    let start = c .before .before .before .before .before .before .before .before .before .before .before .before .before .before .before .before .before .before in
+    pressed (start .args .task) (start .pre) (start .args .state .now) (start .args .count) (record { schema = start .args .schema; objects = start .args .objects .now })
+    _ (c .before .before .before .before .before .before .before .before .before .before .well-formed .ensures) (not-false _ (c .before .before .before .before .before .before .before .before .before .if1 .left)) _ (c .before .before .before .before .before .before .before .if2 .left) _ _ (c .before .before .apply-schema .ensures)
 
 pub apply-task-spec : {M : Type 1} → statement M
 apply-task-spec =
     tie.close
-    (tie.spec
-    sub-well-formed
-    part-well-formed-start
-    part-well-formed-end
-    well-formed-requires
-    same-length
-    returns
-    same-length-2
-    returns-2
-    mul-chosen
-    element-copy-out-chosen
-    sub-apply-schema
-    part-apply-schema-start
-    part-apply-schema-end
-    apply-schema-requires
-    same-length-3
-    returns-3)
+    (tie.spec sub-well-formed part-well-formed-start part-well-formed-end well-formed-requires same-length returns same-length-2 returns-2 mul-chosen element-copy-out-chosen sub-apply-schema part-apply-schema-start part-apply-schema-end apply-schema-requires same-length-3 returns-3)
