@@ -1,5 +1,5 @@
 -- What the code's structs and enums stand for: the numbers of document 01, and a task with its arrays filled up by a fixed blank.
-use Prim.Native.Nat.{ℕ, zero, suc, _-_}
+use Prim.Native.Nat.{ℕ, _-_}
 use mathlib.Core.List.{List, [], _∷_, _++_, map}
 use lib.ListN.{length, getD, take, replicate}
 use mathlib.Core.Path.{_≡_}

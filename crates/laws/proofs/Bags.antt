@@ -1,22 +1,26 @@
--- Bags: their operations read property by property, containment as an order, and the least bags of a list; for any number of properties.
+-- Bags, for any number of properties: their operations property by property, containment as an order, the least bags of a list;
+-- and what lists of them, without repeats or made by folds, have.
 use Prim.Native.Nat.{ℕ, zero, suc, _+_, _-_, _≤_, _<_, min, zero-le, suc-le-suc}
-use native.Mathlib.Nat.{le-of-suc-le-suc, not-suc-le-zero, suc-inj, suc-ne-zero, le-refl}
+use native.Mathlib.Nat.{not-suc-le-zero, suc-inj, suc-ne-zero, le-refl}
 use native.Mathlib.Omega.{arith}
 use mathlib.Core.Path.{_≡_, refl, sym, ap, _∙_, subst}
-use mathlib.Core.Bool.{Bool, true, false, cond, not, _&&_}
-use mathlib.Core.Logic.{_⊎_, inl, inr, ⊎-elim}
-use mathlib.Core.List.{List, [], _∷_, _++_, map, zipWith, foldl, List·Memᴰ, List·Memᴰ·head, List·Memᴰ·tail, List·Memᴰ·cases-cons, List·Memᴰ·not-nil, List·Memᴰ·append-cases, List·Memᴰ·eq-of-singleton, Memᴰ·cast}
+use mathlib.Core.Bool.{Bool, true, false, cond, not}
+use mathlib.Core.List.{List, [], _∷_, zipWith, List·Memᴰ}
+use mathlib.Core.List.{Memᴰ·cast}
 use lib.Dec.{leb, eqb, ltb}
 use lib.ListN.{length, getD, length-map, List·getD-eq-default}
 use lib.Seq.{ext-getD}
 use borrow.Author.Tests.{eqb-true, eqb-false, eq-eqb, ne-eqb, leb-true, le-leb, ltb-true, ltb-false, lt-ltb}
 use Rattle.laws.specs.Lists.{any, all, keep, upTo, sum, same}
 use Rattle.laws.specs.Bags.{Bag, plus, less, meet, contains, strictlyContains, isEmpty, single, support, restrict, listed}
-use Rattle.laws.proofs.Tests.{never, and-left, and-right, and-intro, not-true, to-not-true, by-test, cond-true, cond-false}
-use Rattle.laws.proofs.Lists.{all-at, all-intro, any-at, any-intro, any-none, keep-at, keep-intro, mem-getD, place-of, length-upTo, upTo-at, upTo-intro, getD-upTo, same-eq, same-refl}
+use Rattle.laws.proofs.Tests.{never, and-left, and-right, and-intro, not-true, to-not-true, by-test, same-test, cond-true, cond-false}
+use Rattle.laws.proofs.Mapped.{getD-map}
+use Rattle.laws.proofs.Lists.{all-at, all-intro, any-at, any-intro, keep-at, keep-intro, mem-getD, place-of, length-upTo, upTo-at, upTo-intro}
+use Rattle.laws.proofs.Lists.{getD-upTo, same-eq, same-refl}
 
 -- ---- an operation that goes property by property
 
+-- it keeps the length
 pub length-zipWith : (f : ℕ → ℕ → ℕ) (n : ℕ) (a b : Bag) → length a ≡ n → length b ≡ n → length (zipWith f a b) ≡ n
 unfolding zipWith
 length-zipWith f n [] b p q = p
@@ -24,6 +28,7 @@ length-zipWith f n (x ∷ a) [] p q = q
 length-zipWith f zero (x ∷ a) (y ∷ b) p q = absurd (suc-ne-zero (length a) p)
 length-zipWith f (suc n) (x ∷ a) (y ∷ b) p q = ap suc (length-zipWith f n a b (suc-inj p) (suc-inj q))
 
+-- each count is made from the two counts at its place
 pub getD-zipWith : (f : ℕ → ℕ → ℕ) → f 0 0 ≡ 0 → (a b : Bag) → length a ≡ length b → (i : ℕ)
     → getD (zipWith f a b) i 0 ≡ f (getD a i 0) (getD b i 0)
 unfolding zipWith
@@ -52,7 +57,7 @@ meet-zip [] b = refl
 meet-zip (x ∷ a) [] = refl
 meet-zip (x ∷ a) (y ∷ b) = ap (λ (l : Bag). min x y ∷ l) (meet-zip a b)
 
--- they keep the length
+-- so they keep the length
 pub length-plus : (n : ℕ) (a b : Bag) → length a ≡ n → length b ≡ n → length (plus a b) ≡ n
 length-plus n a b p q = ap length (plus-zip a b) ∙ length-zipWith _+_ n a b p q
 
@@ -71,6 +76,28 @@ getD-less a b p i = ap (λ (l : Bag). getD l i 0) (less-zip a b) ∙ getD-zipWit
 
 pub getD-meet : (a b : Bag) → length a ≡ length b → (i : ℕ) → getD (meet a b) i 0 ≡ min (getD a i 0) (getD b i 0)
 getD-meet a b p i = ap (λ (l : Bag). getD l i 0) (meet-zip a b) ∙ getD-zipWith min refl a b p i
+
+-- a change of a bag: d taken away, a put in, s of that absorbed
+pub length-change : (n : ℕ) (b d a s : Bag) → length b ≡ n → length d ≡ n → length a ≡ n → length s ≡ n
+    → length (less (plus (less b d) a) s) ≡ n
+length-change n b d a s p q r t = length-less n (plus (less b d) a) s (length-plus n (less b d) a (length-less n b d p q) r) t
+
+pub getD-change : (n : ℕ) (b d a s : Bag) → length b ≡ n → length d ≡ n → length a ≡ n → length s ≡ n
+    → (i : ℕ) → getD (less (plus (less b d) a) s) i 0 ≡ getD b i 0 - getD d i 0 + getD a i 0 - getD s i 0
+getD-change n b d a s p q r t i =
+    let l = length-less n b d p q in
+    getD-less (plus (less b d) a) s (length-plus n (less b d) a l r ∙ sym t) i
+    ∙ ap (λ (x : ℕ). x - getD s i 0) (getD-plus (less b d) a (l ∙ sym r) i)
+    ∙ ap (λ (x : ℕ). x + getD a i 0 - getD s i 0) (getD-less b d (p ∙ sym q) i)
+
+-- how much of it can be absorbed
+pub length-absorbed : (n : ℕ) (b d a : Bag) → length b ≡ n → length d ≡ n → length a ≡ n → length (meet a (less b d)) ≡ n
+length-absorbed n b d a p q r = length-meet n a (less b d) r (length-less n b d p q)
+
+pub getD-absorbed : (n : ℕ) (b d a : Bag) → length b ≡ n → length d ≡ n → length a ≡ n
+    → (i : ℕ) → getD (meet a (less b d)) i 0 ≡ min (getD a i 0) (getD b i 0 - getD d i 0)
+getD-absorbed n b d a p q r i =
+    getD-meet a (less b d) (r ∙ sym (length-less n b d p q)) i ∙ ap (min (getD a i 0)) (getD-less b d (p ∙ sym q) i)
 
 -- bags of one length with the same counts are the same
 pub bag-ext : (n : ℕ) (a b : Bag) → length a ≡ n → length b ≡ n → ((i : ℕ) → i < n → getD a i 0 ≡ getD b i 0) → a ≡ b
@@ -115,6 +142,23 @@ contains-trans c b a p q =
 pub contains-antisym : (a b : Bag) → contains a b ≡ true → contains b a ≡ true → a ≡ b
 contains-antisym a b p q =
     bag-ext (length a) a b refl (contains-length b a q) (λ i h. omega (arith, contains-at a b p i, contains-at b a q i))
+
+-- a bag taken away in two parts
+pub less-less : (n : ℕ) (b e o : Bag) → length b ≡ n → length e ≡ n → length o ≡ n → contains e o ≡ true
+    → less (less b o) (less e o) ≡ less b e
+less-less n b e o p q r k =
+    let lb = length-less n b o p r in
+    let le = length-less n e o q r in
+    bag-ext n (less (less b o) (less e o)) (less b e) (length-less n (less b o) (less e o) lb le) (length-less n b e p q)
+    (λ i h.
+    let under = contains-at e o k i in
+    omega (
+      arith,
+      getD-less (less b o) (less e o) (lb ∙ sym le) i,
+      getD-less b o (p ∙ sym r) i,
+      getD-less e o (q ∙ sym r) i,
+      getD-less b e (p ∙ sym q) i,
+    ))
 
 -- strict containment: contained, and another bag
 pub strictly-at : (a b : Bag) → strictlyContains a b ≡ true → (contains a b ≡ true) × (a ≡ b → ⊥)
@@ -192,6 +236,7 @@ least-below bags b k = descend (suc (sum b)) b k (le-refl (suc (sum b)))
 
 -- ---- a bag on a list
 
+-- the test for a bag on a list is membership
 pub listed-at : (bags : List Bag) (b : Bag) → listed bags b ≡ true → List·Memᴰ b bags
 unfolding listed
 listed-at bags b e = let r = any-at (same b) bags e in Memᴰ·cast (same-eq b (r .0) (r .2)) (r .1)
@@ -205,6 +250,7 @@ listed-not bags b e k = never (sym (listed-intro bags b k) ∙ e)
 
 -- ---- an empty bag, a bag of one occurrence, the properties of a bag
 
+-- an empty bag is one whose counts are all 0
 pub isEmpty-at : (b : Bag) → isEmpty b ≡ true → (i : ℕ) → getD b i 0 ≡ 0
 unfolding isEmpty
 isEmpty-at b e i =
@@ -217,6 +263,11 @@ unfolding isEmpty
 isEmpty-intro b h =
     all-intro (eqb 0) b (λ x k. let r = place-of b x 0 k in eq-eqb 0 x (sym (sym (r .2) ∙ h (r .0) (r .1))))
 
+-- to take an empty bag away changes nothing
+pub less-empty : (n : ℕ) (b e : Bag) → length b ≡ n → length e ≡ n → isEmpty e ≡ true → less b e ≡ b
+less-empty n b e p q z =
+    bag-ext n (less b e) b (length-less n b e p q) p (λ i h. omega (arith, getD-less b e (p ∙ sym q) i, isEmpty-at e z i))
+
 -- a bag that is not empty has a property
 pub isEmpty-not : (b : Bag) → isEmpty b ≡ false → (i : ℕ) × (i < length b) × (0 < getD b i 0)
 unfolding isEmpty all
@@ -224,20 +275,17 @@ isEmpty-not [] e = never e
 isEmpty-not (zero ∷ b) e = let r = isEmpty-not b e in (suc (r .0), suc-le-suc (r .1), r .2)
 isEmpty-not (suc x ∷ b) e = (0, suc-le-suc zero-le, suc-le-suc zero-le)
 
+-- the count at a place of a mapped list
+
+-- the bag of one occurrence: its length, and its count at its property and elsewhere
 pub length-single : (n c : ℕ) → length (single n c) ≡ n
 unfolding single
 length-single n c = length-map (upTo n) (λ d. cond (eqb c d) 1 0) ∙ length-upTo n
 
--- the count at a place of a mapped list
-getD-map-in : {A : Type 0} (f : A → ℕ) (l : List A) (i : ℕ) (d : A) → i < length l → getD (map f l) i 0 ≡ f (getD l i d)
-getD-map-in f [] i d h = absurd (not-suc-le-zero h)
-getD-map-in f (x ∷ l) zero d h = refl
-getD-map-in f (x ∷ l) (suc i) d h = getD-map-in f l i d (le-of-suc-le-suc h)
-
 pub getD-single : (n c i : ℕ) → i < n → getD (single n c) i 0 ≡ cond (eqb c i) 1 0
 unfolding single
 getD-single n c i h =
-    getD-map-in (λ d. cond (eqb c d) 1 0) (upTo n) i 0 (subst (λ (m : ℕ). i < m) (sym (length-upTo n)) h)
+    getD-map (λ d. cond (eqb c d) 1 0) (upTo n) i 0 0 (subst (λ (m : ℕ). i < m) (sym (length-upTo n)) h)
     ∙ ap (λ (d : ℕ). cond (eqb c d) 1 0) (getD-upTo n i 0 h)
 
 pub single-here : (n c : ℕ) → c < n → getD (single n c) c 0 ≡ 1
@@ -246,6 +294,32 @@ single-here n c h = getD-single n c c h ∙ cond-true (eqb c c) 1 0 (eq-eqb c c 
 pub single-elsewhere : (n c i : ℕ) → i < n → (c ≡ i → ⊥) → getD (single n c) i 0 ≡ 0
 single-elsewhere n c i h d = getD-single n c i h ∙ cond-false (eqb c i) 1 0 (ne-eqb c i d)
 
+-- what holds of one occurrence at the property, and of none elsewhere, holds of every count
+pub single-by-place : (Q : ℕ → ℕ → Type 0) (n c : ℕ) → Q c 1 → ((i : ℕ) → Q i 0) → (i : ℕ) → i < n → Q i (getD (single n c) i 0)
+single-by-place Q n c here elsewhere i h =
+    by-test (eqb c i)
+    (λ e.
+    let p = eqb-true c i e in
+    subst (Q i) (sym (subst (λ (x : ℕ). getD (single n x) i 0 ≡ 1) (sym p) (single-here n i h))) (subst (λ (x : ℕ). Q x 1) p here))
+    (λ e. subst (Q i) (sym (single-elsewhere n c i h (eqb-false c i e))) (elsewhere i))
+
+-- a bag without one of its occurrences has fewer in all
+pub less-single-sum : (n : ℕ) (b : Bag) (c : ℕ) → length b ≡ n → c < n → 0 < getD b c 0 → sum (less b (single n c)) < sum b
+less-single-sum n b c p h k =
+    let one = single n c in
+    let l = length-single n c in
+    strictly-sum b (less b one)
+    (strictly-intro b (less b one)
+    (contains-intro b (less b one) (p ∙ sym (length-less n b one p l)) (λ i j. omega (arith, getD-less b one (p ∙ sym l) i)))
+    (λ e. omega (arith, k, ap (λ (x : Bag). getD x c 0) e, getD-less b one (p ∙ sym l) c, single-here n c h)))
+
+-- a bag contains one occurrence of each of its properties
+pub contains-single : (n : ℕ) (b : Bag) (c : ℕ) → length b ≡ n → 0 < getD b c 0 → contains b (single n c) ≡ true
+contains-single n b c p k =
+    contains-intro b (single n c) (p ∙ sym (length-single n c))
+    (λ i h. single-by-place (λ i o. o ≤ getD b i 0) n c k (λ i. zero-le) i (subst (λ (m : ℕ). i < m) p h))
+
+-- the distinct properties are those with a count above 0
 pub support-at : (b : Bag) (c : ℕ) → List·Memᴰ c (support b) → (c < length b) × (0 < getD b c 0)
 unfolding support
 support-at b c k =
@@ -257,13 +331,14 @@ support-intro b c h k = keep-intro (λ c. ltb 0 (getD b c 0)) (upTo (length b)) 
 
 -- ---- the counts of some properties
 
+-- one count for each property given
 pub length-restrict : (cs : List ℕ) (b : Bag) → length (restrict cs b) ≡ length cs
 unfolding restrict
 length-restrict cs b = length-map cs (λ c. getD b c 0)
 
 pub getD-restrict : (cs : List ℕ) (b : Bag) (i : ℕ) → i < length cs → getD (restrict cs b) i 0 ≡ getD b (getD cs i 0) 0
 unfolding restrict
-getD-restrict cs b i h = getD-map-in (λ c. getD b c 0) cs i 0 h
+getD-restrict cs b i h = getD-map (λ c. getD b c 0) cs i 0 0 h
 
 -- the operations on some of the properties
 pub restrict-plus : (cs : List ℕ) (a b : Bag) → length a ≡ length b → restrict cs (plus a b) ≡ plus (restrict cs a) (restrict cs b)
@@ -288,90 +363,26 @@ restrict-contains cs b a e =
     let k : i < length cs = subst (λ (n : ℕ). i < n) (length-restrict cs b) h in
     omega (arith, contains-at b a e (getD cs i 0), getD-restrict cs b i k, getD-restrict cs a i k))
 
--- ---- lists of bags, or of anything else
+pub restrict-isEmpty : (cs : List ℕ) (b : Bag) → isEmpty b ≡ true → isEmpty (restrict cs b) ≡ true
+restrict-isEmpty cs b e =
+    isEmpty-intro (restrict cs b)
+    (λ i h. getD-restrict cs b i (subst (λ (n : ℕ). i < n) (length-restrict cs b) h) ∙ isEmpty-at b e (getD cs i 0))
 
-module _ {A : Type 0} where
-  -- each element is related to every later one
-  abbrev pub Pairwise : (A → A → Type 0) → List A → Type 0
-  Pairwise R [] = Unit {0}
-  Pairwise R (x ∷ xs) = ((y : A) → List·Memᴰ y xs → R x y) × Pairwise R xs
-
-  pub pairwise-append : (R : A → A → Type 0) (xs ys : List A) → Pairwise R xs → Pairwise R ys
-      → ((x y : A) → List·Memᴰ x xs → List·Memᴰ y ys → R x y) → Pairwise R (xs ++ ys)
-  pairwise-append R [] ys p q h = q
-  pairwise-append R (x ∷ xs) ys p q h = (
-    λ y k. ⊎-elim (p .0 y) (h x y (List·Memᴰ·head refl)) (List·Memᴰ·append-cases xs k),
-    pairwise-append R xs ys (p .1) q (λ z y k. h z y (List·Memᴰ·tail k)),
-  )
-
-  -- no element stands twice
-  abbrev pub NoRepeat : List A → Type 0
-  NoRepeat xs = Pairwise (λ x y. x ≡ y → ⊥) xs
-
-  pub no-repeat-append : (xs : List A) (x : A) → NoRepeat xs → (List·Memᴰ x xs → ⊥) → NoRepeat (xs ++ (x ∷ []))
-  no-repeat-append xs x p d =
-      pairwise-append (λ x y. x ≡ y → ⊥) xs (x ∷ []) p (λ y k. absurd (List·Memᴰ·not-nil k), tt)
-      (λ y z k j e. d (Memᴰ·cast (sym (e ∙ List·Memᴰ·eq-of-singleton j)) k))
-
-  -- a list without repeats is at most as long as a list that has all its elements
-  pub no-repeat-length : (xs ys : List A) → NoRepeat xs → ((x : A) → List·Memᴰ x xs → List·Memᴰ x ys) → length xs ≤ length ys
-  no-repeat-length [] ys p h = zero-le
-  no-repeat-length (x ∷ xs) ys p h =
-      let c = around ys (h x (List·Memᴰ·head refl)) in
-      let rest = no-repeat-length xs (c .0 ++ c .1) (p .1) (λ y k. c .3 y (h y (List·Memᴰ·tail k)) (p .0 y k)) in
-      omega arith
-    where
-      -- an element of a list, and the list without it
-      around : (l : List A) → List·Memᴰ x l
-          → (us : List A) × (vs : List A) × (length l ≡ suc (length (us ++ vs)))
-          × ((y : A) → List·Memᴰ y l → (x ≡ y → ⊥) → List·Memᴰ y (us ++ vs))
-      around [] k = absurd (List·Memᴰ·not-nil k)
-      around (z ∷ l) k =
-          ⊎-elim (λ e. ([], l, refl, λ y j d. ⊎-elim (λ q. absurd (d (e ∙ sym q))) (λ i. i) (List·Memᴰ·cases-cons j)))
-          (λ j.
-          let r = around l j in
-          (z ∷ r .0, r .1, ap suc (r .2), λ y i d. ⊎-elim List·Memᴰ·head (λ o. List·Memᴰ·tail (r .3 y o d)) (List·Memᴰ·cases-cons i)))
-          (List·Memᴰ·cases-cons k)
-
-module _ {A B : Type 0} where
-  -- two lists of one length whose elements are related place by place
-  abbrev pub Each : (A → B → Type 0) → List A → List B → Type 0
-  Each R [] [] = Unit {0}
-  Each R [] (y ∷ ys) = ⊥
-  Each R (x ∷ xs) [] = ⊥
-  Each R (x ∷ xs) (y ∷ ys) = R x y × Each R xs ys
-
-  pub each-length : (R : A → B → Type 0) (xs : List A) (ys : List B) → Each R xs ys → length ys ≡ length xs
-  each-length R [] [] e = refl
-  each-length R [] (y ∷ ys) e = absurd e
-  each-length R (x ∷ xs) [] e = absurd e
-  each-length R (x ∷ xs) (y ∷ ys) e = ap suc (each-length R xs ys (e .1))
-
-  pub each-at : (R : A → B → Type 0) (xs : List A) (ys : List B) → Each R xs ys
-      → (i : ℕ) (d : A) (c : B) → i < length xs → R (getD xs i d) (getD ys i c)
-  each-at R [] [] e i d c h = absurd (not-suc-le-zero h)
-  each-at R [] (y ∷ ys) e i d c h = absurd e
-  each-at R (x ∷ xs) [] e i d c h = absurd e
-  each-at R (x ∷ xs) (y ∷ ys) e zero d c h = e .0
-  each-at R (x ∷ xs) (y ∷ ys) e (suc i) d c h = each-at R xs ys (e .1) i d c (le-of-suc-le-suc h)
-
-  -- what every step keeps, a fold keeps
-  pub fold-keeps : (Q : B → Type 0) (f : B → A → B) (xs : List A) → ((b : B) (x : A) → List·Memᴰ x xs → Q b → Q (f b x))
-      → (b : B) → Q b → Q (foldl f b xs)
-  fold-keeps Q f [] h b q = q
-  fold-keeps Q f (x ∷ xs) h b q =
-      fold-keeps Q f xs (λ c y k. h c y (List·Memᴰ·tail k)) (f b x) (h b x (List·Memᴰ·head refl) q)
-
-  -- a fold whose every step leads on, by a relation that is reflexive and transitive: it leads on as a whole, and for each
-  -- element on from some stage to its step, and from there to the end
-  module _ (R : B → B → Type 0) (same : (b : B) → R b b) (then : (b c d : B) → R b c → R c d → R b d) (f : B → A → B)
-      (step : (b : B) (x : A) → R b (f b x)) where
-    pub fold-leads : (b : B) (xs : List A) → R b (foldl f b xs)
-    fold-leads b xs = fold-keeps (R b) f xs (λ c x k r. then b c (f c x) r (step c x)) b (same b)
-
-    pub fold-at : (b : B) (xs : List A) (x : A) → List·Memᴰ x xs → (c : B) × R b c × R (f c x) (foldl f b xs)
-    fold-at b [] x k = absurd (List·Memᴰ·not-nil k)
-    fold-at b (y ∷ xs) x k =
-        ⊎-elim (λ e. (b, same b, subst (λ (z : A). R (f b z) (foldl f (f b y) xs)) (sym e) (fold-leads (f b y) xs)))
-        (λ j. let r = fold-at (f b y) xs x j in (r .0, then b (f b y) (r .0) (step b y) (r .1), r .2))
-        (List·Memᴰ·cases-cons k)
+-- one occurrence of one of the properties, of which none stands twice
+pub restrict-single : (cs : List ℕ) (size i : ℕ) → i < length cs → ((c : ℕ) → List·Memᴰ c cs → c < size)
+    → ((j k : ℕ) → j < length cs → k < length cs → getD cs j 0 ≡ getD cs k 0 → j ≡ k)
+    → restrict cs (single size (getD cs i 0)) ≡ single (length cs) i
+restrict-single cs size i h below once =
+    bag-ext (length cs) (restrict cs (single size (getD cs i 0))) (single (length cs) i)
+    (length-restrict cs (single size (getD cs i 0))) (length-single (length cs) i)
+    (λ j k.
+    getD-restrict cs (single size (getD cs i 0)) j k
+    ∙ getD-single size (getD cs i 0) (getD cs j 0) (below (getD cs j 0) (mem-getD cs j 0 k))
+    ∙ ap (λ (t : Bool). cond t 1 0) (agree j k)
+    ∙ sym (getD-single (length cs) i j k))
+  where
+    agree : (j : ℕ) → j < length cs → eqb (getD cs i 0) (getD cs j 0) ≡ eqb i j
+    agree j k =
+        same-test (eqb (getD cs i 0) (getD cs j 0)) (eqb i j)
+        (λ e. eq-eqb i j (once i j h k (eqb-true (getD cs i 0) (getD cs j 0) e)))
+        (λ e. eq-eqb (getD cs i 0) (getD cs j 0) (ap (λ (c : ℕ). getD cs c 0) (eqb-true i j e)))

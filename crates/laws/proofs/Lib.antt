@@ -3,6 +3,10 @@ pub mod Lists
 pub mod Sums
 pub mod Bags
 pub mod Counting
-pub mod Groups
+pub mod Numbers
+pub mod Closure
+pub mod Folds
+pub mod Relations
+pub mod Mapped
 pub mod Orders
 pub mod Reading

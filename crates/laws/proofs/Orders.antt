@@ -1,16 +1,16 @@
--- Orders: lists of numbers in the order by elements, front to back, and lists in which nothing stands twice.
-use Prim.Native.Nat.{ℕ, zero, suc, _+_, _≤_, _<_, zero-le, suc-le-suc}
+-- Orders: lists of numbers in the order by elements, front to back; lists in which nothing stands twice; lists all of whose elements pass a test.
+use Prim.Native.Nat.{ℕ, zero, suc, _≤_, _<_, zero-le, suc-le-suc}
 use native.Mathlib.Nat.{le-of-suc-le-suc, not-suc-le-zero}
 use native.Mathlib.Omega.{arith}
-use mathlib.Core.Path.{_≡_, refl, sym, ap, _∙_, subst}
-use mathlib.Core.Bool.{Bool, true, false, cond, not, _&&_, _||_}
+use mathlib.Core.Path.{_≡_, refl, sym, ap, _∙_}
+use mathlib.Core.Bool.{Bool, true, false, _&&_, _||_}
 use mathlib.Core.Logic.{_⊎_, inl, inr, ⊎-elim}
-use mathlib.Core.List.{List, [], _∷_, _++_, map, List·Memᴰ, List·Memᴰ·head, List·Memᴰ·tail, List·Memᴰ·cases-cons, List·Memᴰ·not-nil, head-eq-of-cons-eq, tail-eq-of-cons-eq}
-use lib.Dec.{eqb, ltb, leb}
+use mathlib.Core.List.{List, [], _∷_, _++_, head-eq-of-cons-eq, tail-eq-of-cons-eq}
+use lib.Dec.{eqb, ltb}
 use lib.ListN.{length, getD, take}
-use borrow.Author.Tests.{eqb-true, eqb-false, eq-eqb, ne-eqb, ltb-true, ltb-false, lt-ltb, le-ltb}
+use borrow.Author.Tests.{eqb-true, eqb-false, eq-eqb, ltb-true, ltb-false, lt-ltb}
 use Rattle.laws.specs.Lists.{all, before}
-use Rattle.laws.proofs.Tests.{never, and-left, and-right, and-intro, and-false-left, or-cases, or-left, or-right, or-false-intro, by-test, same-test}
+use Rattle.laws.proofs.Tests.{never, and-left, and-right, and-intro, or-cases, or-left, or-right, by-test}
 
 -- the first elements decide, or they are equal and the rest decides
 pub before-cases :
@@ -131,15 +131,3 @@ before-append [] (y ∷ ys) zs n = absurd (omega arith)
 before-append (x ∷ xs) [] zs n = absurd (omega arith)
 before-append (x ∷ xs) (y ∷ ys) zs n =
     ap (λ (b : Bool). ltb x y || (eqb x y && b)) (before-append xs ys zs (omega arith))
-
-module _ {A : Type 0} where
-  -- nothing stands twice on a list
-  pub data NoRepeat : List A → Type 0 where
-    none-twice : NoRepeat []
-    one-more : {x : A} {xs : List A} → (List·Memᴰ x xs → ⊥) → NoRepeat xs → NoRepeat (x ∷ xs)
-
--- a test of every element made by a function
-pub all-map : {A B : Type 0} (f : A → B) (test : B → Bool) (xs : List A) → all test (map f xs) ≡ all (λ x. test (f x)) xs
-unfolding all
-all-map f test [] = refl
-all-map f test (x ∷ xs) = ap (λ (b : Bool). test (f x) && b) (all-map f test xs)

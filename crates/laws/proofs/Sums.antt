@@ -1,17 +1,16 @@
 -- Sums and counts over numbers in sequence: counting a relation by rows or by columns, and how many a list of different numbers holds.
 use Prim.Native.Nat.{ℕ, zero, suc, _+_, _*_, _≤_, _<_}
-use native.Mathlib.Nat.{zero-add, suc-add, add-zero, mul-suc, mul-zero, not-suc-le-zero}
+use native.Mathlib.Nat.{zero-add, mul-suc, mul-zero, not-suc-le-zero}
 use native.Mathlib.Omega.{arith}
-use mathlib.Core.Path.{_≡_, refl, sym, ap, _∙_, subst}
-use mathlib.Core.Bool.{Bool, true, false, cond, not, _&&_, _||_}
-use mathlib.Core.Logic.{_⊎_, inl, inr, ⊎-elim}
-use mathlib.Core.List.{List, [], _∷_, _++_, map, List·Memᴰ, List·Memᴰ·head, List·Memᴰ·tail}
-use lib.Dec.{eqb, ltb}
+use mathlib.Core.Path.{_≡_, refl, sym, ap, _∙_}
+use mathlib.Core.Bool.{Bool, true, false, cond, not, _||_}
+use mathlib.Core.List.{List, [], _∷_, map, List·Memᴰ, List·Memᴰ·head, List·Memᴰ·tail}
+use lib.Dec.{eqb}
 use lib.ListN.{length, getD}
-use borrow.Author.Tests.{eqb-true, eqb-false, eq-eqb, ne-eqb}
+use borrow.Author.Tests.{eqb-true, eqb-false, ne-eqb}
 use Rattle.laws.specs.Lists.{count, from, upTo, sum, member, any, distinct, standsAt}
-use Rattle.laws.proofs.Tests.{never, by-test, not-true, and-left, and-right, or-cases, or-false-intro}
-use Rattle.laws.proofs.Lists.{count-none, count-ext, from-at, member-intro, member-at}
+use Rattle.laws.proofs.Tests.{never, by-test, not-true, and-left, and-right}
+use Rattle.laws.proofs.Lists.{count-none, from-at}
 
 module _ {A : Type 0} where
   -- one more of each that passes
@@ -123,3 +122,10 @@ unfolding standsAt
 standsAt-getD x i [] h = absurd (not-suc-le-zero h)
 standsAt-getD x zero (y ∷ ys) h = refl
 standsAt-getD x (suc i) (y ∷ ys) h = standsAt-getD x i ys (omega arith)
+
+-- what stands at a position is on the list
+pub standsAt-member : (x i : ℕ) (ys : List ℕ) → standsAt x i ys ≡ true → List·Memᴰ x ys
+unfolding standsAt
+standsAt-member x i [] e = never (sym e)
+standsAt-member x zero (y ∷ ys) e = List·Memᴰ·head (eqb-true x y e)
+standsAt-member x (suc i) (y ∷ ys) e = List·Memᴰ·tail (standsAt-member x i ys e)

@@ -1,5 +1,5 @@
 -- Tests: taking a Boolean test apart, and what passed or failed.
-use mathlib.Core.Path.{_≡_, refl, sym, ap, _∙_, subst}
+use mathlib.Core.Path.{_≡_, refl, sym}
 use mathlib.Core.Bool.{Bool, true, false, cond, not, _&&_, _||_, false≢true}
 use mathlib.Core.Logic.{_⊎_, inl, inr}
 
@@ -96,3 +96,8 @@ cond-false false x y e = refl
 pub by-test : {A : Type 0} (a : Bool) → (a ≡ true → A) → (a ≡ false → A) → A
 by-test true f g = f refl
 by-test false f g = g refl
+
+-- an alternative that fails adds nothing
+pub or-neutral : (a b : Bool) → b ≡ false → (a || b) ≡ a
+or-neutral true b e = refl
+or-neutral false b e = e

@@ -1,17 +1,17 @@
 -- Binding: an action's objects, all different, in place of parameters. Different atoms become different facts, and an object has in a fact
 -- the properties that its parameter has in the atom.
-use Prim.Native.Nat.{ℕ, zero, suc, _<_, suc-le-suc}
+use Prim.Native.Nat.{ℕ, zero, suc, _<_}
 use native.Mathlib.Nat.{le-of-suc-le-suc, not-suc-le-zero}
 use mathlib.Core.Path.{_≡_, refl, sym, ap, _∙_, subst}
-use mathlib.Core.Bool.{Bool, true, false, cond, not, _&&_}
-use mathlib.Core.List.{List, [], _∷_, map, List·Memᴰ, List·Memᴰ·head, head-eq-of-cons-eq, tail-eq-of-cons-eq, nil≢cons}
+use mathlib.Core.Bool.{Bool, true, false, not, _&&_}
+use mathlib.Core.List.{List, [], _∷_, map, List·Memᴰ, head-eq-of-cons-eq, tail-eq-of-cons-eq, nil≢cons}
 use lib.Dec.{ltb, eqb}
 use lib.ListN.{length, getD}
 use borrow.Author.Tests.{ltb-true, eqb-true, eq-eqb}
 use Rattle.laws.specs.Lists.{all, count, member, distinct, standsAt}
-use Rattle.laws.proofs.Tests.{never, and-left, and-right, and-false-right, not-true, same-test, by-test}
+use Rattle.laws.proofs.Tests.{and-left, and-right, and-false-right, not-true, same-test, by-test}
 use Rattle.laws.proofs.Lists.{mem-getD, member-not, count-ext, count-none}
-use Rattle.laws.proofs.Counting.{Apart, apart-map, count-map}
+use Rattle.laws.proofs.Counting.{NoRepeat, no-repeat-map, count-map}
 use Rattle.model.specs.Card.{Atom}
 use Rattle.model.specs.Strips.{ground}
 use Rattle.model.specs.Transitions.{Property, occurs}
@@ -39,6 +39,7 @@ module _ (objects : List ℕ) where
   abbrev object : ℕ → ℕ
   object k = getD objects k 0
 
+  -- the first parameter has an object, and so has each of the rest
   first-bound : (k : ℕ) (ks : List ℕ) → bounded objects (k ∷ ks) ≡ true → k < length objects
   unfolding all
   first-bound k ks h = ltb-true k (length objects) (and-left (ltb k (length objects)) (bounded objects ks) h)
@@ -67,10 +68,10 @@ module _ (objects : List ℕ) where
       λ i. record { predicate = e i .predicate; arguments = same i }
 
   -- and atoms that stand once become facts that stand once
-  pub ground-apart : distinct objects ≡ true → (atoms : List Atom)
-      → ((a : Atom) → List·Memᴰ a atoms → bounded objects (a .arguments) ≡ true) → Apart atoms → Apart (map (ground objects) atoms)
-  ground-apart d atoms h =
-      apart-map (ground objects) atoms (λ a b m k. ground-injective d a b (h a m) (h b k))
+  pub ground-no-repeat : distinct objects ≡ true → (atoms : List Atom)
+      → ((a : Atom) → List·Memᴰ a atoms → bounded objects (a .arguments) ≡ true) → NoRepeat atoms → NoRepeat (map (ground objects) atoms)
+  ground-no-repeat d atoms h =
+      no-repeat-map (ground objects) atoms (λ a b m k. ground-injective d a b (h a m) (h b k))
 
   -- the object of parameter k stands where k stands
   stands-bound : distinct objects ≡ true → (k i : ℕ) (ks : List ℕ) → k < length objects → bounded objects ks ≡ true

@@ -1,123 +1,177 @@
--- What accepted checks say: of the schemas of an accepted task, and of an action that names one.
-use Prim.Native.Nat.{ℕ, _<_}
-use native.Mathlib.Omega.{arith}
-use mathlib.Core.Path.{_≡_, refl, sym, ap, _∙_, subst}
-use mathlib.Core.Bool.{Bool, true, false, cond, not, _&&_}
+-- What the checks of document 01 say of a task and an action that pass them.
+use Prim.Native.Nat.{ℕ, _≤_, _<_}
+use mathlib.Core.Path.{_≡_, refl, ap, _∙_}
+use mathlib.Core.Bool.{Bool, true, not}
 use mathlib.Core.Logic.{⊎-elim}
-use mathlib.Core.List.{List, [], _∷_, List·Memᴰ, List·Memᴰ·cases-cons, List·Memᴰ·not-nil}
 use mathlib.Core.Option.{Option, none, some}
-use lib.Dec.{leb, ltb, eqb}
+use mathlib.Core.List.{List, [], _∷_}
+use mathlib.Core.List.{List·Memᴰ, List·Memᴰ·cases-cons, List·Memᴰ·not-nil}
+use lib.Dec.{eqb, ltb, leb}
 use lib.ListN.{length, getD}
-use borrow.Author.Tests.{ltb-true, eqb-true}
+use borrow.Author.Tests.{eqb-true, ltb-true, leb-true}
 use Rattle.laws.specs.Lists.{all, distinct}
 use Rattle.laws.proofs.Tests.{and-left, and-right, and-intro}
-use Rattle.laws.proofs.Lists.{mem-getD}
-use Rattle.model.specs.Answer.{Answer, refused, accepted, _>>_, need}
+use Rattle.laws.proofs.Lists.{all-at, mem-getD}
+use Rattle.model.specs.Answer.{Answer, accepted}
 use Rattle.model.specs.Card.{Atom, Schema, Task, has, above, between}
 use Rattle.model.specs.Writer.{each, known, checkSchemaAtom, checkList, checkSchema, checkFact, checkTask}
-use Rattle.model.specs.Strips.{Action, ascending, schemaAt, checkAction}
+use Rattle.model.specs.Strips.{Action, ascending}
+use Rattle.model.specs.Strips.{schemaAt, checkAction}
+use Rattle.model.proofs.Valid.{Valid}
+use Rattle.model.proofs.Order.{ascending-cons}
+use Rattle.model.proofs.Answers.{need-inv, first-passed, then-passed, need-passed, need-then}
 
--- a refusal is no acceptance
-refused-never : {A B : Type 0} (n : ℕ) (a : A) → refused n ≡ accepted a → B
-refused-never n a e = let z : _≡_ {A = ℕ} 0 1 = cc in absurd (omega arith)
+-- a number between two others
+pub between-low : (low high n : ℕ) → between low high n ≡ true → low ≤ n
+unfolding between
+between-low low high n e = leb-true low n (and-left (leb low n) (leb n high) e)
 
--- both of two checks in sequence
-first-accepted : (x y : Answer (Unit {0})) → (x >> y) ≡ accepted tt → x ≡ accepted tt
-unfolding _>>_
-first-accepted (refused n) y e = e
-first-accepted (accepted done) y e = refl
+pub between-high : (low high n : ℕ) → between low high n ≡ true → n ≤ high
+unfolding between
+between-high low high n e = leb-true n high (and-right (leb low n) (leb n high) e)
 
-then-accepted : (x y : Answer (Unit {0})) → (x >> y) ≡ accepted tt → y ≡ accepted tt
-unfolding _>>_
-then-accepted (refused n) y e = refused-never n tt e
-then-accepted (accepted done) y e = e
+module _ {A : Type 0} (check : Option A → A → Answer (Unit {0})) where
+  -- items that passed their checks pass a test that each check asks
+  pub each-all :
+      (test : A → Bool) → ((previous : Option A) (x : A) → check previous x ≡ accepted tt → test x ≡ true)
+      → (previous : Option A) (xs : List A) → each check previous xs ≡ accepted tt → all test xs ≡ true
+  unfolding each all
+  each-all test f previous [] e = refl
+  each-all test f previous (x ∷ xs) e =
+      and-intro (test x) (all test xs) (f previous x (first-passed (check previous x) (each check (some x) xs) tt e))
+      (each-all test f (some x) xs (then-passed (check previous x) (each check (some x) xs) tt e))
 
-need-passed : (test : Bool) (number : ℕ) → need test number ≡ accepted tt → test ≡ true
-unfolding need
-need-passed true number e = refl
-need-passed false number e = refused-never number tt e
+-- atoms that passed checks of their order are ascending
+pub each-ascending :
+    (check : Option Atom → Atom → Answer (Unit {0}))
+    → ((previous : Option Atom) (x : Atom) → check previous x ≡ accepted tt → above previous x ≡ true)
+    → (previous : Option Atom) (xs : List Atom) → each check previous xs ≡ accepted tt → ascending previous xs ≡ true
+unfolding each ascending
+each-ascending check f previous [] e = refl
+each-ascending check f previous (x ∷ xs) e =
+    ascending-cons previous x xs (f previous x (first-passed (check previous x) (each check (some x) xs) tt e))
+    (each-ascending check f (some x) xs (then-passed (check previous x) (each check (some x) xs) tt e))
 
--- each item passed its check, told some item before it
-each-at : {A : Type 0} (check : Option A → A → Answer (Unit {0})) (previous : Option A) (xs : List A)
-    → each check previous xs ≡ accepted tt → (x : A) → List·Memᴰ x xs → (p : Option A) × (check p x ≡ accepted tt)
-unfolding each
-each-at check previous [] e x m = absurd (List·Memᴰ·not-nil m)
-each-at check previous (y ∷ ys) e x m =
-    ⊎-elim
-    (λ p. (previous, ap (check previous) p ∙ first-accepted (check previous y) (each check (some y) ys) e))
-    (each-at check (some y) ys (then-accepted (check previous y) (each check (some y) ys) e) x)
-    (List·Memᴰ·cases-cons m)
-
--- the arguments of a known atom are below the bound
-pub known-bound : (arities : List ℕ) (bound : ℕ) (a : Atom) → known arities bound a ≡ true → all (λ x. ltb x bound) (a .arguments) ≡ true
-unfolding known
-known-bound arities bound a e =
-    let arity = eqb (length (a .arguments)) (getD arities (a .predicate) 0) in
-    and-right (ltb (a .predicate) (length arities) && arity) (all (λ x. ltb x bound) (a .arguments)) e
-
--- A list of atoms of a schema that passed: its atoms are known, ascending, and pass the test of their list.
+-- What the check of a schema's list says of it: known, ascending, and each atom passes the list's own test.
 pub record CheckedList (arities : List ℕ) (parameters : ℕ) (test : Atom → Bool) (atoms : List Atom) : Type 0 where
-  pub atoms-known : (a : Atom) → List·Memᴰ a atoms → known arities parameters a ≡ true
-  pub atoms-pass : (a : Atom) → List·Memᴰ a atoms → test a ≡ true
-  pub in-order : ascending none atoms ≡ true
+  pub few : length atoms ≤ 8
+  pub atoms-known : all (known arities parameters) atoms ≡ true
+  pub atoms-ascend : ascending none atoms ≡ true
+  pub atoms-pass : all test atoms ≡ true
 
-module _ (arities : List ℕ) (parameters : ℕ) (test : Atom → Bool) (number : ℕ) where
-  each-ascending : (previous : Option Atom) (atoms : List Atom)
-      → each (checkSchemaAtom arities parameters test number) previous atoms ≡ accepted tt → ascending previous atoms ≡ true
-  unfolding each checkSchemaAtom ascending
-  each-ascending previous [] e = refl
-  each-ascending previous (a ∷ atoms) e =
-      and-intro (above previous a) (ascending (some a) atoms)
-      (need-passed _ _ (first-accepted _ _ (then-accepted _ _ (first-accepted _ _ e))))
-      (each-ascending (some a) atoms (then-accepted _ _ e))
-
-  list-checked : (atoms : List Atom) → checkList (checkSchemaAtom arities parameters test number) atoms ≡ accepted tt
-      → CheckedList arities parameters test atoms
-  unfolding checkList checkSchemaAtom
-  list-checked atoms e = record {
-    atoms-known = λ a m. need-passed _ _ (first-accepted _ _ (each-at _ none atoms (then-accepted _ _ e) a m .1));
-    atoms-pass = λ a m. need-passed _ _ (then-accepted _ _ (then-accepted _ _ (each-at _ none atoms (then-accepted _ _ e) a m .1)));
-    in-order = each-ascending none atoms (then-accepted _ _ e);
-  }
-
--- A schema that passed: 7 and 8 of its three lists, 9 of the deletes and 10 of the adds.
-pub record CheckedSchema (arities : List ℕ) (s : Schema) : Type 0 where
-  pub preconditions : CheckedList arities (s .parameters) (λ a. true) (s .preconditions)
-  pub deletes : CheckedList arities (s .parameters) (has (s .preconditions)) (s .deletes)
-  pub adds : CheckedList arities (s .parameters) (λ a. not (has (s .preconditions) a)) (s .adds)
-
-pub schema-checked : (arities : List ℕ) (s : Schema) → checkSchema arities s ≡ accepted tt → CheckedSchema arities s
-unfolding checkSchema
-schema-checked arities s e =
-    let lists = then-accepted _ _ e in
-    let changes = then-accepted _ _ lists in
+pub checked-list :
+    (arities : List ℕ) (parameters : ℕ) (test : Atom → Bool) (number : ℕ) (atoms : List Atom)
+    → checkList (checkSchemaAtom arities parameters test number) atoms ≡ accepted tt → CheckedList arities parameters test atoms
+unfolding checkList checkSchemaAtom
+checked-list arities parameters test number atoms e =
+    let check : Option Atom → Atom → Answer (Unit {0}) = checkSchemaAtom arities parameters test number in
+    let rest = need-then (leb (length atoms) 8) 6 (each check none atoms) tt e in
     record {
-      preconditions = list-checked arities (s .parameters) (λ a. true) 8 (s .preconditions) (first-accepted _ _ lists);
-      deletes = list-checked arities (s .parameters) (has (s .preconditions)) 9 (s .deletes) (first-accepted _ _ changes);
-      adds = list-checked arities (s .parameters) (λ a. not (has (s .preconditions) a)) 10 (s .adds) (then-accepted _ _ changes);
+      few = leb-true (length atoms) 8 (need-passed (leb (length atoms) 8) 6 (each check none atoms) tt e);
+      atoms-known = each-all check (known arities parameters) (λ previous a c. need-passed _ _ _ _ c) none atoms rest;
+      atoms-ascend = each-ascending check (λ previous a c. need-passed _ _ _ _ (need-then _ _ _ _ c)) none atoms rest;
+      atoms-pass = each-all check test (λ previous a c. need-inv _ _ (need-then _ _ _ _ (need-then _ _ _ _ c))) none atoms rest;
     }
 
--- every schema of an accepted task passed
-pub task-schema : (t : Task) → checkTask t ≡ accepted tt → (n : ℕ) → n < length (t .schemas) → CheckedSchema (t .arities) (schemaAt t n)
-unfolding checkTask schemaAt
-task-schema t e n h =
-    let schemas = first-accepted _ _ (then-accepted _ _ (then-accepted _ _ (then-accepted _ _ (then-accepted _ _ e)))) in
-    schema-checked (t .arities) (schemaAt t n) (each-at _ none (t .schemas) schemas (schemaAt t n) (mem-getD (t .schemas) n _ h) .1)
+-- What the check of a schema says of it.
+pub record CheckedSchema (arities : List ℕ) (s : Schema) : Type 0 where
+  pub some-parameter : 1 ≤ s .parameters
+  pub few-parameters : s .parameters ≤ 6
+  pub preconditions-right : CheckedList arities (s .parameters) (λ a. true) (s .preconditions)
+  pub deletes-right : CheckedList arities (s .parameters) (has (s .preconditions)) (s .deletes)
+  pub adds-right : CheckedList arities (s .parameters) (λ a. not (has (s .preconditions) a)) (s .adds)
 
--- An action that passed 16 to 18: it names a schema of the task, with one object for each parameter, known and all different.
-pub record Named (t : Task) (a : Action) : Type 0 where
-  pub schema-known : a .schema < length (t .schemas)
-  pub complete : length (a .objects) ≡ schemaAt t (a .schema) .parameters
-  pub objects-known : all (λ o. ltb o (t .objects)) (a .objects) ≡ true
-  pub different : distinct (a .objects) ≡ true
-
-pub action-named : (t : Task) (a : Action) → checkAction t a ≡ accepted tt → Named t a
-unfolding checkAction
-action-named t a e =
-    let right = need-passed _ _ (first-accepted _ _ (then-accepted _ _ e)) in
+pub checked-schema : (arities : List ℕ) (s : Schema) → checkSchema arities s ≡ accepted tt → CheckedSchema arities s
+unfolding checkSchema
+checked-schema arities s e =
+    let parameters = need-passed (between 1 6 (s .parameters)) 5 _ tt e in
+    let lists = need-then (between 1 6 (s .parameters)) 5 _ tt e in
     record {
-      schema-known = ltb-true _ _ (need-passed _ _ (first-accepted _ _ e));
-      complete = eqb-true _ _ (and-left _ _ right);
-      objects-known = and-right (eqb (length (a .objects)) (schemaAt t (a .schema) .parameters)) _ right;
-      different = need-passed _ _ (then-accepted _ _ (then-accepted _ _ e));
+      some-parameter = between-low 1 6 (s .parameters) parameters;
+      few-parameters = between-high 1 6 (s .parameters) parameters;
+      preconditions-right = checked-list arities (s .parameters) _ 8 (s .preconditions) (first-passed _ _ _ lists);
+      deletes-right = checked-list arities (s .parameters) _ 9 (s .deletes) (first-passed _ _ _ (then-passed _ _ _ lists));
+      adds-right = checked-list arities (s .parameters) _ 10 (s .adds) (then-passed _ _ _ (then-passed _ _ _ lists));
+    }
+
+-- What the check of a task says of it.
+pub record Checked (t : Task) : Type 0 where
+  pub some-predicate : 1 ≤ length (t .arities)
+  pub few-predicates : length (t .arities) ≤ 20
+  pub arities-right : all (between 1 3) (t .arities) ≡ true
+  pub some-object : 1 ≤ t .objects
+  pub few-objects : t .objects ≤ 64
+  pub few-schemas : length (t .schemas) ≤ 32
+  pub schemas-right : (s : Schema) → List·Memᴰ s (t .schemas) → CheckedSchema (t .arities) s
+  pub few-facts : length (t .facts) ≤ 512
+  pub facts-right : Valid t (t .facts)
+
+-- an item that is among those checked passed its check, for checks that do not look at the item before
+pub each-passed :
+    {A : Type 0} (check : A → Answer (Unit {0})) (previous : Option A) (xs : List A) → each (λ p. check) previous xs ≡ accepted tt
+    → (x : A) → List·Memᴰ x xs → check x ≡ accepted tt
+unfolding each
+each-passed check previous [] e x m = absurd (List·Memᴰ·not-nil m)
+each-passed check previous (y ∷ ys) e x m =
+    ⊎-elim (λ p. ap check p ∙ first-passed _ _ _ e) (λ k. each-passed check (some y) ys (then-passed _ _ _ e) x k)
+    (List·Memᴰ·cases-cons m)
+
+pub checked : (t : Task) → checkTask t ≡ accepted tt → Checked t
+unfolding checkTask checkFact
+checked t e₁ =
+    let e₂ = need-then _ 2 _ tt e₁ in
+    let e₃ = need-then _ 2 _ tt e₂ in
+    let e₄ = need-then _ 3 _ tt e₃ in
+    let e₅ = need-then _ 4 _ tt e₄ in
+    let e₆ = then-passed _ _ tt e₅ in
+    let e₇ = need-then _ 11 _ tt e₆ in
+    record {
+      some-predicate = between-low 1 20 _ (need-passed _ 2 _ tt e₁);
+      few-predicates = between-high 1 20 _ (need-passed _ 2 _ tt e₁);
+      arities-right = need-passed _ 2 _ tt e₂;
+      some-object = between-low 1 64 _ (need-passed _ 3 _ tt e₃);
+      few-objects = between-high 1 64 _ (need-passed _ 3 _ tt e₃);
+      few-schemas = leb-true _ 32 (need-passed _ 4 _ tt e₄);
+      schemas-right = λ s m. checked-schema (t .arities) s
+          (each-passed (checkSchema (t .arities)) none (t .schemas) (first-passed _ _ tt e₅) s m);
+      few-facts = leb-true _ 512 (need-passed _ 11 _ tt e₆);
+      facts-right = record {
+        facts-known = each-all (checkFact (t .arities) (t .objects)) (known (t .arities) (t .objects)) (λ previous f c. need-passed _ _ _ _ c)
+            none (t .facts) e₇;
+        in-order = each-ascending (checkFact (t .arities) (t .objects)) (λ previous f c. need-inv _ _ (need-then _ _ _ _ c)) none (t .facts) e₇;
+      };
+    }
+
+-- the arity of a known predicate is 1 to 3
+pub arity-low : (t : Task) → Checked t → (p : ℕ) → p < length (t .arities) → 1 ≤ getD (t .arities) p 0
+arity-low t c p h =
+    between-low 1 3 _ (all-at (between 1 3) (t .arities) (c .arities-right) (getD (t .arities) p 0) (mem-getD (t .arities) p 0 h))
+
+pub arity-high : (t : Task) → Checked t → (p : ℕ) → p < length (t .arities) → getD (t .arities) p 0 ≤ 3
+arity-high t c p h =
+    between-high 1 3 _ (all-at (between 1 3) (t .arities) (c .arities-right) (getD (t .arities) p 0) (mem-getD (t .arities) p 0 h))
+
+-- the schema of a number in range is one of the task's
+pub schemaAt-right : (t : Task) → Checked t → (n : ℕ) → n < length (t .schemas) → CheckedSchema (t .arities) (schemaAt t n)
+unfolding schemaAt
+schemaAt-right t c n h = c .schemas-right (schemaAt t n) (mem-getD (t .schemas) n _ h)
+
+-- What the check of an action says of it.
+pub record CheckedAction (t : Task) (a : Action) : Type 0 where
+  pub schema-known : a .schema < length (t .schemas)
+  pub one-for-each : length (a .objects) ≡ schemaAt t (a .schema) .parameters
+  pub objects-known : all (λ o. ltb o (t .objects)) (a .objects) ≡ true
+  pub all-different : distinct (a .objects) ≡ true
+
+pub checked-action : (t : Task) (a : Action) → checkAction t a ≡ accepted tt → CheckedAction t a
+unfolding checkAction
+checked-action t a e =
+    let e₂ = need-then _ 16 _ tt e in
+    let enough : Bool = eqb (length (a .objects)) (schemaAt t (a .schema) .parameters) in
+    let bound = need-passed _ 17 _ tt e₂ in
+    record {
+      schema-known = ltb-true _ _ (need-passed _ 16 _ tt e);
+      one-for-each = eqb-true _ _ (and-left enough _ bound);
+      objects-known = and-right enough _ bound;
+      all-different = need-inv _ 18 (need-then _ 17 _ tt e₂);
     }

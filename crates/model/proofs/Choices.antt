@@ -1,11 +1,12 @@
 -- The choices of absorbed adds, document 01, "Conditions": all of them, each once, ascending with the highest property changing
 -- fastest; and the results of a rule on a condition.
-use Prim.Native.Nat.{ℕ, zero, suc, _+_, _≤_, _<_}
+use Prim.Native.Nat.{ℕ, zero, suc, _<_}
 use native.Mathlib.Omega.{arith}
-use mathlib.Core.Path.{_≡_, refl, sym, ap, _∙_, subst}
-use mathlib.Core.Bool.{Bool, true, false, _&&_, _||_}
+use mathlib.Core.Path.{_≡_, refl, sym, ap, subst}
+use mathlib.Core.Bool.{true, _&&_}
 use mathlib.Core.Logic.{_↔_}
-use mathlib.Core.List.{List, [], _∷_, map, flatMap, List·Memᴰ, List·Memᴰ·head, List·Memᴰ·not-nil, List·Memᴰ·eq-of-singleton, Memᴰ·cast, Memᴰ·map, Memᴰ·of-map}
+use mathlib.Core.List.{List, [], _∷_, map, flatMap, List·Memᴰ, List·Memᴰ·head, List·Memᴰ·not-nil, List·Memᴰ·eq-of-singleton, Memᴰ·cast, Memᴰ·map}
+use mathlib.Core.List.{Memᴰ·of-map}
 use lib.Dec.{leb, ltb, eqb}
 use lib.ListN.{length}
 use borrow.Author.Tests.{leb-true, le-leb, lt-ltb, eq-eqb}
@@ -13,7 +14,8 @@ use Rattle.laws.specs.Lists.{from, upTo, before}
 use Rattle.laws.specs.Bags.{Bag, plus, less, meet, contains}
 use Rattle.laws.proofs.Tests.{never, and-left, and-right, and-intro, or-left, or-right}
 use Rattle.laws.proofs.Lists.{flatMap-at, flatMap-intro, from-at, upTo-at, upTo-intro}
-use Rattle.laws.proofs.Bags.{Pairwise, pairwise-append, contains-length}
+use Rattle.laws.proofs.Bags.{contains-length}
+use Rattle.laws.proofs.Relations.{Pairwise, pairwise-append}
 use Rattle.model.specs.Extension.{Move, choices, results}
 
 -- the choices below the caps are the bags that the caps contain
@@ -55,6 +57,7 @@ before-first : (m n : ℕ) (a b : Bag) → m < n → before (m ∷ a) (n ∷ b) 
 unfolding before
 before-first m n a b h = or-left (ltb m n) (eqb m n && before a b) (lt-ltb m n h)
 
+-- bags in order stay so behind one first count, and behind first counts in sequence
 ascending-map : (n : ℕ) (bags : List Bag) → Ascending bags → Ascending (map (λ b. n ∷ b) bags)
 ascending-map n [] p = tt
 ascending-map n (a ∷ bags) p = (

@@ -2,16 +2,18 @@
 -- increasing rules (empty start), until none is added to any A space". The rounds end there, and with no more members than that asks for.
 use Prim.Native.Nat.{ℕ, zero, suc, _<_}
 use mathlib.Core.Path.{_≡_, refl, sym, ap, _∙_, subst}
-use mathlib.Core.Bool.{Bool, true, false, not, _&&_, _||_}
-use mathlib.Core.Logic.{_⊎_, inl, inr, ⊎-elim}
-use mathlib.Core.List.{List, [], _∷_, map, map-map, List·Memᴰ, List·Memᴰ·head, List·Memᴰ·tail, List·Memᴰ·cases-cons, List·Memᴰ·not-nil}
+use mathlib.Core.Bool.{Bool, true, not, _&&_, _||_}
+use mathlib.Core.Logic.{⊎-elim}
+use mathlib.Core.List.{List, [], _∷_, map, map-map, List·Memᴰ, List·Memᴰ·head, List·Memᴰ·tail}
 use lib.Dec.{eqb}
 use lib.ListN.{length, getD, length-map}
 use Rattle.laws.specs.Lists.{any, all, keep, upTo, member}
 use Rattle.laws.specs.Bags.{isEmpty, support}
 use Rattle.laws.proofs.Tests.{and-left, and-right, and-intro, or-cases, or-left, or-right}
-use Rattle.laws.proofs.Lists.{all-at, all-intro, any-at, any-intro, keep-at, keep-intro, upTo-at, member-at, member-intro}
-use Rattle.laws.proofs.Groups.{map-ext, any-map, any-ext, all-ext, keep-ext, member-keep-upTo, repeat, repeat-adds, repeat-closes}
+use Rattle.laws.proofs.Lists.{all-at, all-intro, any-at, keep-at, upTo-at, member-at}
+use Rattle.laws.proofs.Mapped.{map-ext, any-map, any-ext, all-ext, keep-ext}
+use Rattle.laws.proofs.Numbers.{member-keep-upTo}
+use Rattle.laws.proofs.Closure.{repeat, repeat-closes}
 use Rattle.model.specs.Card.{Task}
 use Rattle.model.specs.Transitions.{Transition, properties, transitions}
 use Rattle.model.specs.Spaces.{Space, grouping, moves, condition, initialSpace, initialSpaces, hasMember, admits, gain, round, rounds, spaces}
@@ -66,23 +68,20 @@ pub step-adds : (t : Task) (f : ℕ → Bool) (l : ℕ) → f l ≡ true → ste
 unfolding step
 step-adds t f l = or-left (f l) (any (admitted t f) (rulesAt t l))
 
--- what is added depends on the labels alone
+-- what is admitted, and so what is added, depends on the labels alone
+admitted-own : (t : Task) (f g : ℕ → Bool) → ((l : ℕ) → List·Memᴰ l (labels t) → f l ≡ g l)
+    → (r : Transition) → admitted t f r ≡ admitted t g r
+unfolding admitted
+admitted-own t f g h r =
+    ap (λ (b : Bool). isEmpty (r .start) && b)
+    (all-ext _ _ (support (r .enablers))
+    (λ c m. any-ext _ _ (labels t) (λ l k. ap (λ (b : Bool). member c (propertiesAt t l) && b) (h l k))))
+
 step-own : (t : Task) (f g : ℕ → Bool) → ((l : ℕ) → List·Memᴰ l (labels t) → f l ≡ g l)
     → (l : ℕ) → List·Memᴰ l (labels t) → step t f l ≡ step t g l
-unfolding step admitted
+unfolding step
 step-own t f g h l m =
-    λ i.
-    h l m i
-    || any-ext (admitted t f) (admitted t g) (rulesAt t l)
-    (λ r k j.
-    isEmpty (r .start)
-    && all-ext (λ c. any (λ x. member c (propertiesAt t x) && f x) (labels t))
-    (λ c. any (λ x. member c (propertiesAt t x) && g x) (labels t)) (support (r .enablers))
-    (λ c n.
-    any-ext (λ x. member c (propertiesAt t x) && f x) (λ x. member c (propertiesAt t x) && g x) (labels t)
-    (λ x p. ap (λ (b : Bool). member c (propertiesAt t x) && b) (h x p)))
-    j)
-    i
+    λ i. h l m i || any-ext (admitted t f) (admitted t g) (rulesAt t l) (λ r k. admitted-own t f g h r) i
 
 -- a rule admits an object to the spaces as it does the object alone
 hasMember-alone : (t : Task) (joins : ℕ → ℕ → Bool) (o c : ℕ) → o < t .objects
@@ -113,14 +112,14 @@ round-alone t joins =
     || any-ext (admits (spacesWith t joins) o) (admitted t (joins o)) (rulesAt t l) (λ r n. admits-alone t joins o r h) i)
 
 rounds-alone : (t : Task) (n : ℕ) (joins : ℕ → ℕ → Bool)
-    → rounds t n (spacesWith t joins) ≡ spacesWith t (λ o. repeat (labels t) (step t) n (joins o))
+    → rounds t n (spacesWith t joins) ≡ spacesWith t (λ o. repeat (step t) n (joins o))
 unfolding rounds repeat
 rounds-alone t zero joins = refl
 rounds-alone t (suc n) joins = ap (rounds t n) (round-alone t joins) ∙ rounds-alone t n (λ o. step t (joins o))
 
 -- an object is a member of the space of a label in the end
 unfoldable pub belongs : Task → ℕ → ℕ → Bool
-belongs t o = repeat (labels t) (step t) (length (labels t)) (opens t o)
+belongs t o = repeat (step t) (length (labels t)) (opens t o)
 
 -- the spaces, label by label: as they open, and in the end
 initial-alone : (t : Task) → initialSpaces t ≡ spacesWith t (opens t)

@@ -1,7 +1,7 @@
 -- The effect of an action: on the bag of the object of each parameter, on any other object's bag, and on the number of a predicate's facts.
 use Prim.Native.Nat.{ℕ, _+_, _-_, min, _≤_, _<_}
 use native.Mathlib.Omega.{arith}
-use mathlib.Core.Path.{_≡_, refl, sym, ap, _∙_, subst}
+use mathlib.Core.Path.{_≡_, sym, ap, _∙_, subst}
 use mathlib.Core.Bool.{Bool, true, false, not}
 use mathlib.Core.List.{List, map, List·Memᴰ, Memᴰ·map, Memᴰ·of-map}
 use mathlib.Core.Option.{none}
@@ -10,8 +10,9 @@ use lib.ListN.{length, getD, length-map}
 use Rattle.laws.specs.Lists.{all, keep, count, member, distinct}
 use Rattle.laws.specs.Bags.{Bag, plus, less, meet, contains}
 use Rattle.laws.proofs.Lists.{all-at, keep-at}
-use Rattle.laws.proofs.Counting.{Apart, count-within, count-split, count-removed, count-joined, count-map, apart-keep, map-ext, less-map, plus-map, meet-map, contains-map}
-use Rattle.model.specs.Answer.{Answer, accepted}
+use Rattle.laws.proofs.Counting.{NoRepeat, count-within, count-split, count-removed, count-joined, count-map, no-repeat-keep, less-map, plus-map, meet-map, contains-map}
+use Rattle.laws.proofs.Mapped.{map-ext}
+use Rattle.model.specs.Answer.{accepted}
 use Rattle.model.specs.Card.{Atom, Schema, Task, has}
 use Rattle.model.specs.Writer.{checkTask}
 use Rattle.model.specs.Strips.{State, Action, ascending, ground, applicable, takenOut, putIn, successor, schemaAt}
@@ -19,14 +20,16 @@ use Rattle.model.specs.Transitions.{Property, properties, occurs, bagOf}
 use Rattle.model.specs.Lines.{ofPredicate}
 use Rattle.model.specs.Truth.{Allowed}
 use Rattle.model.proofs.Valid.{Valid}
-use Rattle.model.proofs.Putting.{putAll, has-picks, ascending-apart, keep-ascending, putAll-ascending, putAll-keeps, putAll-there, putAll-at}
-use Rattle.model.proofs.Binding.{bounded, ground-apart, count-bound, count-elsewhere}
-use Rattle.model.proofs.Checked.{CheckedList, known-bound, task-schema, Named, action-named}
+use Rattle.model.proofs.Putting.{putAll, has-picks, putAll-ascending, putAll-stays, putAll-there, putAll-at}
+use Rattle.model.proofs.Order.{ascending-no-repeat, known-arguments}
+use Rattle.model.proofs.Binding.{bounded, ground-no-repeat, count-bound, count-elsewhere}
+use Rattle.model.proofs.Checked.{CheckedSchema, checked, CheckedList, CheckedAction, schemaAt-right, checked-action}
+use Rattle.model.proofs.States.{keep-ascending}
 
 -- Some atoms of a schema with an action's objects: every parameter has an object, and the facts they become differ.
 pub record Grounded (objects : List ℕ) (atoms : List Atom) : Type 0 where
   pub bound : (a : Atom) → List·Memᴰ a atoms → bounded objects (a .arguments) ≡ true
-  pub once : Apart (map (ground objects) atoms)
+  pub once : NoRepeat (map (ground objects) atoms)
 
 -- An action that a state allows, as its effect needs it: the facts of each list differ, and the preconditions and deletes are in the state.
 pub record Ready (schema : Schema) (objects : List ℕ) (s : State) : Type 0 where
@@ -42,31 +45,42 @@ pub record Ready (schema : Schema) (objects : List ℕ) (s : State) : Type 0 whe
 list-grounded : (arities : List ℕ) (parameters : ℕ) (test : Atom → Bool) (objects : List ℕ) (atoms : List Atom)
     → CheckedList arities parameters test atoms → length objects ≡ parameters → distinct objects ≡ true → Grounded objects atoms
 list-grounded arities parameters test objects atoms checked complete different =
-    let within : (a : Atom) → List·Memᴰ a atoms → bounded objects (a .arguments) ≡ true =
-    (λ a m. subst (λ (n : ℕ). all (λ x. ltb x n) (a .arguments) ≡ true) (sym complete) (known-bound arities parameters a (checked .atoms-known a m))) in
-    record { bound = within; once = ground-apart objects different atoms within (ascending-apart none atoms (checked .in-order)) }
+    record { bound = within; once = ground-no-repeat objects different atoms within (ascending-no-repeat none atoms (checked .atoms-ascend)) }
+  where
+    within : (a : Atom) → List·Memᴰ a atoms → bounded objects (a .arguments) ≡ true
+    within a m =
+        subst (λ (n : ℕ). all (λ x. ltb x n) (a .arguments) ≡ true) (sym complete)
+        (known-arguments arities parameters a (all-at _ atoms (checked .atoms-known) a m))
 
 -- an action that a valid state of an accepted task allows
 pub allowed-ready : (t : Task) (s : State) (a : Action) → checkTask t ≡ accepted tt → Valid t s → Allowed t s a
     → Ready (schemaAt t (a .schema)) (a .objects) s
 unfolding applicable
-allowed-ready t s a ok valid allowed =
-    let named = action-named t a (allowed .named) in
-    let checked = task-schema t ok (a .schema) (named .schema-known) in
-    let hold : (f : Atom) → List·Memᴰ f (map (ground (a .objects)) (schemaAt t (a .schema) .preconditions)) → List·Memᴰ f s =
-    (λ f m. has-picks s .picked f (all-at (has s) _ (allowed .holds) f m)) in
-    record {
-      different = named .different;
-      in-order = valid .in-order;
-      preconditions = list-grounded _ _ _ (a .objects) _ (checked .preconditions) (named .complete) (named .different);
-      deletes = list-grounded _ _ _ (a .objects) _ (checked .deletes) (named .complete) (named .different);
-      adds = list-grounded _ _ _ (a .objects) _ (checked .adds) (named .complete) (named .different);
-      preconditions-hold = hold;
-      deletes-hold = λ f m.
-          let r = Memᴰ·of-map (ground (a .objects)) (schemaAt t (a .schema) .deletes) m in
-          let among = has-picks (schemaAt t (a .schema) .preconditions) .picked (r .0) (checked .deletes .atoms-pass (r .0) (r .1)) in
-          subst (λ (g : Atom). List·Memᴰ g s) (r .2) (hold _ (Memᴰ·map (ground (a .objects)) among));
-    }
+allowed-ready t s a ok valid allowed = record {
+  different = named .all-different;
+  in-order = valid .in-order;
+  preconditions = list-grounded _ _ _ (a .objects) _ (lists .preconditions-right) (named .one-for-each) (named .all-different);
+  deletes = list-grounded _ _ _ (a .objects) _ (lists .deletes-right) (named .one-for-each) (named .all-different);
+  adds = list-grounded _ _ _ (a .objects) _ (lists .adds-right) (named .one-for-each) (named .all-different);
+  preconditions-hold = hold;
+  deletes-hold = λ f m.
+      let r = Memᴰ·of-map (ground (a .objects)) (schema .deletes) m in
+      let among = all-at _ (schema .deletes) (lists .deletes-right .atoms-pass) (r .0) (r .1) in
+      subst (λ (g : Atom). List·Memᴰ g s) (r .2)
+      (hold _ (Memᴰ·map (ground (a .objects)) (has-picks (schema .preconditions) .picked (r .0) among)));
+}
+  where
+    schema : Schema
+    schema = schemaAt t (a .schema)
+
+    named : CheckedAction t a
+    named = checked-action t a (allowed .named)
+
+    lists : CheckedSchema (t .arities) schema
+    lists = schemaAt-right t (checked t ok) (a .schema) (named .schema-known)
+
+    hold : (f : Atom) → List·Memᴰ f (map (ground (a .objects)) (schema .preconditions)) → List·Memᴰ f s
+    hold f m = has-picks s .picked f (all-at (has s) _ (allowed .holds) f m)
 
 -- the facts that a state keeps, and the adds that are among them: absorbed, since they are put in and change nothing
 unfoldable pub keptFacts : Schema → List ℕ → State → State
@@ -85,6 +99,7 @@ pub record Change (f : Atom → Bool) (schema : Schema) (objects : List ℕ) (s 
   pub absorbed-added : count f (absorbedFacts schema objects s) ≤ count f (map (ground objects) (schema .adds))
   pub absorbed-kept : count f (absorbedFacts schema objects s) ≤ count f (keptFacts schema objects s)
 
+-- an action that is ready changes the numbers so
 pub ready-change : (f : Atom → Bool) (schema : Schema) (objects : List ℕ) (s : State) → Ready schema objects s → Change f schema objects s
 unfolding keptFacts absorbedFacts successor takenOut putIn
 ready-change f schema objects s r =
@@ -96,15 +111,15 @@ ready-change f schema objects s r =
       needed = count-within f (map (ground objects) (schema .preconditions)) s (r .preconditions .once) (r .preconditions-hold);
       removed =
           count-removed f gone s (map (ground objects) (schema .deletes)) (has-picks (map (ground objects) (schema .deletes)))
-          (ascending-apart none s (r .in-order)) (r .deletes .once) (r .deletes-hold);
+          (ascending-no-repeat none s (r .in-order)) (r .deletes .once) (r .deletes-hold);
       joined =
           count-joined f (has kept) kept new (putAll kept new) (has-picks kept)
-          (ascending-apart none kept kept-order) (r .adds .once)
-          (ascending-apart none (putAll kept new) (putAll-ascending kept new kept-order))
-          (putAll-at kept new) (putAll-keeps kept new) (putAll-there kept new);
+          (ascending-no-repeat none kept kept-order) (r .adds .once)
+          (ascending-no-repeat none (putAll kept new) (putAll-ascending kept new kept-order))
+          (putAll-at kept new) (putAll-stays kept new) (putAll-there kept new);
       absorbed-added = omega (arith, count-split f (has kept) new);
       absorbed-kept =
-          count-within f (keep (has kept) new) kept (apart-keep (has kept) new (r .adds .once))
+          count-within f (keep (has kept) new) kept (no-repeat-keep (has kept) new (r .adds .once))
           (λ g m. has-picks kept .picked g (keep-at (has kept) new g m .1));
     }
 

@@ -1,21 +1,24 @@
 -- Document 01, "Spaces": "All start and finish properties of one rule share a space; spaces are the smallest such grouping,
 -- numbered by lowest property." A grouping gives each property the label of its group, which is the group's lowest property.
-use Prim.Native.Nat.{ℕ, zero, suc, _≤_, _<_, min}
-use native.Mathlib.Nat.{le-refl, le-trans, min-eq-left}
+use Prim.Native.Nat.{ℕ, _≤_, _<_, min}
+use native.Mathlib.Nat.{le-refl, le-trans}
 use native.Mathlib.Omega.{arith}
 use mathlib.Core.Path.{_≡_, refl, sym, ap, _∙_, subst}
 use mathlib.Core.Bool.{Bool, true, false, cond, _||_}
 use mathlib.Core.Logic.{_⊎_, inl, inr, ⊎-elim}
-use mathlib.Core.List.{List, [], _∷_, _++_, map, foldl, flatMap, List·Memᴰ, List·Memᴰ·head, List·Memᴰ·tail, List·Memᴰ·cases-cons, List·Memᴰ·not-nil, List·Memᴰ·append-cases, List·Memᴰ·eq-of-singleton, Memᴰ·of-map}
-use lib.Dec.{eqb, leb}
+use mathlib.Core.List.{List, [], _∷_, map, foldl, flatMap, List·Memᴰ, List·Memᴰ·head, List·Memᴰ·tail, List·Memᴰ·cases-cons, List·Memᴰ·not-nil, List·Memᴰ·append-cases, List·Memᴰ·eq-of-singleton, Memᴰ·of-map}
+use lib.Dec.{eqb}
 use lib.ListN.{length, getD, length-map}
-use borrow.Author.Tests.{eqb-true, eq-eqb, leb-true, leb-false}
+use borrow.Author.Tests.{eqb-true, eq-eqb}
 use Rattle.laws.specs.Lists.{upTo}
 use Rattle.laws.specs.Bags.{Bag, plus, less, meet, isEmpty, single, support}
 use Rattle.laws.proofs.Tests.{or-cases, or-left, or-right, cond-true, cond-false, by-test}
 use Rattle.laws.proofs.Lists.{length-upTo, getD-upTo, flatMap-at}
-use Rattle.laws.proofs.Groups.{foldl-keeps, foldl-reaches, getD-map, length-plus, length-less, length-meet, length-single, support-below}
-use Rattle.model.specs.Card.{Atom, Schema, Task}
+use Rattle.laws.proofs.Folds.{foldl-keeps, foldl-reaches}
+use Rattle.laws.proofs.Mapped.{getD-map}
+use Rattle.laws.proofs.Closure.{min-cases}
+use Rattle.laws.proofs.Bags.{length-plus, length-less, length-meet, length-single, support-at}
+use Rattle.model.specs.Card.{Atom, Task}
 use Rattle.model.specs.Transitions.{Property, Transition, properties, bagOf, exchanges, remaining, rulesOf, parameterRules, transitions}
 use Rattle.model.specs.Spaces.{moved, unite, uniteAll, grouping}
 
@@ -41,11 +44,6 @@ merged-cases g h l =
     (λ e. inl (⊎-elim (λ p. inl (eqb-true l g p)) (λ p. inr (eqb-true l h p)) (or-cases (eqb l g) (eqb l h) e)))
     (λ e. inr (cond-false (eqb l g || eqb l h) (min g h) l e))
 
--- the lower of two numbers is one of them
-min-cases : (g h : ℕ) → (min g h ≡ g) ⊎ (min g h ≡ h)
-min-cases g h =
-    by-test (leb g h) (λ e. inl (min-eq-left (leb-true g h e))) (λ e. let more = leb-false g h e in inr (omega arith))
-
 -- what holds of the two labels and of the one at hand holds of the new one
 merged-holds : (Holds : ℕ → Type 0) (g h l : ℕ) → Holds g → Holds h → Holds l → Holds (merged g h l)
 merged-holds Holds g h l pg ph pl =
@@ -60,7 +58,10 @@ merged-holds Holds g h l pg ph pl =
 merged-same : (f : ℕ → ℕ) (g h l : ℕ) → f g ≡ f h → f (merged g h l) ≡ f l
 merged-same f g h l e =
     ⊎-elim
-    (λ p. ap f (merged-joined g h l p) ∙ ⊎-elim (λ q. ap f q) (λ q. ap f q ∙ sym e) (min-cases g h) ∙ ⊎-elim (λ q. ap f (sym q)) (λ q. e ∙ ap f (sym q)) p)
+    (λ p.
+    ap f (merged-joined g h l p)
+    ∙ ⊎-elim (λ q. ap f q) (λ q. ap f q ∙ sym e) (min-cases g h)
+    ∙ ⊎-elim (λ q. ap f (sym q)) (λ q. e ∙ ap f (sym q)) p)
     (λ p. ap f p)
     (merged-cases g h l)
 
@@ -112,20 +113,20 @@ pub length-grouping : (size : ℕ) (rules : List Transition) → length (groupin
 length-grouping size rules =
     grouping-keeps (λ groups. length groups ≡ size) size rules (λ groups r m c d j k e. length-unite c groups d ∙ e) (length-upTo size)
 
--- Each property's label is in one group with it, in another grouping g.
-record Within (g : ℕ → ℕ) (size : ℕ) (groups : List ℕ) : Type 0 where
+-- Another grouping g has each property's label in that property's group.
+record Coarser (g : ℕ → ℕ) (size : ℕ) (groups : List ℕ) : Type 0 where
   sized : length groups ≡ size
-  within : (x : ℕ) → x < size → g (label groups x) ≡ g x
+  with-label : (x : ℕ) → x < size → g (label groups x) ≡ g x
 
-unite-within : (g : ℕ → ℕ) (size : ℕ) (groups : List ℕ) (a b : ℕ) → a < size → b < size → g a ≡ g b → Within g size groups
-    → Within g size (unite a groups b)
-unite-within g size groups a b ha hb e h = record { sized = length-unite a groups b ∙ h .sized; within = within }
+unite-coarser : (g : ℕ → ℕ) (size : ℕ) (groups : List ℕ) (a b : ℕ) → a < size → b < size → g a ≡ g b → Coarser g size groups
+    → Coarser g size (unite a groups b)
+unite-coarser g size groups a b ha hb e h = record { sized = length-unite a groups b ∙ h .sized; with-label = with-label }
   where
-    within : (x : ℕ) → x < size → g (label (unite a groups b) x) ≡ g x
-    within x hx =
+    with-label : (x : ℕ) → x < size → g (label (unite a groups b) x) ≡ g x
+    with-label x hx =
         ap g (label-unite a groups b x (subst (λ (n : ℕ). x < n) (sym (h .sized)) hx))
-        ∙ merged-same g (label groups a) (label groups b) (label groups x) (h .within a ha ∙ e ∙ sym (h .within b hb))
-        ∙ h .within x hx
+        ∙ merged-same g (label groups a) (label groups b) (label groups x) (h .with-label a ha ∙ e ∙ sym (h .with-label b hb))
+        ∙ h .with-label x hx
 
 -- Each label is the lowest property of its group: no property of the group is below it, and it is one of them.
 pub record Lowest (size : ℕ) (groups : List ℕ) : Type 0 where
@@ -163,60 +164,76 @@ unite-lowest size groups a b ha hb h =
         ∙ merged-again (label groups a) (label groups b) (label groups x)
         ∙ sym (now x hx)
 
+-- Two properties have one label.
+record Joined (size c d : ℕ) (groups : List ℕ) : Type 0 where
+  sized : length groups ≡ size
+  joined : label groups c ≡ label groups d
+
+-- properties with one label keep one
+stays-joined : (size c d : ℕ) → c < size → d < size → (groups : List ℕ) (a b : ℕ) → Joined size c d groups → Joined size c d (unite a groups b)
+stays-joined size c d hc hd groups a b h =
+    record {
+      sized = length-unite a groups b ∙ h .sized;
+      joined =
+          label-unite a groups b c (subst (λ (n : ℕ). c < n) (sym (h .sized)) hc)
+          ∙ ap (merged (label groups a) (label groups b)) (h .joined)
+          ∙ sym (label-unite a groups b d (subst (λ (n : ℕ). d < n) (sym (h .sized)) hd));
+    }
+
+-- two properties that are brought together have one label
+now-joined : (size c d : ℕ) → c < size → d < size → (groups : List ℕ) → length groups ≡ size → Joined size c d (unite c groups d)
+now-joined size c d hc hd groups sized =
+    record {
+      sized = length-unite c groups d ∙ sized;
+      joined =
+          label-unite c groups d c (subst (λ (n : ℕ). c < n) (sym sized) hc)
+          ∙ merged-joined (label groups c) (label groups d) (label groups c) (inl refl)
+          ∙ sym (merged-joined (label groups c) (label groups d) (label groups d) (inr refl))
+          ∙ sym (label-unite c groups d d (subst (λ (n : ℕ). d < n) (sym sized) hd));
+    }
+
+-- all properties of a list get one label
+uniteAll-joins : (size : ℕ) (cs : List ℕ) → ((c : ℕ) → List·Memᴰ c cs → c < size) → (groups : List ℕ) → length groups ≡ size
+    → (c d : ℕ) → List·Memᴰ c cs → List·Memᴰ d cs → Joined size c d (uniteAll groups cs)
+unfolding uniteAll
+uniteAll-joins size [] below groups sized c d j k = absurd (List·Memᴰ·not-nil j)
+uniteAll-joins size (a ∷ cs) below groups sized c d j k =
+    record { sized = first c j .sized; joined = sym (first c j .joined) ∙ first d k .joined }
+  where
+    all-sized : length (foldl (unite a) groups cs) ≡ size
+    all-sized = foldl-keeps (λ now. length now ≡ size) (unite a) cs (λ now y l e. length-unite a now y ∙ e) groups sized
+
+    first : (x : ℕ) → List·Memᴰ x (a ∷ cs) → Joined size a x (foldl (unite a) groups cs)
+    first x m =
+        let ha = below a (List·Memᴰ·head refl) in
+        ⊎-elim (λ p. record { sized = all-sized; joined = ap (label (foldl (unite a) groups cs)) (sym p) })
+        (λ i.
+        foldl-reaches (λ now. length now ≡ size) (Joined size a x) (unite a) cs
+        (λ now y l e. length-unite a now y ∙ e)
+        (λ now y l e. stays-joined size a x ha (below x m) now a y)
+        x i
+        (now-joined size a x ha (below x m))
+        groups sized)
+        (List·Memᴰ·cases-cons m)
+
+-- Rules whose start and finish properties are among the first `size`.
 module _ (size : ℕ) (rules : List Transition)
     (known : (r : Transition) → List·Memᴰ r rules → (c : ℕ) → List·Memᴰ c (moved r) → c < size) where
-  -- properties with one label keep one
-  stays-joined : (groups : List ℕ) → length groups ≡ size → (a b x y : ℕ) → x < size → y < size
-      → label groups x ≡ label groups y → label (unite a groups b) x ≡ label (unite a groups b) y
-  stays-joined groups sized a b x y hx hy e =
-      label-unite a groups b x (subst (λ (n : ℕ). x < n) (sym sized) hx)
-      ∙ ap (merged (label groups a) (label groups b)) e
-      ∙ sym (label-unite a groups b y (subst (λ (n : ℕ). y < n) (sym sized) hy))
-
-  -- two properties that are brought together have one label
-  now-joined : (groups : List ℕ) → length groups ≡ size → (a b : ℕ) → a < size → b < size
-      → label (unite a groups b) a ≡ label (unite a groups b) b
-  now-joined groups sized a b ha hb =
-      label-unite a groups b a (subst (λ (n : ℕ). a < n) (sym sized) ha)
-      ∙ merged-joined (label groups a) (label groups b) (label groups a) (inl refl)
-      ∙ sym (merged-joined (label groups a) (label groups b) (label groups b) (inr refl))
-      ∙ sym (label-unite a groups b b (subst (λ (n : ℕ). b < n) (sym sized) hb))
-
-  uniteAll-joins : (cs : List ℕ) → ((c : ℕ) → List·Memᴰ c cs → c < size) → (groups : List ℕ) → length groups ≡ size
-      → (c d : ℕ) → List·Memᴰ c cs → List·Memᴰ d cs → label (uniteAll groups cs) c ≡ label (uniteAll groups cs) d
-  unfolding uniteAll
-  uniteAll-joins [] below groups sized c d j k = absurd (List·Memᴰ·not-nil j)
-  uniteAll-joins (a ∷ cs) below groups sized c d j k = sym (first c j) ∙ first d k
-    where
-      first : (x : ℕ) → List·Memᴰ x (a ∷ cs) → label (foldl (unite a) groups cs) a ≡ label (foldl (unite a) groups cs) x
-      first x m =
-          ⊎-elim (λ p. ap (label (foldl (unite a) groups cs)) (sym p))
-          (λ i.
-          foldl-reaches (λ now. length now ≡ size) (λ now. label now a ≡ label now x) (unite a) cs
-          (λ now y l e. length-unite a now y ∙ e)
-          (λ now y l e. stays-joined now e a y a x (below a (List·Memᴰ·head refl)) (below x m))
-          x i
-          (λ now e. now-joined now e a x (below a (List·Memᴰ·head refl)) (below x m))
-          groups sized)
-          (List·Memᴰ·cases-cons m)
-
   -- "All start and finish properties of one rule share a space"
   pub grouping-joins : (r : Transition) → List·Memᴰ r rules → (c d : ℕ) → List·Memᴰ c (moved r) → List·Memᴰ d (moved r)
       → label (grouping size rules) c ≡ label (grouping size rules) d
   unfolding grouping
   grouping-joins r m c d j k =
-      foldl-reaches (λ groups. length groups ≡ size) (λ groups. label groups c ≡ label groups d)
-      (λ groups q. uniteAll groups (moved q)) rules
+      foldl-reaches (λ groups. length groups ≡ size) (Joined size c d) (λ groups q. uniteAll groups (moved q)) rules
       (λ groups q l. uniteAll-keeps (λ now. length now ≡ size) (moved q) (λ now a b i₁ i₂ e. length-unite a now b ∙ e) groups)
-      (λ groups q l e same.
-      uniteAll-keeps (λ now. (length now ≡ size) × (label now c ≡ label now d)) (moved q)
-      (λ now a b i₁ i₂ h.
-      (length-unite a now b ∙ h .0, stays-joined now (h .0) a b c d (known r m c j) (known r m d k) (h .1)))
-      groups (e, same)
-      .1)
+      (λ groups q l e.
+      uniteAll-keeps (Joined size c d) (moved q)
+      (λ now a b i₁ i₂. stays-joined size c d (known r m c j) (known r m d k) now a b)
+      groups)
       r m
-      (λ groups e. uniteAll-joins (moved r) (known r m) groups e c d j k)
+      (λ groups e. uniteAll-joins size (moved r) (known r m) groups e c d j k)
       (upTo size) (length-upTo size)
+      .joined
 
   -- "spaces are the smallest such grouping": whatever puts the start and finish properties of each rule into one group
   -- puts any two properties of one label into one group
@@ -224,13 +241,13 @@ module _ (size : ℕ) (rules : List Transition)
       → ((r : Transition) → List·Memᴰ r rules → (c d : ℕ) → List·Memᴰ c (moved r) → List·Memᴰ d (moved r) → g c ≡ g d)
       → (c d : ℕ) → c < size → d < size → label (grouping size rules) c ≡ label (grouping size rules) d → g c ≡ g d
   grouping-smallest g same c d hc hd e =
-      sym (labelled .within c hc) ∙ ap g e ∙ labelled .within d hd
+      sym (coarser .with-label c hc) ∙ ap g e ∙ coarser .with-label d hd
     where
-      labelled : Within g size (grouping size rules)
-      labelled =
-          grouping-keeps (Within g size) size rules
-          (λ groups r m a b j k h. unite-within g size groups a b (known r m a j) (known r m b k) (same r m a b j k) h)
-          (record { sized = length-upTo size; within = λ x h. ap g (getD-upTo size x 0 h) })
+      coarser : Coarser g size (grouping size rules)
+      coarser =
+          grouping-keeps (Coarser g size) size rules
+          (λ groups r m a b j k. unite-coarser g size groups a b (known r m a j) (known r m b k) (same r m a b j k))
+          (record { sized = length-upTo size; with-label = λ x h. ap g (getD-upTo size x 0 h) })
 
   -- "numbered by lowest property": a label is the lowest property of its group
   pub grouping-lowest : Lowest size (grouping size rules)
@@ -255,7 +272,7 @@ exchanges-sized p x r m =
     let q = Memᴰ·of-map _ (support x) m in
     subst (Sized (length p)) (q .2)
     (record {
-      enablers = length-less p (single (length p) (q .0)) (sym (length-single (length p) (q .0)));
+      enablers = length-less (length p) p (single (length p) (q .0)) refl (length-single (length p) (q .0));
       start = length-single (length p) (q .0);
       finish = length-single (length p) (q .0);
     })
@@ -273,19 +290,19 @@ remaining-sized p start finish es ef r = go (isEmpty start)
     go true m =
         let q = Memᴰ·of-map _ (support finish) m in
         subst (Sized (length p)) (q .2)
-        (record { enablers = length-less p start (sym es); start = es; finish = length-single (length p) (q .0) })
+        (record { enablers = length-less (length p) p start refl es; start = es; finish = length-single (length p) (q .0) })
     go false m =
         subst (Sized (length p)) (sym (List·Memᴰ·eq-of-singleton m))
-        (record { enablers = length-less p start (sym es); start = es; finish = ef })
+        (record { enablers = length-less (length p) p start refl es; start = es; finish = ef })
 
 rulesOf-sized : (p d a : Bag) → length d ≡ length p → length a ≡ length p
     → (r : Transition) → List·Memᴰ r (rulesOf p d a) → Sized (length p) r
 unfolding rulesOf
 rulesOf-sized p d a ed ea r m =
-    let common : length (meet d a) ≡ length p = length-meet d a (ed ∙ sym ea) ∙ ed in
+    let common : length (meet d a) ≡ length p = length-meet (length p) d a ed ea in
     ⊎-elim (exchanges-sized p (meet d a) r)
     (remaining-sized p (less d (meet d a)) (less a (meet d a))
-    (length-less d (meet d a) (ed ∙ sym common) ∙ ed) (length-less a (meet d a) (ea ∙ sym common) ∙ ea) r)
+    (length-less (length p) d (meet d a) ed common) (length-less (length p) a (meet d a) ea common) r)
     (List·Memᴰ·append-cases (exchanges p (meet d a)) m)
 
 length-bagOf : (cs : List Property) (atoms : List Atom) (x : ℕ) → length (bagOf cs atoms x) ≡ length cs
@@ -310,5 +327,5 @@ pub moved-known : (t : Task) (r : Transition) → List·Memᴰ r (transitions t)
 unfolding moved
 moved-known t r m c k =
     let sized = transitions-sized t r m in
-    subst (λ (n : ℕ). c < n) (length-plus (r .start) (r .finish) (sized .start ∙ sym (sized .finish)) ∙ sized .start)
-    (support-below (plus (r .start) (r .finish)) c k)
+    subst (λ (n : ℕ). c < n) (length-plus (length (properties t)) (r .start) (r .finish) (sized .start) (sized .finish))
+    (support-at (plus (r .start) (r .finish)) c k .0)

@@ -1,0 +1,304 @@
+-- Demand 3: after every history of presses on an accepted card, everything that its listing says is true.
+--
+-- listing-holds: for every run of bytes C that decode accepts, every buffer that the opening call accepts, and every list of press
+-- calls on C (any schema number, any list of object numbers, each accepted or refused by any number), `Holds` of specs/Truth.antt is so
+-- of the state in the buffer up to the count last answered.
+use Prim.Native.Nat.{ℕ, _≤_, _<_}
+use native.Mathlib.Nat.{le-trans}
+use native.Mathlib.Omega.{arith}
+use mathlib.Core.Path.{_≡_, refl, sym, ap, _∙_, subst}
+use mathlib.Core.Bool.{Bool, true, false, cond, not, _&&_}
+use mathlib.Core.Logic.{⊎-elim}
+use mathlib.Core.List.{List, [], _∷_, map, List·Memᴰ, List·Memᴰ·head, List·Memᴰ·cases-cons, List·Memᴰ·not-nil, List·Memᴰ·eq-of-singleton, Memᴰ·map, Memᴰ·of-map}
+use lib.Dec.{ltb, eqb}
+use lib.ListN.{length, getD}
+use borrow.Author.Tests.{eqb-true, ltb-true}
+use Rattle.laws.specs.Lists.{any, all, upTo, member, distinct}
+use Rattle.laws.specs.Bags.{Bag, contains, strictlyContains, support}
+use Rattle.laws.proofs.Tests.{by-test, and-intro, not-true, to-not-true}
+use Rattle.laws.proofs.Lists.{all-at, all-intro, any-intro, any-none, keep-intro, member-intro, mem-getD, place-of, upTo-intro}
+use Rattle.laws.proofs.Bags.{least-below, contains-at, support-at}
+use Rattle.model.specs.Answer.{accepted}
+use Rattle.model.specs.Card.{Task, decode}
+use Rattle.model.specs.Writer.{checkTask}
+use Rattle.model.specs.Strips.{State, Action, schemaAt}
+use Rattle.model.specs.Transitions.{properties, bagOf}
+use Rattle.model.specs.Spaces.{Space, Kind, property, condition, spaces, hasMember}
+use Rattle.model.specs.Lines.{Line, space, state, limit, membership, exclusion, total, ceiling, Analysis, analysis, analyse, countOf, largest, minimal, excluded, spaceLines, propertyNumber, oneNumber, ofPredicate}
+use Rattle.model.specs.Calls.{initial, history, stateOf}
+use Rattle.model.specs.Truth.{_isOn_, _isSectionOf_, statesOf, countIn, Allowed, Holds}
+use Rattle.model.proofs.Valid.{Valid}
+use Rattle.model.proofs.Checked.{checked, checked-action}
+use Rattle.model.proofs.History.{history-induction}
+use Rattle.model.proofs.RoundTrip.{decode-checks}
+use Rattle.model.proofs.ListedSpace.{extensionOf, listed-as-property, conditions-listed, space-of-analysis, analysed, spaces-of-analysis}
+use Rattle.model.proofs.OwnLists.{joined-has, own-lists-length}
+use Rattle.model.proofs.SpaceFacts.{space-of, members-known, members-distinct}
+use Rattle.model.proofs.Sections.{on-space, on-limit, on-exclusion, on-total, on-ceiling, on-types, types-on, typed, states-of-space, state-on, membership-on}
+use Rattle.model.proofs.Totals.{total-by-members, count-of-condition}
+use Rattle.model.proofs.Effect.{effect-on-parameter}
+use Rattle.model.proofs.ParameterRules.{length-bagOf}
+use Rattle.model.proofs.Invariant.{Invariant, OnOwnList, invariant-initially, invariant-kept, initial-few, member-by-property, none-outside}
+
+-- the largest number is at least each of them
+largest-most : (ns : List ℕ) (n : ℕ) → List·Memᴰ n ns → n ≤ largest ns
+unfolding largest
+largest-most [] n m = absurd (List·Memᴰ·not-nil m)
+largest-most (x ∷ ns) n m =
+    ⊎-elim (λ e. omega arith) (λ k. let later = largest-most ns n k in omega arith) (List·Memᴰ·cases-cons m)
+
+-- the one number of a list is each of its numbers, and there is one
+one-number-all : (ns : List ℕ) (n : ℕ) → List·Memᴰ n (oneNumber ns) → (x : ℕ) → List·Memᴰ x ns → x ≡ n
+unfolding oneNumber
+one-number-all [] n m x k = absurd (List·Memᴰ·not-nil k)
+one-number-all (y ∷ ns) n m x k = go (all (eqb y) ns) refl m
+  where
+    go : (b : Bool) → all (eqb y) ns ≡ b → List·Memᴰ n (cond b (y ∷ []) []) → x ≡ n
+    go true e j =
+        let first : n ≡ y = List·Memᴰ·eq-of-singleton j in
+        ⊎-elim (λ p. p ∙ sym first) (λ q. sym (eqb-true y x (all-at (eqb y) ns e x q)) ∙ sym first) (List·Memᴰ·cases-cons k)
+    go false e j = absurd (List·Memᴰ·not-nil j)
+
+one-number-some : (ns : List ℕ) (n : ℕ) → List·Memᴰ n (oneNumber ns) → (x : ℕ) × List·Memᴰ x ns
+unfolding oneNumber
+one-number-some [] n m = absurd (List·Memᴰ·not-nil m)
+one-number-some (y ∷ ns) n m = (y, List·Memᴰ·head refl)
+
+module _ (t : Task) (ok : checkTask t ≡ accepted tt) (s : State) (valid : Valid t s) (inv : Invariant t s) where
+  -- a member of a space listed as P has one of the conditions listed for it
+  condition-listed : (u : Space) → List·Memᴰ u (spaces t) → analyse t u .kind ≡ property → (o : ℕ) → member o (u .members) ≡ true
+      → List·Memᴰ (condition t (u .properties) s o) (analyse t u .conditions)
+  condition-listed u m kind o k =
+      let listed = listed-as-property t u kind in
+      let own = inv .on-own-list u m listed o k in
+      let few = initial-few t u (checked t ok .few-objects) m in
+      let as-many = own-lists-length _ _ few (listed .ended) in
+      let here = own .place-known in
+      subst (λ (bags : List Bag). List·Memᴰ (condition t (u .properties) s o) bags) (sym (listed .conditions-are))
+      (joined-has (extensionOf t u .lists) (getD (extensionOf t u .lists) (own .place) []) (condition t (u .properties) s o)
+      (mem-getD (extensionOf t u .lists) (own .place) [] (omega arith))
+      (own .on-list))
+
+  -- what is so of every space of the task is so of every space of the listing
+  by-space : (Q : Space → Analysis → Type 0) → ((u : Space) → List·Memᴰ u (spaces t) → Q u (analyse t u)) → (a : Analysis)
+      → List·Memᴰ a (analysis t) → Q (a .space) a
+  by-space Q f a m =
+      let r = analysed t a m in
+      subst (λ (x : Analysis). Q (x .space) x) (sym (r .2))
+      (subst (λ (u : Space). Q u (analyse t (r .0))) (sym (space-of-analysis t (r .0))) (f (r .0) (r .1)))
+
+  member-condition : (a : Analysis) → List·Memᴰ a (analysis t) → a .kind ≡ property → (o : ℕ) → member o (a .space .members) ≡ true
+      → List·Memᴰ (condition t (a .space .properties) s o) (a .conditions)
+  member-condition =
+      by-space
+      (λ u a.
+      a .kind ≡ property → (o : ℕ) → member o (u .members) ≡ true
+      → List·Memᴰ (condition t (u .properties) s o) (a .conditions))
+      condition-listed
+
+  none-of : (a : Analysis) → List·Memᴰ a (analysis t) → (o c : ℕ) → member o (a .space .members) ≡ false
+      → member c (a .space .properties) ≡ true → countIn t s o c ≡ 0
+  unfolding countIn
+  none-of =
+      by-space
+      (λ u a. (o c : ℕ) → member o (u .members) ≡ false → member c (u .properties) ≡ true → getD (bagOf (properties t) s o) c 0 ≡ 0)
+      (λ u m o c out k. none-outside t s inv u m o out c k)
+
+  is-property : (a : Analysis) → List·Memᴰ a (analysis t) → (b : Bag) → List·Memᴰ b (a .conditions) → a .kind ≡ property
+  is-property = by-space (λ u a. (b : Bag) → List·Memᴰ b (a .conditions) → a .kind ≡ property) (λ u m. conditions-listed t u)
+
+  distinct-members : (a : Analysis) → List·Memᴰ a (analysis t) → distinct (a .space .members) ≡ true
+  distinct-members = by-space (λ u a. distinct (u .members) ≡ true) (members-distinct t)
+
+  known-members : (a : Analysis) → List·Memᴰ a (analysis t) → (o : ℕ) → member o (a .space .members) ≡ true → o < t .objects
+  known-members = by-space (λ u a. (o : ℕ) → member o (u .members) ≡ true → o < t .objects) (members-known t)
+
+  -- ---- each kind of line
+
+  -- T: the condition of a member is listed
+  state-is-listed : (lines : List Line) (n : ℕ) (ps ms : List ℕ) (o : ℕ) → lines isSectionOf t → space n property ps ms isOn lines
+      → member o ms ≡ true → state (condition t ps s o) isOn lines
+  state-is-listed lines n ps ms o section on k =
+      let r = on-space t lines n property ps ms section on in
+      let inside = subst (λ (x : List ℕ). member o x ≡ true) (r .members-are) k in
+      subst (λ (x : List Line). List·Memᴰ (state (condition t ps s o)) x) (sym (r .section-is))
+      (subst (λ (x : List ℕ). List·Memᴰ (state (condition t x s o)) (spaceLines t n (r .of))) (sym (r .properties-are))
+      (state-on t n (r .of) (condition t (r .of .space .properties) s o)
+      (member-condition (r .of) (r .of-listed) (sym (r .kind-is)) o inside)))
+
+  none-outside-listed : (lines : List Line) (n : ℕ) (kind : Kind) (ps ms : List ℕ) (o c : ℕ) → lines isSectionOf t
+      → space n kind ps ms isOn lines → member o ms ≡ false → member c ps ≡ true → countIn t s o c ≡ 0
+  none-outside-listed lines n kind ps ms o c section on out k =
+      let r = on-space t lines n kind ps ms section on in
+      none-of (r .of) (r .of-listed) o c (subst (λ (x : List ℕ). member o x ≡ false) (r .members-are) out)
+      (subst (λ (x : List ℕ). member c x ≡ true) (r .properties-are) k)
+
+  -- M: no count is above the largest
+  limit-holds : (lines : List Line) (c most o : ℕ) → lines isSectionOf t → limit c most isOn lines → countIn t s o c ≤ most
+  limit-holds lines c most o section on =
+      let r = on-limit t lines c most section on in
+      let a = r .of in
+      let there = member-intro c (a .space .properties) (r .in-space) in
+      by-test (member o (a .space .members))
+      (λ k.
+      let here = member-condition a (r .of-listed) (is-property a (r .of-listed) (r .some-condition .0) (r .some-condition .1)) o k in
+      let counted = count-of-condition t (a .space .properties) s o c there in
+      let bound =
+      largest-most (map (countOf (a .space .properties) c) (a .conditions)) (countOf (a .space .properties) c (condition t (a .space .properties) s o))
+      (Memᴰ·map (countOf (a .space .properties) c) here) in
+      let most-is = r .largest-is in
+      omega arith)
+      (λ k. let none = none-of a (r .of-listed) o c k there in omega arith)
+
+  -- a condition contains what stands at a place of a list, wherever properties and list are given from
+  contained : (ps own : List ℕ) (bags listed : List Bag) (i o : ℕ) (b : Bag) → ps ≡ own → bags ≡ listed → getD listed i [] ≡ b
+      → contains (condition t own s o) b ≡ true → contains (condition t ps s o) (getD bags i []) ≡ true
+  contained ps own bags listed i o b p q e h =
+      subst (λ (x : List ℕ). contains (condition t x s o) (getD bags i []) ≡ true) (sym p)
+      (subst (λ (x : List Bag). contains (condition t own s o) (getD x i []) ≡ true) (sym q)
+      (subst (λ (x : Bag). contains (condition t own s o) x ≡ true) (sym e) h))
+
+  -- D: below a member's condition there is a least one
+  membership-holds : (lines : List Line) (n : ℕ) (ps ms : List ℕ) (o : ℕ) → lines isSectionOf t → space n property ps ms isOn lines
+      → member o ms ≡ true
+      → (i : ℕ) × (membership i isOn lines) × (contains (condition t ps s o) (getD (statesOf lines) i []) ≡ true)
+  unfolding minimal
+  membership-holds lines n ps ms o section on k =
+      let r = on-space t lines n property ps ms section on in
+      let bags = r .of .conditions in
+      let inside = subst (λ (x : List ℕ). member o x ≡ true) (r .members-are) k in
+      let here = member-condition (r .of) (r .of-listed) (sym (r .kind-is)) o inside in
+      let least = least-below bags (condition t (r .of .space .properties) s o) here in
+      let at = place-of bags (least .0) [] (least .1) in
+      let states = ap statesOf (r .section-is) ∙ states-of-space t n (r .of) in (
+        at .0,
+        subst (λ (x : List Line). List·Memᴰ (membership (at .0)) x) (sym (r .section-is))
+            (membership-on t n (r .of) (at .0)
+            (keep-intro (λ i. not (any (strictlyContains (getD bags i [])) bags)) (upTo (length bags)) (at .0) (upTo-intro (length bags) (at .0) (at .1))
+            (to-not-true (any (strictlyContains (getD bags (at .0) [])) bags)
+            (ap (λ (b : Bag). any (strictlyContains b) bags) (at .2) ∙ least .3)))),
+        contained ps (r .of .space .properties) (statesOf lines) bags (at .0) o (least .0) (r .properties-are) states (at .2) (least .2),
+      )
+
+  -- X: a listed condition does not contain both
+  exclusion-holds : (lines : List Line) (n : ℕ) (kind : Kind) (ps ms : List ℕ) (o i j : ℕ) → lines isSectionOf t
+      → space n kind ps ms isOn lines → member o ms ≡ true → exclusion i j isOn lines
+      → (contains (condition t ps s o) (getD (statesOf lines) i []) && contains (condition t ps s o) (getD (statesOf lines) j [])) ≡ false
+  unfolding excluded
+  exclusion-holds lines n kind ps ms o i j section on k x =
+      let r = on-space t lines n kind ps ms section on in
+      let bags = r .of .conditions in
+      let e = on-exclusion t n (r .of) i j (subst (λ (l : List Line). List·Memᴰ (exclusion i j) l) (r .section-is) x) in
+      let inside = subst (λ (l : List ℕ). member o l ≡ true) (r .members-are) k in
+      let here = member-condition (r .of) (r .of-listed) (is-property (r .of) (r .of-listed) (e .1 .0) (e .1 .1)) o inside in
+      let states = ap statesOf (r .section-is) ∙ states-of-space t n (r .of) in
+      ap
+      (λ (l : List ℕ).
+      contains (condition t l s o) (getD (statesOf lines) i []) && contains (condition t l s o) (getD (statesOf lines) j []))
+      (r .properties-are)
+      ∙ ap
+      (λ (l : List Bag).
+      contains (condition t (r .of .space .properties) s o) (getD l i [])
+      && contains (condition t (r .of .space .properties) s o) (getD l j []))
+      states
+      ∙ any-none (λ b. contains b (getD bags i []) && contains b (getD bags j [])) bags
+      (not-true (any (λ b. contains b (getD bags i []) && contains b (getD bags j [])) bags) (e .0))
+      (condition t (r .of .space .properties) s o) here
+
+  -- F: members have one count each, the others none
+  total-holds : (lines : List Line) (p n : ℕ) → lines isSectionOf t → total p n isOn lines → ofPredicate p s ≡ n
+  total-holds lines p n section on =
+      let r = on-total t lines p n section on in
+      let a = r .of in
+      let c = propertyNumber t p (r .position) in
+      let some = one-number-some (map (countOf (a .space .properties) c) (a .conditions)) (r .each) (r .one-number) in
+      let b = Memᴰ·of-map (countOf (a .space .properties) c) (a .conditions) (some .1) in
+      let kind = is-property a (r .of-listed) (b .0) (b .1) in
+      total-by-members t p (r .position) (r .each) s (a .space .members) (r .predicate-known) (r .position-known) (valid .facts-known)
+      (distinct-members a (r .of-listed)) (known-members a (r .of-listed))
+      (λ o k.
+      sym (count-of-condition t (a .space .properties) s o c (r .in-space))
+      ∙ one-number-all (map (countOf (a .space .properties) c) (a .conditions)) (r .each) (r .one-number)
+      (countOf (a .space .properties) c (condition t (a .space .properties) s o))
+      (Memᴰ·map (countOf (a .space .properties) c) (member-condition a (r .of-listed) kind o k)))
+      (λ o k. none-of a (r .of-listed) o c k (r .in-space))
+      ∙ sym (r .amount)
+
+  -- C
+  ceiling-holds : (lines : List Line) (p n : ℕ) → lines isSectionOf t → ceiling p n isOn lines → ofPredicate p s ≤ n
+  ceiling-holds lines p n section on =
+      let r = on-ceiling t lines p n section on in
+      subst (λ (x : ℕ). ofPredicate p s ≤ x) (sym (r .1)) (inv .under-ceiling p (r .0))
+
+  -- R: the object of a parameter has each precondition property
+  types-hold : (n k : ℕ) (a : Action) → Allowed t s a → a .schema ≡ n → k < schemaAt t n .parameters
+      → member (getD (a .objects) k 0) (typed t n k) ≡ true
+  unfolding typed hasMember
+  types-hold n k a allowed e below =
+      let action = checked-action t a (allowed .named) in
+      let o = getD (a .objects) k 0 in
+      let inside : k < length (a .objects) =
+      subst (λ (x : ℕ). k < x) (sym (action .one-for-each ∙ ap (λ (x : ℕ). schemaAt t x .parameters) e)) below in
+      let effect = effect-on-parameter t s a ok valid allowed k inside in
+      let known : o < t .objects =
+      ltb-true o (t .objects) (all-at (λ x. ltb x (t .objects)) (a .objects) (action .objects-known) o (mem-getD (a .objects) k 0 inside)) in
+      let needs = bagOf (properties t) (schemaAt t (a .schema) .preconditions) k in
+      subst (λ (x : ℕ). member o (typed t x k) ≡ true) e
+      (member-intro o (typed t (a .schema) k)
+      (keep-intro
+      (λ x. all (hasMember (map (λ a. a .space) (analysis t)) x) (support needs))
+      (upTo (t .objects)) o (upTo-intro (t .objects) o known)
+      (all-intro (hasMember (map (λ a. a .space) (analysis t)) o) (support needs)
+      (λ c m.
+      let support = support-at needs c m in
+      let there = contains-at (bagOf (properties t) s o) needs (effect .preconditions-there) c in
+      let u = space-of t c (subst (λ (x : ℕ). c < x) (length-bagOf t (schemaAt t (a .schema) .preconditions) k) (support .0)) in
+      subst (λ (x : List Space). hasMember x o c ≡ true) (sym (spaces-of-analysis t))
+      (any-intro (λ v. member c (v .properties) && member o (v .members)) (spaces t) (u .0) (u .1)
+      (and-intro (member c (u .0 .properties)) (member o (u .0 .members)) (u .2)
+      (member-by-property t s inv (u .0) (u .1) o c (u .2) (le-trans (support .1) there))))))))
+
+  holds : Holds t s
+  holds =
+      record {
+        state-listed = state-is-listed;
+        outside = none-outside-listed;
+        limit-true = limit-holds;
+        membership-true = membership-holds;
+        exclusion-true = exclusion-holds;
+        total-true = total-holds;
+        ceiling-true = ceiling-holds;
+        types-true =
+            λ lines n k objects a section on allowed e.
+            let r = on-types t lines n k objects section on in
+            subst (λ (x : List ℕ). member (getD (a .objects) k 0) x ≡ true) (sym (r .0)) (types-hold n k a allowed e (r .1));
+        types-listed =
+            λ a k allowed h.
+            let action = checked-action t a (allowed .named) in
+            types-on t (a .schema) k (action .schema-known) (subst (λ (x : ℕ). k < x) (action .one-for-each) h);
+      }
+
+-- Demand 3
+pub listing-holds : (card buffer : List ℕ) (t : Task) (n : ℕ) → decode card ≡ accepted t → initial card buffer .answer ≡ accepted n
+    → (actions : List Action)
+    → Holds t (stateOf t (history card actions (record { buffer = initial card buffer .buffer; count = n })))
+listing-holds card buffer t n decoded opened actions =
+    let ok = decode-checks card t decoded in
+    let after =
+    history-induction card buffer t n decoded ok opened (Invariant t) (invariant-initially t ok)
+    (λ s a valid inv allowed. invariant-kept t ok s a valid inv allowed)
+    actions in
+    holds t ok _ (after .1) (after .0)
+
+-- and the stronger fact that a member's condition stands on the own list of its own initial condition
+pub own-list-holds : (card buffer : List ℕ) (t : Task) (n : ℕ) → decode card ≡ accepted t → initial card buffer .answer ≡ accepted n
+    → (actions : List Action) → (u : Space) → List·Memᴰ u (spaces t) → analyse t u .kind ≡ property → (o : ℕ)
+    → member o (u .members) ≡ true
+    → OnOwnList t u (stateOf t (history card actions (record { buffer = initial card buffer .buffer; count = n }))) o
+own-list-holds card buffer t n decoded opened actions u m kind =
+    let ok = decode-checks card t decoded in
+    let after =
+    history-induction card buffer t n decoded ok opened (Invariant t) (invariant-initially t ok)
+    (λ s a valid inv allowed. invariant-kept t ok s a valid inv allowed)
+    actions in
+    after .0 .on-own-list u m (listed-as-property t u kind)

@@ -1,17 +1,19 @@
 -- The order of atoms and facts. Document 01: "strictly ascending by predicate, then roles in order", and "ascending by bytes".
-use Prim.Native.Nat.{ℕ, zero, suc, _+_, _-_, _≤_, _<_}
+use Prim.Native.Nat.{ℕ, _-_, _<_}
 use mathlib.Core.Path.{_≡_, refl, sym, ap, _∙_, subst}
-use mathlib.Core.Bool.{Bool, true, false, cond, not, _&&_, _||_}
+use mathlib.Core.Bool.{Bool, true, false, _&&_}
 use mathlib.Core.Logic.{_⊎_, inl, inr, ⊎-elim}
 use mathlib.Core.Option.{Option, none, some}
-use mathlib.Core.List.{List, [], _∷_, _++_, List·Memᴰ, List·Memᴰ·head, List·Memᴰ·tail, List·Memᴰ·cases-cons, List·Memᴰ·not-nil, head-eq-of-cons-eq, tail-eq-of-cons-eq}
+use mathlib.Core.List.{List, [], _∷_, _++_, List·Memᴰ, List·Memᴰ·cases-cons, List·Memᴰ·not-nil, head-eq-of-cons-eq, tail-eq-of-cons-eq}
 use lib.Dec.{eqb, ltb}
 use lib.ListN.{length, getD, replicate}
 use borrow.Author.Tests.{eqb-true, eq-eqb}
-use Rattle.laws.specs.Lists.{any, all, same, before}
+use Rattle.laws.specs.Lists.{all, same, before}
 use Rattle.laws.proofs.Tests.{never, and-left, and-right, and-intro, by-test}
-use Rattle.laws.proofs.Lists.{any-at, any-intro, any-false, all-at, all-intro, same-eq, same-refl}
-use Rattle.laws.proofs.Orders.{before-cases, before-first, before-rest, before-irreflexive, before-transitive, before-total, before-head, before-append, NoRepeat, none-twice, one-more}
+use Rattle.laws.proofs.Lists.{any-at, any-intro, same-eq, same-refl}
+use Rattle.laws.proofs.Orders.{before-cases, before-first, before-rest, before-irreflexive, before-transitive, before-total, before-head}
+use Rattle.laws.proofs.Orders.{before-append}
+use Rattle.laws.proofs.Counting.{NoRepeat}
 use Rattle.model.specs.Card.{Atom, below, sameAtom, has, above}
 use Rattle.model.specs.Writer.{known, atomBytes}
 use Rattle.model.specs.Strips.{State, filler, factBytes, ascending}
@@ -45,8 +47,10 @@ atom-eq a b e = λ i. record { predicate = head-eq-of-cons-eq e i; arguments = t
 pub sameAtom-eq : (a b : Atom) → sameAtom a b ≡ true → a ≡ b
 unfolding sameAtom
 sameAtom-eq a b e =
-    let p = eqb-true (a .predicate) (b .predicate) (and-left (eqb (a .predicate) (b .predicate)) (same (a .arguments) (b .arguments)) e) in
-    let q = same-eq (a .arguments) (b .arguments) (and-right (eqb (a .predicate) (b .predicate)) (same (a .arguments) (b .arguments)) e) in
+    let predicates : Bool = eqb (a .predicate) (b .predicate) in
+    let arguments : Bool = same (a .arguments) (b .arguments) in
+    let p = eqb-true (a .predicate) (b .predicate) (and-left predicates arguments e) in
+    let q = same-eq (a .arguments) (b .arguments) (and-right predicates arguments e) in
     λ i. record { predicate = p i; arguments = q i }
 
 pub sameAtom-refl : (a : Atom) → sameAtom a a ≡ true
@@ -101,38 +105,34 @@ pub has-none : (s : List Atom) (a : Atom) → (List·Memᴰ a s → ⊥) → has
 has-none s a f = by-test (has s a) (λ p. absurd (f (has-at s a p))) (λ q. q)
 
 -- what a known atom is: its predicate, its number of arguments, and the bound on each
-pub known-predicate : (arities : List ℕ) (bound : ℕ) (a : Atom) → known arities bound a ≡ true → ltb (a .predicate) (length arities) ≡ true
-unfolding known
-known-predicate arities bound a e =
-    and-left (ltb (a .predicate) (length arities)) (eqb (length (a .arguments)) (getD arities (a .predicate) 0))
-    (and-left (ltb (a .predicate) (length arities) && eqb (length (a .arguments)) (getD arities (a .predicate) 0))
-    (all (λ x. ltb x bound) (a .arguments)) e)
+module _ (arities : List ℕ) (bound : ℕ) (a : Atom) where
+  pub known-predicate : known arities bound a ≡ true → ltb (a .predicate) (length arities) ≡ true
+  unfolding known
+  known-predicate e =
+      let predicate : Bool = ltb (a .predicate) (length arities) in
+      let arity : Bool = eqb (length (a .arguments)) (getD arities (a .predicate) 0) in
+      and-left predicate arity (and-left (predicate && arity) (all (λ x. ltb x bound) (a .arguments)) e)
 
-pub known-arity : (arities : List ℕ) (bound : ℕ) (a : Atom) → known arities bound a ≡ true → length (a .arguments) ≡ getD arities (a .predicate) 0
-unfolding known
-known-arity arities bound a e =
-    eqb-true (length (a .arguments)) (getD arities (a .predicate) 0)
-    (and-right (ltb (a .predicate) (length arities)) (eqb (length (a .arguments)) (getD arities (a .predicate) 0))
-    (and-left (ltb (a .predicate) (length arities) && eqb (length (a .arguments)) (getD arities (a .predicate) 0))
-    (all (λ x. ltb x bound) (a .arguments)) e))
+  pub known-arity : known arities bound a ≡ true → length (a .arguments) ≡ getD arities (a .predicate) 0
+  unfolding known
+  known-arity e =
+      let predicate : Bool = ltb (a .predicate) (length arities) in
+      let arity : Bool = eqb (length (a .arguments)) (getD arities (a .predicate) 0) in
+      eqb-true _ _ (and-right predicate arity (and-left (predicate && arity) (all (λ x. ltb x bound) (a .arguments)) e))
 
-pub known-arguments : (arities : List ℕ) (bound : ℕ) (a : Atom) → known arities bound a ≡ true → all (λ x. ltb x bound) (a .arguments) ≡ true
-unfolding known
-known-arguments arities bound a e =
-    and-right (ltb (a .predicate) (length arities) && eqb (length (a .arguments)) (getD arities (a .predicate) 0))
-    (all (λ x. ltb x bound) (a .arguments)) e
+  pub known-arguments : known arities bound a ≡ true → all (λ x. ltb x bound) (a .arguments) ≡ true
+  unfolding known
+  known-arguments e =
+      and-right (ltb (a .predicate) (length arities) && eqb (length (a .arguments)) (getD arities (a .predicate) 0)) _ e
 
-pub known-intro :
-    (arities : List ℕ) (bound : ℕ) (a : Atom) → ltb (a .predicate) (length arities) ≡ true
-    → length (a .arguments) ≡ getD arities (a .predicate) 0 → all (λ x. ltb x bound) (a .arguments) ≡ true
-    → known arities bound a ≡ true
-unfolding known
-known-intro arities bound a p q r =
-    and-intro (ltb (a .predicate) (length arities) && eqb (length (a .arguments)) (getD arities (a .predicate) 0))
-    (all (λ x. ltb x bound) (a .arguments))
-    (and-intro (ltb (a .predicate) (length arities)) (eqb (length (a .arguments)) (getD arities (a .predicate) 0)) p
-    (eq-eqb (length (a .arguments)) (getD arities (a .predicate) 0) q))
-    r
+  pub known-intro :
+      ltb (a .predicate) (length arities) ≡ true → length (a .arguments) ≡ getD arities (a .predicate) 0
+      → all (λ x. ltb x bound) (a .arguments) ≡ true → known arities bound a ≡ true
+  unfolding known
+  known-intro p q r =
+      let predicate : Bool = ltb (a .predicate) (length arities) in
+      let arity : Bool = eqb (length (a .arguments)) (getD arities (a .predicate) 0) in
+      and-intro (predicate && arity) _ (and-intro predicate arity p (eq-eqb _ _ q)) r
 
 -- the order of facts is the order of their four bytes
 pub bytes-order :
@@ -206,6 +206,6 @@ ascending-distinct f fs e = has-none fs f (ascending-absent f fs e)
 
 -- in an ascending list no fact stands twice
 pub ascending-no-repeat : (previous : Option Atom) (s : State) → ascending previous s ≡ true → NoRepeat s
-ascending-no-repeat previous [] e = none-twice
+ascending-no-repeat previous [] e = tt
 ascending-no-repeat previous (f ∷ fs) e =
-    one-more (ascending-absent f fs (ascending-tail previous f fs e)) (ascending-no-repeat (some f) fs (ascending-tail previous f fs e))
+    let later = ascending-tail previous f fs e in (ascending-absent f fs later, ascending-no-repeat (some f) fs later)

@@ -1,23 +1,23 @@
 -- The lines of a section: which lines stand in the section of a space, and which in the closing section.
-use Prim.Native.Nat.{ℕ, zero, suc, _+_, _*_, _≤_, _<_, zero-le, suc-le-suc}
+use Prim.Native.Nat.{ℕ, zero, suc, _+_, _*_, _<_, zero-le, suc-le-suc}
 use native.Mathlib.Nat.{zero-add, add-zero, not-suc-le-zero, le-of-suc-le-suc}
 use native.Mathlib.Omega.{arith}
 use mathlib.Core.Path.{_≡_, refl, sym, ap, _∙_, subst}
-use mathlib.Core.Bool.{Bool, true, false, cond, not}
-use mathlib.Core.Logic.{_⊎_, inl, inr, ⊎-elim}
+use mathlib.Core.Bool.{Bool, true, false, cond}
+use mathlib.Core.Logic.{⊎-elim}
 use mathlib.Core.List.{List, [], _∷_, _++_, map, flatMap, List·Memᴰ, List·Memᴰ·head, List·Memᴰ·tail, List·Memᴰ·cases-cons, List·Memᴰ·not-nil, List·Memᴰ·append-cases, List·Memᴰ·eq-of-singleton, Memᴰ·append-left, Memᴰ·append-right, Memᴰ·map, Memᴰ·of-map, append-nil}
 use lib.Dec.{leb, eqb}
 use lib.ListN.{length, getD, take}
 use borrow.Author.Tests.{eq-eqb}
-use Rattle.laws.specs.Lists.{all, keep, upTo, member}
+use Rattle.laws.specs.Lists.{all, keep, from, upTo, member}
 use Rattle.laws.specs.Bags.{Bag, support}
-use Rattle.laws.proofs.Tests.{never, by-test}
+use Rattle.laws.proofs.Tests.{never}
 use Rattle.laws.proofs.Lists.{keep-at, flatMap-at, upTo-at, upTo-intro, mem-take}
 use Rattle.model.specs.Card.{Task, Schema}
 use Rattle.model.specs.Strips.{schemaAt}
 use Rattle.model.specs.Transitions
 use Rattle.model.specs.Transitions.{bagOf}
-use Rattle.model.specs.Spaces.{Space, Kind, property, hasMember, spaces}
+use Rattle.model.specs.Spaces.{Space, Kind, property, hasMember}
 use Rattle.model.specs.Lines.{Line, space, state, limit, membership, exclusion, total, ceiling, types, Analysis, analysis, countOf, largest, arityOf, limits, minimal, excluded, exclusions, spaceLines, spaceSections, propertyNumber, oneNumber, totalsBy, totals, ofPredicate, ceilings, typesOf, typeLines, closingLines, sections}
 use Rattle.model.specs.Truth.{_isOn_, _isSectionOf_, statesOf}
 
@@ -383,13 +383,19 @@ on-limit t lines c most s m = go (of-a-space t lines (limit c most) s m refl)
     go : OfSpace t lines (limit c most) → OnLimit t c most
     go r = found (r .number) (r .of) (r .of-listed) (r .stands)
 
+-- and it stands only where a condition is listed
+exclusion-needs : (bags : List Bag) (line : Line) → List·Memᴰ line (exclusions bags (minimal bags)) → (b : Bag) × List·Memᴰ b bags
+unfolding exclusions minimal keep upTo from
+exclusion-needs [] line m = absurd (List·Memᴰ·not-nil m)
+exclusion-needs (b ∷ bags) line m = (b, List·Memᴰ·head refl)
+
 -- an X line in the section of a space: no condition contains both
 pub on-exclusion : (t : Task) (n : ℕ) (a : Analysis) (i j : ℕ) → exclusion i j isOn spaceLines t n a
-    → excluded (a .conditions) i j ≡ true
+    → (excluded (a .conditions) i j ≡ true) × ((b : Bag) × List·Memᴰ b (a .conditions))
 unfolding letter
 on-exclusion t n a i j m = found (space-line t n a (exclusion i j) m)
   where
-    found : SpaceLine t n a (exclusion i j) → excluded (a .conditions) i j ≡ true
+    found : SpaceLine t n a (exclusion i j) → (excluded (a .conditions) i j ≡ true) × ((b : Bag) × List·Memᴰ b (a .conditions))
     found (is-space p) = clash (exclusion i j) (space _ _ _ _) p refl
     found (is-state b k p) = clash (exclusion i j) (state b) p refl
     found (is-limit k) = limit-only t _ _ (exclusion i j) k refl
@@ -397,8 +403,10 @@ on-exclusion t n a i j m = found (space-line t n a (exclusion i j) m)
     found (is-exclusion k) =
         let r = exclusion-line (a .conditions) (minimal (a .conditions)) (exclusion i j) k in
         let first : i ≡ r .0 = cc in
-        let second : j ≡ r .1 = cc in
-        ap (λ (x : ℕ). excluded (a .conditions) x j) first ∙ ap (excluded (a .conditions) (r .0)) second ∙ r .2
+        let second : j ≡ r .1 = cc in (
+          ap (λ (x : ℕ). excluded (a .conditions) x j) first ∙ ap (excluded (a .conditions) (r .0)) second ∙ r .2,
+          exclusion-needs (a .conditions) (exclusion i j) k,
+        )
 
 pub on-total : (t : Task) (lines : List Line) (p n : ℕ) → lines isSectionOf t → total p n isOn lines → TotalLine t p n
 unfolding letter
@@ -426,7 +434,7 @@ on-ceiling t lines p n s m = found (of-the-closing t lines (ceiling p n) s m ref
     found (is-types k) = types-only t (ceiling p n) k refl
 
 -- an R line: the objects in every space of the parameter's precondition properties
-pub typed : Task → ℕ → ℕ → List ℕ
+unfoldable pub typed : Task → ℕ → ℕ → List ℕ
 typed t n k =
     keep
     (λ o.
@@ -435,24 +443,29 @@ typed t n k =
     (upTo (t .objects))
 
 pub on-types : (t : Task) (lines : List Line) (n k : ℕ) (objects : List ℕ) → lines isSectionOf t → types n k objects isOn lines
-    → objects ≡ typed t n k
+    → (objects ≡ typed t n k) × (k < schemaAt t n .parameters)
 unfolding letter typed typesOf schemaAt blank
 on-types t lines n k objects s m = found (of-the-closing t lines (types n k objects) s m refl)
   where
-    found : ClosingLine t (types n k objects) → objects ≡ typed t n k
+    found : ClosingLine t (types n k objects) → (objects ≡ typed t n k) × (k < schemaAt t n .parameters)
     found (is-total q x l e) = clash (types n k objects) (total q x) e refl
     found (is-ceiling q h e) = clash (types n k objects) (ceiling q _) e refl
     found (is-types x) =
         let r = types-line t (map (λ a. a .space) (analysis t)) 0 (t .schemas) blank (types n k objects) x in
-        inverted (r .0) (r .1) (r .4)
+        inverted (r .0) (r .1) (r .3) (r .4)
       where
-        inverted : (i j : ℕ) → types n k objects ≡ typesOf t (map (λ a. a .space) (analysis t)) (0 + i) (getD (t .schemas) i blank) j
-            → objects ≡ typed t n k
-        inverted i j e =
+        inverted : (i j : ℕ) → j < getD (t .schemas) i blank .parameters
+            → types n k objects ≡ typesOf t (map (λ a. a .space) (analysis t)) (0 + i) (getD (t .schemas) i blank) j
+            → (objects ≡ typed t n k) × (k < schemaAt t n .parameters)
+        inverted i j h e =
             let schema-is : 0 + i ≡ n = cc in
             let parameter-is : j ≡ k = cc in
             let objects-are : objects ≡ typed t i j = cc in
-            objects-are ∙ ap (λ (x : ℕ). typed t x j) (sym (zero-add i) ∙ schema-is) ∙ ap (typed t n) parameter-is
+            let same-schema = sym (zero-add i) ∙ schema-is in (
+              objects-are ∙ ap (λ (x : ℕ). typed t x j) same-schema ∙ ap (typed t n) parameter-is,
+              subst (λ (x : ℕ). k < schemaAt t x .parameters) same-schema
+                  (subst (λ (x : ℕ). x < schemaAt t i .parameters) parameter-is h),
+            )
 
 -- each parameter of each schema has an R line
 pub types-on : (t : Task) (n k : ℕ) → n < length (t .schemas) → k < schemaAt t n .parameters

@@ -1,22 +1,24 @@
 -- Document 01, "Spaces": what is known of each space of a task: its properties, its rules, its members.
-use Prim.Native.Nat.{ℕ, zero, suc, _<_}
+use Prim.Native.Nat.{ℕ, _<_}
 use mathlib.Core.Path.{_≡_, refl, sym, ap, _∙_, subst}
-use mathlib.Core.Bool.{Bool, true, false, cond, not, _&&_, _||_}
-use mathlib.Core.Logic.{_⊎_, inl, inr}
-use mathlib.Core.List.{List, [], _∷_, map, List·Memᴰ, List·Memᴰ·not-nil, Memᴰ·map, Memᴰ·of-map}
+use mathlib.Core.Bool.{Bool, true, false, cond, _&&_, _||_}
+use mathlib.Core.List.{List, [], _∷_, List·Memᴰ, List·Memᴰ·not-nil, Memᴰ·map, Memᴰ·of-map}
 use lib.Dec.{eqb}
 use lib.ListN.{length, getD}
 use native.Mathlib.Omega.{arith}
 use borrow.Author.Tests.{eqb-true, eq-eqb}
-use Rattle.laws.specs.Lists.{any, all, keep, upTo, member, distinct}
+use Rattle.laws.specs.Lists.{any, all, upTo, member, distinct}
 use Rattle.laws.specs.Bags.{isEmpty, support}
-use Rattle.laws.proofs.Tests.{cond-true, and-false-left, or-left, or-right, or-false-left, or-false-right, not-true, to-not-true, by-test}
-use Rattle.laws.proofs.Lists.{any-at, any-intro, any-none, any-false, keep-at, keep-intro, upTo-intro, member-at, member-intro}
-use Rattle.laws.proofs.Groups.{or-neutral, map-fixed, distinct-keep, distinct-upTo, member-keep-upTo, kept-below, repeat-adds, repeat-leaves}
+use Rattle.laws.proofs.Tests.{cond-true, and-intro, and-false-left, or-right, or-false-left, or-false-right, not-true, to-not-true, by-test, or-neutral}
+use Rattle.laws.proofs.Lists.{all-intro, any-at, any-intro, any-false, keep-at, keep-intro, upTo-intro}
+use Rattle.laws.proofs.Bags.{support-at}
+use Rattle.laws.proofs.Mapped.{map-fixed}
+use Rattle.laws.proofs.Numbers.{distinct-keep, distinct-upTo, member-keep-upTo, kept-below}
+use Rattle.laws.proofs.Closure.{repeat-adds, repeat-leaves}
 use Rattle.model.specs.Card.{Task}
 use Rattle.model.specs.Transitions.{Transition, properties, transitions}
-use Rattle.model.specs.Spaces.{Space, Kind, static, attribute, property, moved, moves, condition, admits, gain, round, spaces, kindOf}
-use Rattle.model.proofs.Grouping.{label, Lowest, label-known, grouping-joins, grouping-lowest, length-grouping, moved-known}
+use Rattle.model.specs.Spaces.{Space, static, attribute, property, moved, moves, condition, hasMember, admits, gain, round, spaces, kindOf}
+use Rattle.model.proofs.Grouping.{label, Lowest, label-known, grouping-joins, grouping-lowest, transitions-sized, moved-known}
 use Rattle.model.proofs.Closing.{groups, labels, propertiesAt, rulesAt, opens, spaceWith, spacesWith, admitted, step, step-adds, belongs, spaces-alone, closing-fixed}
 
 -- "Some rule with empty start or finish: attribute"
@@ -109,6 +111,16 @@ module _ (t : Task) where
       (λ l′ k′ e e′. ap (spaceWith t (belongs t)) (sym (at-label l c e .1) ∙ at-label l′ c e′ .1)) s′ m′)
       s m
 
+  -- an object is a member of the space of a property if it is one of each space with that property
+  has-member : (o c : ℕ) → c < length (properties t)
+      → ((s : Space) → List·Memᴰ s (spaces t) → member c (s .properties) ≡ true → member o (s .members) ≡ true)
+      → hasMember (spaces t) o c ≡ true
+  unfolding hasMember
+  has-member o c h inside =
+      let found = space-of c h in
+      any-intro (λ s. member c (s .properties) && member o (s .members)) (spaces t) (found .0) (found .1)
+      (and-intro (member c (found .0 .properties)) (member o (found .0 .members)) (found .2) (inside (found .0) (found .1) (found .2)))
+
   module _ (s : Space) (m : List·Memᴰ s (spaces t)) where
     -- the properties of a space are properties of the task, each once
     pub properties-known : (c : ℕ) → member c (s .properties) ≡ true → c < length (properties t)
@@ -153,6 +165,11 @@ module _ (t : Task) where
         let known = rules-of-space r k in
         rule-in-one-space r (known .0) (known .1 .0) (known .1 .1) (known .1 .2) .0 c j
 
+    -- the enablers of its rules are properties of the task
+    enabler-known : (r : Transition) → List·Memᴰ r (s .rules) → (c : ℕ) → List·Memᴰ c (support (r .enablers)) → c < length (properties t)
+    enabler-known r k c j =
+        subst (λ (n : ℕ). c < n) (transitions-sized t r (rules-of-space r k .0) .enablers) (support-at (r .enablers) c j .0)
+
     -- an object that a rule of a space admits is a member
     pub closing-closed : (r : Transition) → List·Memᴰ r (s .rules) → (o : ℕ) → o < t .objects
         → admits (spaces t) o r ≡ true → member o (s .members) ≡ true
@@ -163,6 +180,17 @@ module _ (t : Task) where
         ∙ member-keep-upTo (λ x. member x (s .members) || any (admits (spaces t) x) (s .rules)) (t .objects) o h
         ∙ or-right (member o (s .members)) (any (admits (spaces t) o) (s .rules)) (any-intro (admits (spaces t) o) (s .rules) r k e)
 
+    -- an object that is in the space of each enabler of an increasing rule of a space is a member
+    pub increasing-members : (r : Transition) → List·Memᴰ r (s .rules) → isEmpty (r .start) ≡ true → (o : ℕ) → o < t .objects
+        → ((c : ℕ) → List·Memᴰ c (support (r .enablers)) → (u : Space) → List·Memᴰ u (spaces t)
+        → member c (u .properties) ≡ true → member o (u .members) ≡ true)
+        → member o (s .members) ≡ true
+    unfolding admits
+    increasing-members r k e o h enabled =
+        closing-closed r k o h
+        (and-intro (isEmpty (r .start)) (all (hasMember (spaces t) o) (support (r .enablers))) e
+        (all-intro (hasMember (spaces t) o) (support (r .enablers)) (λ c j. has-member o c (enabler-known r k c j) (enabled c j))))
+
     -- an object with a nonempty initial condition is a member
     pub initial-members : (o : ℕ) → o < t .objects → isEmpty (condition t (s .properties) (t .facts) o) ≡ false
         → member o (s .members) ≡ true
@@ -171,7 +199,7 @@ module _ (t : Task) where
         of-labels (λ u. isEmpty (condition t (u .properties) (t .facts) o) ≡ false → member o (u .members) ≡ true)
         (λ l k e.
         member-keep-upTo (λ x. belongs t x l) (t .objects) o h
-        ∙ repeat-adds (labels t) (step t) (step-adds t) (length (labels t)) (opens t o) l
+        ∙ repeat-adds (step t) (step-adds t) (length (labels t)) (opens t o) l
         (to-not-true (isEmpty (condition t (propertiesAt t l) (t .facts) o)) e))
         s m
 
@@ -198,7 +226,7 @@ module _ (t : Task) where
         or-neutral (f l) (any (admitted t f) (rulesAt t l))
         (any-false (admitted t f) (rulesAt t l) (λ r j. and-false-left (isEmpty (r .start)) _ (starts r j))) in
         not-true (isEmpty (condition t (propertiesAt t l) (t .facts) o))
-        (sym (repeat-leaves (labels t) (step t) l leaves (length (labels t)) (opens t o))
+        (sym (repeat-leaves (step t) l leaves (length (labels t)) (opens t o))
         ∙ sym (member-keep-upTo (λ x. belongs t x l) (t .objects) o (kept-below (λ x. belongs t x l) (t .objects) o e)) ∙ e))
         s m started
 

@@ -1,18 +1,19 @@
 -- Facts counted by the object at a position: the number of a predicate's facts is the sum of the objects' counts for one of its properties.
-use Prim.Native.Nat.{ℕ, zero, suc, _+_, _*_, _≤_, _<_}
+use Prim.Native.Nat.{ℕ, zero, suc, _+_, _*_, _<_}
 use native.Mathlib.Nat.{zero-add, not-suc-le-zero, le-of-suc-le-suc}
 use native.Mathlib.Omega.{arith}
 use mathlib.Core.Path.{_≡_, refl, sym, ap, _∙_, subst}
-use mathlib.Core.Bool.{Bool, true, false, cond, not, _&&_, _||_}
-use mathlib.Core.List.{List, [], _∷_, _++_, map, List·Memᴰ, List·Memᴰ·head, List·Memᴰ·tail, List·Memᴰ·cases-cons}
+use mathlib.Core.Bool.{Bool, true, false, cond, _&&_, _||_}
+use mathlib.Core.List.{List, [], _∷_, _++_, map}
 use lib.Dec.{eqb, ltb}
 use lib.ListN.{length, getD, take, length-append, length-map, List·getD-append}
 use lib.Seq.{getD-append-add}
-use borrow.Author.Tests.{eqb-true, eq-eqb, ltb-true}
+use borrow.Author.Tests.{eqb-true, ltb-true}
 use Rattle.laws.specs.Lists.{all, count, upTo, sum, member, any, distinct, standsAt}
-use Rattle.laws.specs.Bags.{Bag, restrict}
-use Rattle.laws.proofs.Tests.{never, by-test, and-left, and-right, and-false-left}
-use Rattle.laws.proofs.Lists.{all-at, count-ext, count-none, mem-getD, upTo-at, upTo-intro, length-upTo, getD-upTo, member-at, member-intro}
+use Rattle.laws.specs.Bags.{restrict}
+use Rattle.laws.proofs.Tests.{never, and-left, and-right}
+use Rattle.laws.proofs.Lists.{all-at, count-ext, count-none, mem-getD, length-upTo, getD-upTo, member-intro}
+use Rattle.laws.proofs.Mapped.{getD-map}
 use Rattle.laws.proofs.Sums.{sum-one-more, sum-ext, sum-zero, sum-same, count-upTo, count-members, standsAt-getD}
 use Rattle.model.specs.Card.{Atom, Task}
 use Rattle.model.specs.Writer.{known}
@@ -22,6 +23,7 @@ use Rattle.model.specs.Transitions.{Property, propertiesFrom, occurs, ba
 use Rattle.model.specs.Spaces.{condition}
 use Rattle.model.specs.Lines.{countOf, propertyNumber, ofPredicate}
 use Rattle.model.specs.Truth.{countIn}
+use Rattle.model.proofs.Order.{known-arity, known-arguments}
 
 -- the properties of one predicate
 own : ℕ → ℕ → List Property
@@ -31,16 +33,10 @@ length-own : (p arity : ℕ) → length (own p arity) ≡ arity
 unfolding own
 length-own p arity = length-map (upTo arity) _ ∙ length-upTo arity
 
-getD-map-inside : {A B : Type 0} (f : A → B) (xs : List A) (i : ℕ) (a : A) (b : B) → i < length xs
-    → getD (map f xs) i b ≡ f (getD xs i a)
-getD-map-inside f [] i a b h = absurd (not-suc-le-zero h)
-getD-map-inside f (x ∷ xs) zero a b h = refl
-getD-map-inside f (x ∷ xs) (suc i) a b h = getD-map-inside f xs i a b (le-of-suc-le-suc h)
-
 own-at : (p arity i : ℕ) (d : Property) → i < arity → getD (own p arity) i d ≡ record { predicate = p; position = i }
 unfolding own
 own-at p arity i d h =
-    getD-map-inside (λ i. record { predicate = p; position = i }) (upTo arity) i 0 d (subst (λ (n : ℕ). i < n) (sym (length-upTo arity)) h)
+    getD-map (λ i. record { predicate = p; position = i }) (upTo arity) i 0 d (subst (λ (n : ℕ). i < n) (sym (length-upTo arity)) h)
     ∙ ap {B = Property} (λ j. record { predicate = p; position = j }) (getD-upTo arity i 0 h)
 
 -- a property's number is its place
@@ -81,7 +77,7 @@ pub count-in-says : (t : Task) (s : State) (p i o : ℕ) → p < length (t .arit
     → countIn t s o (propertyNumber t p i) ≡ count (λ a. eqb p (a .predicate) && standsAt o i (a .arguments)) s
 unfolding countIn bagOf propertyNumber Transitions.properties occurs
 count-in-says t s p i o hp hi =
-    getD-map-inside (λ c. count (λ a. occurs o a c) s) (propertiesFrom 0 (t .arities)) (sum (take p (t .arities)) + i)
+    getD-map (λ c. count (λ a. occurs o a c) s) (propertiesFrom 0 (t .arities)) (sum (take p (t .arities)) + i)
     (record { predicate = 0; position = 0 })
     0
     (property-below 0 p i (t .arities) hp hi)
@@ -89,31 +85,6 @@ count-in-says t s p i o hp hi =
     (λ (c : Property). count (λ a. occurs o a c) s)
     (property-at 0 p i (t .arities) (record { predicate = 0; position = 0 }) hp hi
     ∙ ap {B = Property} (λ q. record { predicate = q; position = i }) (zero-add p))
-
--- a known atom has as many arguments as its predicate's arity says, each below the bound
-known-size : (arities : List ℕ) (bound : ℕ) (a : Atom) → known arities bound a ≡ true
-    → length (a .arguments) ≡ getD arities (a .predicate) 0
-unfolding known
-known-size arities bound a k =
-    eqb-true (length (a .arguments)) (getD arities (a .predicate) 0)
-    (and-right (ltb (a .predicate) (length arities)) (eqb (length (a .arguments)) (getD arities (a .predicate) 0))
-    (and-left
-    (ltb (a .predicate) (length arities) && eqb (length (a .arguments)) (getD arities (a .predicate) 0))
-    (all (λ x. ltb x bound) (a .arguments))
-    k))
-
-known-argument : (arities : List ℕ) (bound : ℕ) (a : Atom) (i : ℕ) → known arities bound a ≡ true → i < length (a .arguments)
-    → getD (a .arguments) i 0 < bound
-unfolding known
-known-argument arities bound a i k h =
-    ltb-true (getD (a .arguments) i 0) bound
-    (all-at (λ x. ltb x bound) (a .arguments)
-    (and-right
-    (ltb (a .predicate) (length arities) && eqb (length (a .arguments)) (getD arities (a .predicate) 0))
-    (all (λ x. ltb x bound) (a .arguments))
-    k)
-    (getD (a .arguments) i 0)
-    (mem-getD (a .arguments) i 0 h))
 
 -- a known fact has one object at each position
 objects-of-fact : (t : Task) (p i : ℕ) (a : Atom) → i < getD (t .arities) p 0 → known (t .arities) (t .objects) a ≡ true
@@ -125,11 +96,14 @@ objects-of-fact t p i a hi k = go (eqb p (a .predicate)) refl
     go true e =
         let inside : i < length (a .arguments) =
         subst (λ (n : ℕ). i < n)
-        (ap (λ (q : ℕ). getD (t .arities) q 0) (eqb-true p (a .predicate) e) ∙ sym (known-size (t .arities) (t .objects) a k))
+        (ap (λ (q : ℕ). getD (t .arities) q 0) (eqb-true p (a .predicate) e) ∙ sym (known-arity (t .arities) (t .objects) a k))
         hi in
         count-ext (λ o. standsAt o i (a .arguments)) (λ o. eqb o (getD (a .arguments) i 0)) (upTo (t .objects))
         (λ o m. standsAt-getD o i (a .arguments) inside)
-        ∙ count-upTo (t .objects) (getD (a .arguments) i 0) (known-argument (t .arities) (t .objects) a i k inside)
+        ∙ count-upTo (t .objects) (getD (a .arguments) i 0)
+        (ltb-true (getD (a .arguments) i 0) (t .objects)
+        (all-at (λ x. ltb x (t .objects)) (a .arguments) (known-arguments (t .arities) (t .objects) a k) (getD (a .arguments) i 0)
+        (mem-getD (a .arguments) i 0 inside)))
     go false e = count-none (λ o. false) (upTo (t .objects)) (λ o m. refl)
 
 -- facts counted by the object at a position

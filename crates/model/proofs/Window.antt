@@ -1,21 +1,20 @@
 -- The reader never looks past byte 5,306 of a card: what the 5,305 bytes of the longest card do not decide, one byte more does.
-use Prim.Native.Nat.{ℕ, zero, suc, _+_, _*_, _≤_, _<_}
-use native.Mathlib.Nat.{not-suc-le-zero, suc-mul, zero-mul}
+use Prim.Native.Nat.{ℕ, zero, suc, _+_, _*_, _≤_}
+use native.Mathlib.Nat.{suc-mul}
 use native.Mathlib.Omega.{arith}
-use mathlib.Core.Path.{_≡_, refl, sym, ap, _∙_, subst}
-use mathlib.Core.Bool.{Bool, true, false, cond, not, _&&_}
+use mathlib.Core.Path.{_≡_, refl, sym, ap}
+use mathlib.Core.Bool.{Bool, true, false, not}
 use mathlib.Core.Option.{Option, none, some}
 use mathlib.Core.List.{List, [], _∷_}
-use lib.Dec.{leb, ltb, eqb}
+use lib.Dec.{leb, ltb}
 use lib.ListN.{length, getD, take}
-use lib.Seq.{take-all}
-use borrow.Author.Tests.{leb-true, ltb-true}
+use borrow.Author.Tests.{leb-true}
 use Rattle.laws.specs.Lists.{all}
-use Rattle.laws.proofs.Tests.{never, and-left, and-right, and-intro}
-use Rattle.laws.proofs.Lists.{all-at, mem-getD}
+use Rattle.laws.proofs.Tests.{and-left, and-right, and-intro}
 use Rattle.model.specs.Answer.{Answer, refused, accepted, _>>=_, _>>_, need}
-use Rattle.model.specs.Card.{Atom, Schema, Task, Reader, has, above, between, byte, byteThat, many, atom, schemaAtom, list, roleCount, bit, schema, fact, factCount, isEnd, decode}
-use Rattle.model.proofs.Buffer.{not-accepted, between-high}
+use Rattle.model.specs.Card.{Atom, Task, Reader, has, above, between, byte, byteThat, many, atom, schemaAtom, list, roleCount, bit, schema}
+use Rattle.model.specs.Card.{fact, factCount, isEnd, decode}
+use Rattle.model.proofs.Checked.{between-high}
 
 -- The answers of a reader on some bytes and on the first of them: one refusal, or one value, which passes a test, with at least k of the bytes
 -- that are left.
@@ -201,5 +200,6 @@ decode-window card =
     (λ facts s₆ j₆ few h₆. alike-end
     (reads-many 4 (λ f. true) _ (reads-fact arities right objects) facts none 1 j₆ s₆
     (let most = leb-true facts 512 few in omega arith)) _
-    (λ facts s₇ j₇ done h₇. ap (λ (b : Bool). need b 14 >> accepted (record { arities = arities; objects = objects; schemas = schemas; facts = facts }))
-    (isEnd-take s₇ j₇ h₇)))))))))
+    (λ facts s₇ j₇ done h₇.
+    let task : Task = record { arities = arities; objects = objects; schemas = schemas; facts = facts } in
+    ap (λ (b : Bool). need b 14 >> accepted task) (isEnd-take s₇ j₇ h₇)))))))))

@@ -1,6 +1,6 @@
 -- What a call or a part of one answers: a value, or the number of a refusal. Document 01, "Refusals in checking order".
 use Prim.Native.Nat.{ℕ}
-use mathlib.Core.Bool.{Bool, true, false, cond}
+use mathlib.Core.Bool.{Bool, cond}
 
 pub data Answer (A : Type 0) : Type 0 where
   refused : ℕ → Answer A

@@ -1,14 +1,13 @@
 -- The calls of document 01 with what each answers and what it leaves in the buffer lent to it, and the history of demand 3.
-use Prim.Native.Nat.{ℕ, zero, suc}
-use mathlib.Core.Bool.{Bool, true, false}
-use mathlib.Core.List.{List, [], _∷_, _++_, map, flatMap, foldl}
+use Prim.Native.Nat.{ℕ}
+use mathlib.Core.List.{List, [], _∷_, _++_, flatMap, foldl}
 use lib.Dec.{leb, ltb}
 use lib.ListN.{length, getD, drop}
 use Rattle.model.specs.Answer.{Answer, refused, accepted, _>>=_, _>>_, need}
 use Rattle.model.specs.Card.{Task, decode}
 use Rattle.model.specs.Writer.{checkTask, taskBytes}
 use Rattle.model.specs.Strips.{Action, State, stateBytes, factsIn, wellFormed, written, apply}
-use Rattle.model.specs.Lines.{Line, sections}
+use Rattle.model.specs.Lines.{sections}
 use Rattle.model.specs.Text.{decimal, text}
 
 abbrev pub outputBytes : ℕ

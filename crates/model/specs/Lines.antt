@@ -1,14 +1,14 @@
 -- Document 01, "Listing": the lines of each section.
-use Prim.Native.Nat.{ℕ, zero, suc, _+_, _*_, max}
-use mathlib.Core.Bool.{Bool, true, false, cond, not, _&&_, _||_}
+use Prim.Native.Nat.{ℕ, suc, _+_, _*_, max}
+use mathlib.Core.Bool.{Bool, cond, not, _&&_}
 use mathlib.Core.List.{List, [], _∷_, _++_, map, flatMap, foldl}
-use lib.Dec.{leb, ltb, eqb}
+use lib.Dec.{leb, eqb}
 use lib.ListN.{length, getD, take}
 use Rattle.laws.specs.Lists.{any, all, keep, count, upTo, sum, member}
 use Rattle.laws.specs.Bags.{Bag, contains, strictlyContains, restrict, support}
 use Rattle.model.specs.Card.{Atom, Schema, Task}
 use Rattle.model.specs.Transitions
-use Rattle.model.specs.Transitions.{Property, Transition, bagOf}
+use Rattle.model.specs.Transitions.{bagOf}
 use Rattle.model.specs.Spaces.{Space, Kind, static, attribute, property, mixed, wide, condition, kindOf, hasMember, spaces}
 use Rattle.model.specs.Extension
 use Rattle.model.specs.Extension.{Move, Outcome, adjoin, extend, joined}

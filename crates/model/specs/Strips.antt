@@ -1,12 +1,12 @@
 -- Document 01, "Pressing": states, the initial state (document 01: opening state), and applying an action (document 01: a press).
-use Prim.Native.Nat.{ℕ, zero, suc, _+_, _-_, _*_}
-use mathlib.Core.Bool.{Bool, true, false, cond, not, _&&_}
+use Prim.Native.Nat.{ℕ, zero, suc, _-_, _*_}
+use mathlib.Core.Bool.{Bool, true, cond, not, _&&_}
 use mathlib.Core.List.{List, [], _∷_, _++_, map, flatMap, foldl}
 use mathlib.Core.Option.{Option, none, some}
 use lib.Dec.{leb, ltb, eqb}
 use lib.ListN.{length, getD, take, drop, replicate}
 use Rattle.laws.specs.Lists.{all, keep, distinct}
-use Rattle.model.specs.Answer.{Answer, refused, accepted, _>>=_, _>>_, need}
+use Rattle.model.specs.Answer.{Answer, accepted, _>>=_, _>>_, need}
 use Rattle.model.specs.Card.{Atom, Schema, Task, below, sameAtom, has, above}
 use Rattle.model.specs.Writer.{known}
 

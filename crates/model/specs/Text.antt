@@ -1,6 +1,6 @@
 -- Document 01, "Listing": the text of a line as bytes.
 use Prim.Native.Nat.{ℕ, zero, suc, _+_, _/_, _%_}
-use mathlib.Core.Bool.{Bool, true, false, cond}
+use mathlib.Core.Bool.{cond}
 use mathlib.Core.List.{List, [], _∷_, _++_, map, flatMap}
 use lib.Dec.{ltb}
 use Rattle.model.specs.Spaces.{Kind, static, attribute, property, mixed, wide}

@@ -1,9 +1,9 @@
 -- Document 01, "Property rules": properties, the bags of a schema's parameters, and the transition rules (document 01: property rules).
-use Prim.Native.Nat.{ℕ, zero, suc, _+_, _-_}
-use mathlib.Core.Bool.{Bool, true, false, cond, not, _&&_}
+use Prim.Native.Nat.{ℕ, suc}
+use mathlib.Core.Bool.{Bool, cond, _&&_}
 use mathlib.Core.List.{List, [], _∷_, _++_, map, flatMap}
-use lib.Dec.{leb, ltb, eqb}
-use lib.ListN.{length, getD}
+use lib.Dec.{eqb}
+use lib.ListN.{length}
 use Rattle.laws.specs.Lists.{count, upTo, standsAt}
 use Rattle.laws.specs.Bags.{Bag, less, meet, isEmpty, single, support}
 use Rattle.model.specs.Card.{Atom, Schema, Task}

@@ -7,14 +7,14 @@
 --
 -- `Holds t S` says this of a task t and a state S, over the lines of the sections whose text the listing call writes
 -- (`Calls.section`). That it is so after every history is the theorem `listing-holds` of proofs/ListingHolds.antt.
-use Prim.Native.Nat.{ℕ, suc, _≤_, _<_}
+use Prim.Native.Nat.{ℕ, _≤_, _<_}
 use mathlib.Core.Path.{_≡_}
-use mathlib.Core.Bool.{Bool, true, false, _&&_}
+use mathlib.Core.Bool.{true, false, _&&_}
 use mathlib.Core.List.{List, [], _∷_, List·Memᴰ}
 use lib.ListN.{length, getD}
 use Rattle.laws.specs.Lists.{member}
-use Rattle.laws.specs.Bags.{Bag, contains, isEmpty}
-use Rattle.model.specs.Answer.{Answer, accepted}
+use Rattle.laws.specs.Bags.{Bag, contains}
+use Rattle.model.specs.Answer.{accepted}
 use Rattle.model.specs.Card.{Task}
 use Rattle.model.specs.Strips.{State, Action, schemaAt, checkAction, applicable}
 use Rattle.model.specs.Transitions

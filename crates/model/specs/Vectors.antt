@@ -4,15 +4,14 @@ use Prim.Native.Char.{code}
 use Prim.Native.String as text
 use Prim.Native.String.{String}
 use mathlib.Core.List.{List, [], _∷_, _++_, map, flatMap}
-use mathlib.Core.Bool.{Bool, true, false}
-use lib.ListN.{length, getD, replicate, set, take}
+use lib.ListN.{length, replicate, set}
 use Rattle.laws.specs.Lists.{upTo}
 use Rattle.model.specs.Answer.{Answer, refused, accepted}
 use Rattle.model.specs.Card.{Task, decode}
 use Rattle.model.specs.Strips.{Action, stateBytes, factBytes}
 use Rattle.model.specs.Lines.{Analysis, analysis}
 use Rattle.model.specs.Text.{kindLetter}
-use Rattle.model.specs.Calls.{Call, Standing, initial, press, pressed, section, program, stateOf, counted}
+use Rattle.model.specs.Calls.{Standing, initial, press, pressed, program, stateOf, counted}
 
 -- the bytes of a text in ASCII
 unfoldable pub ascii : String → List ℕ

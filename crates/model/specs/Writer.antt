@@ -1,12 +1,12 @@
 -- The card writer: which tables a card can carry, checked in card order, and the bytes of the card. Document 01, "Refusals in checking order".
-use Prim.Native.Nat.{ℕ, zero, suc, _+_, _*_, _/_, _%_}
-use mathlib.Core.Bool.{Bool, true, false, cond, not, _&&_}
+use Prim.Native.Nat.{ℕ, _+_, _/_, _%_}
+use mathlib.Core.Bool.{Bool, true, cond, not, _&&_}
 use mathlib.Core.List.{List, [], _∷_, _++_, flatMap}
 use mathlib.Core.Option.{Option, none, some}
 use lib.Dec.{leb, ltb, eqb}
 use lib.ListN.{length, getD}
 use Rattle.laws.specs.Lists.{all}
-use Rattle.model.specs.Answer.{Answer, refused, accepted, _>>_, need}
+use Rattle.model.specs.Answer.{Answer, accepted, _>>_, need}
 use Rattle.model.specs.Card.{Atom, Schema, Task, above, between, has}
 
 -- every item passes its check; each check is told the item before it

@@ -1,0 +1,69 @@
+-- Mapped lists, and functions and tests that agree on a list.
+use Prim.Native.Nat.{ℕ, zero, suc, _<_}
+use native.Mathlib.Nat.{le-of-suc-le-suc, not-suc-le-zero}
+use mathlib.Core.Path.{_≡_, refl, ap}
+use mathlib.Core.Bool.{Bool, true, cond, _&&_, _||_}
+use mathlib.Core.Logic.{_⊎_, inl, inr}
+use mathlib.Core.List.{List, [], _∷_, map, List·Memᴰ, List·Memᴰ·head, List·Memᴰ·tail, List·Memᴰ·cases-cons, List·Memᴰ·not-nil}
+use lib.ListN.{length, getD, replicate}
+use Rattle.laws.specs.Lists.{any, all, keep}
+use Rattle.laws.proofs.Tests.{and-intro}
+
+module _ {A B : Type 0} where
+  -- an element of a mapped list
+  pub getD-map : (f : A → B) (xs : List A) (i : ℕ) (d : A) (e : B) → i < length xs → getD (map f xs) i e ≡ f (getD xs i d)
+  getD-map f [] i d e h = absurd (not-suc-le-zero h)
+  getD-map f (x ∷ xs) zero d e h = refl
+  getD-map f (x ∷ xs) (suc i) d e h = getD-map f xs i d e (le-of-suc-le-suc h)
+
+  -- functions that agree on a list map it alike
+  pub map-ext : (f g : A → B) (xs : List A) → ((x : A) → List·Memᴰ x xs → f x ≡ g x) → map f xs ≡ map g xs
+  map-ext f g [] h = refl
+  map-ext f g (x ∷ xs) h = λ i. h x (List·Memᴰ·head refl) i ∷ map-ext f g xs (λ y m. h y (List·Memᴰ·tail m)) i
+
+  -- a test on a mapped list
+  pub any-map : (test : B → Bool) (f : A → B) (xs : List A) → any test (map f xs) ≡ any (λ x. test (f x)) xs
+  unfolding any
+  any-map test f [] = refl
+  any-map test f (x ∷ xs) = ap (λ (b : Bool). test (f x) || b) (any-map test f xs)
+
+module _ {A : Type 0} where
+  -- a function that maps a list to itself leaves each element as it is
+  pub map-fixed : (f : A → A) (xs : List A) → map f xs ≡ xs → (x : A) → List·Memᴰ x xs → f x ≡ x
+  map-fixed f [] e x m = absurd (List·Memᴰ·not-nil m)
+  map-fixed f (y ∷ ys) e x m = go (cc) (map-fixed f ys (cc) x) (List·Memᴰ·cases-cons m)
+    where
+      go : f y ≡ y → (List·Memᴰ x ys → f x ≡ x) → (x ≡ y) ⊎ List·Memᴰ x ys → f x ≡ x
+      go here later (inl p) = cc
+      go here later (inr k) = later k
+
+  -- tests that agree on a list
+  pub any-ext : (f g : A → Bool) (xs : List A) → ((x : A) → List·Memᴰ x xs → f x ≡ g x) → any f xs ≡ any g xs
+  unfolding any
+  any-ext f g [] h = refl
+  any-ext f g (x ∷ xs) h = λ i. h x (List·Memᴰ·head refl) i || any-ext f g xs (λ y m. h y (List·Memᴰ·tail m)) i
+
+  pub all-ext : (f g : A → Bool) (xs : List A) → ((x : A) → List·Memᴰ x xs → f x ≡ g x) → all f xs ≡ all g xs
+  unfolding all
+  all-ext f g [] h = refl
+  all-ext f g (x ∷ xs) h = λ i. h x (List·Memᴰ·head refl) i && all-ext f g xs (λ y m. h y (List·Memᴰ·tail m)) i
+
+  pub keep-ext : (f g : A → Bool) (xs : List A) → ((x : A) → List·Memᴰ x xs → f x ≡ g x) → keep f xs ≡ keep g xs
+  unfolding keep
+  keep-ext f g [] h = refl
+  keep-ext f g (x ∷ xs) h =
+      λ i.
+      let kept = keep-ext f g xs (λ y m. h y (List·Memᴰ·tail m)) i in
+      cond (h x (List·Memᴰ·head refl) i) (x ∷ kept) kept
+
+-- a test of every element made by a function
+pub all-map : {A B : Type 0} (f : A → B) (test : B → Bool) (xs : List A) → all test (map f xs) ≡ all (λ x. test (f x)) xs
+unfolding all
+all-map f test [] = refl
+all-map f test (x ∷ xs) = ap (λ (b : Bool). test (f x) && b) (all-map f test xs)
+
+-- and of one element, repeated
+pub all-replicate : {A : Type 0} (test : A → Bool) (n : ℕ) (a : A) → test a ≡ true → all test (replicate n a) ≡ true
+unfolding all
+all-replicate test zero a e = refl
+all-replicate test (suc n) a e = and-intro (test a) (all test (replicate n a)) e (all-replicate test n a e)

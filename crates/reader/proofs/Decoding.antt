@@ -1,0 +1,154 @@
+-- A card read part by part: the predicates, the objects, the schemas, the facts, and nothing after them.
+use Prim.Native.Nat.{ℕ, _-_, _≤_, _<_}
+use native.Mathlib.Omega.{arith}
+use mathlib.Core.Bool.{true, false}
+use mathlib.Core.List.{List}
+use mathlib.Core.Option.{none}
+use mathlib.Core.Path.{_≡_, refl, ap, _∙_, sym, subst, subst⁻¹}
+use lib.ListN.{length, take, drop, length-append, drop-of-length-le}
+use lib.Seq.{drop-cons}
+use Rattle.model.specs.Answer.{Answer, refused, accepted, _>>=_, _>>_, need}
+use Rattle.model.specs.Card as model
+use Rattle.card.specs.declared.ArityList.{ArityList}
+use Rattle.card.specs.declared.SchemaList.{SchemaList}
+use Rattle.card.specs.declared.FactList.{FactList}
+use Rattle.card.specs.declared.Refusal.{Refusal}
+use Rattle.card.specs.declared.Task.{Task}
+use Rattle.card.specs.declared.Decoded.{Decoded}
+use Rattle.card.specs.declared.Verdict.the-variants.{Accepted}
+use Rattle.card.specs.Represents.{refusalNumber, aritiesOf, aritiesFor, schemasOf, schemasFor, factsOf, factsFor, padded}
+use Rattle.card.specs.Represents.{taskOf, taskFor, answerOf, taskBeside, Decodes}
+use Rattle.reader_atoms.specs.Atoms.{inRange}
+use Rattle.reader_atoms.proofs.Answers.{goes, halts, passes, fails, regroup, differ, byteThat-held}
+use Rattle.reader_atoms.proofs.Many.{many-all}
+use Rattle.reader_lists.specs.declared.FactsRead.{FactsRead}
+use Rattle.reader_lists.specs.ListReads.{FactsReads}
+use Rattle.reader.specs.declared.SchemasRead.{SchemasRead}
+use Rattle.reader.specs.Parts.{predicates, schemas, facts, decodedRefused, SchemasReads}
+
+-- What is read after the predicates, the objects, the schemas and the facts.
+afterFacts : List ℕ → ℕ → List model.Schema → List model.Atom → List ℕ → Answer model.Task
+afterFacts arities objects ss fs s = do
+  need (model.isEnd s) 14
+  accepted (record { arities = arities; objects = objects; schemas = ss; facts = fs })
+
+afterSchemas : List ℕ → ℕ → List model.Schema → List ℕ → Answer model.Task
+afterSchemas arities objects ss s = do
+  (fs, s₁) ← facts arities objects s
+  afterFacts arities objects ss fs s₁
+
+afterObjects : List ℕ → ℕ → List ℕ → Answer model.Task
+afterObjects arities objects s = do
+  (ss, s₁) ← schemas arities s
+  afterSchemas arities objects ss s₁
+
+afterPredicates : List ℕ → List ℕ → Answer model.Task
+afterPredicates arities s = do
+  (objects, s₁) ← model.byteThat (model.between 1 64) 3 s
+  afterObjects arities objects s₁
+
+-- the definition reads these parts
+in-parts : (card : List ℕ) → model.decode card ≡ (predicates card >>= λ (arities, s). afterPredicates arities s)
+unfolding model.decode predicates afterPredicates afterObjects afterSchemas afterFacts schemas facts
+in-parts card = simp regroup
+
+module _ (card : List ℕ) where
+  -- the predicates are refused
+  pub no-predicates : {k : ℕ} → predicates card ≡ refused k → model.decode card ≡ refused k
+  no-predicates e = in-parts card ∙ halts _ e
+
+  module _ {arities : List ℕ} (s₁ : List ℕ) (p : predicates card ≡ accepted (arities, s₁)) where
+    -- the number of objects is refused
+    pub no-objects : {k : ℕ} → model.byteThat (model.between 1 64) 3 s₁ ≡ refused k → model.decode card ≡ refused k
+    unfolding afterPredicates
+    no-objects e = in-parts card ∙ goes _ p ∙ halts _ e
+
+    module _ {objects : ℕ} (s₂ : List ℕ) (o : model.byteThat (model.between 1 64) 3 s₁ ≡ accepted (objects, s₂)) where
+      -- the schemas are refused
+      pub no-schemas : {k : ℕ} → schemas arities s₂ ≡ refused k → model.decode card ≡ refused k
+      unfolding afterPredicates afterObjects
+      no-schemas e = in-parts card ∙ goes _ p ∙ goes _ o ∙ halts _ e
+
+      module _ {ss : List model.Schema} (s₃ : List ℕ) (q : schemas arities s₂ ≡ accepted (ss, s₃)) where
+        -- the facts are refused
+        pub no-facts : {k : ℕ} → facts arities objects s₃ ≡ refused k → model.decode card ≡ refused k
+        unfolding afterPredicates afterObjects afterSchemas
+        no-facts e = in-parts card ∙ goes _ p ∙ goes _ o ∙ goes _ q ∙ halts _ e
+
+        module _ {fs : List model.Atom} (s₄ : List ℕ) (f : facts arities objects s₃ ≡ accepted (fs, s₄)) where
+          -- 14: bytes follow
+          pub more-bytes : model.isEnd s₄ ≡ false → model.decode card ≡ refused 14
+          unfolding afterPredicates afterObjects afterSchemas afterFacts
+          more-bytes e = in-parts card ∙ goes _ p ∙ goes _ o ∙ goes _ q ∙ goes _ f ∙ fails _ _ e
+
+          -- all is read
+          pub whole-card : model.isEnd s₄ ≡ true
+              → model.decode card ≡ accepted (record { arities = arities; objects = objects; schemas = ss; facts = fs })
+          unfolding afterPredicates afterObjects afterSchemas afterFacts
+          whole-card e = in-parts card ∙ goes _ p ∙ goes _ o ∙ goes _ q ∙ goes _ f ∙ passes _ _ e
+
+-- the card goes on at a place, or ends there
+pub goes-on : (card : List ℕ) (at : ℕ) → at < length card → model.isEnd (drop at card) ≡ false
+unfolding model.isEnd
+goes-on card at h = rw (drop-cons card at 0 h)
+
+pub is-over : (card : List ℕ) (at : ℕ) → length card ≤ at → model.isEnd (drop at card) ≡ true
+unfolding model.isEnd
+is-over card at h = rw (drop-of-length-le card h)
+
+-- arities that were read are in range
+pub arities-in-range : (s : List ℕ) {arities : List ℕ} {rest : List ℕ} → predicates s ≡ accepted (arities, rest) → inRange arities ≡ true
+unfolding predicates inRange
+arities-in-range s {arities} {rest} e = counted (model.byteThat (model.between 1 20) 2 s) refl
+  where
+    counted : (r : Answer (ℕ × List ℕ)) → model.byteThat (model.between 1 20) 2 s ≡ r → inRange arities ≡ true
+    counted (refused k) f = absurd (differ (sym (halts _ f) ∙ e))
+    counted (accepted (n, s₁)) f =
+        many-all (model.between 1 3) (λ previous. model.byteThat (model.between 1 3) 2) (λ previous s x rest. byteThat-held (model.between 1 3) 2 s)
+        none n s₁ (sym (goes _ f) ∙ e)
+
+-- the arities lie within their array
+pub arities-room : {l : ArityList} → l ≡ aritiesFor (aritiesOf l) → l .count ≤ length (l .arities)
+unfolding aritiesFor padded
+arities-room {l} e =
+    let count : l .count ≡ length (aritiesOf l) = ap (λ l. l .count) e in
+    let size = ap (λ l. length (l .arities)) e ∙ length-append (aritiesOf l) _ in
+    omega arith
+
+-- the part of the array up to the count is what it stands for
+pub arities-part : (l : ArityList) → take (l .count - 0) (l .arities) ≡ aritiesOf l
+unfolding aritiesOf
+arities-part l = let whole : l .count - 0 ≡ l .count = omega arith in ap (λ n. take n (l .arities)) whole
+
+-- the code's answer to a refused card
+pub decodes-refused : {card : List ℕ} {d : Decoded} {k : Refusal} → d ≡ decodedRefused k
+    → model.decode card ≡ refused (refusalNumber k) → Decodes card d
+unfolding answerOf taskBeside
+decodes-refused {card} e a =
+    subst⁻¹ (λ d. Decodes card d) e (record { answer = sym a; kept = sym (ap taskBeside a) })
+
+-- .. and to an accepted one
+pub decodes-accepted : {card : List ℕ} {t : Task} → model.decode card ≡ accepted (taskOf t) → t ≡ taskFor (taskOf t)
+    → Decodes card (record { verdict = Accepted; task = t })
+unfolding answerOf taskBeside
+decodes-accepted a k = record { answer = sym a; kept = k ∙ sym (ap taskBeside a) }
+
+-- reads with the part of the array are reads with the arities
+module _ (l : ArityList) {card : List ℕ} (s : List ℕ) where
+  pub schemas-with : {r : SchemasRead}
+      → SchemasReads (take (l .count - 0) (l .arities)) card (schemas (take (l .count - 0) (l .arities)) s) r
+      → SchemasReads (aritiesOf l) card (schemas (aritiesOf l) s) r
+  schemas-with {r} w = subst (λ a. SchemasReads a card (schemas a s) r) (arities-part l) w
+
+  pub facts-with : (objects : ℕ) {r : FactsRead}
+      → FactsReads (take (l .count - 0) (l .arities)) card (facts (take (l .count - 0) (l .arities)) objects s) r
+      → FactsReads (aritiesOf l) card (facts (aritiesOf l) objects s) r
+  facts-with objects {r} w = subst (λ a. FactsReads a card (facts a objects s) r) (arities-part l) w
+
+-- a task is kept as its parts are
+pub task-kept : {l : ArityList} (objects : ℕ) {sl : SchemaList} {fl : FactList} → l ≡ aritiesFor (aritiesOf l)
+    → sl ≡ schemasFor (schemasOf (aritiesOf l) sl) → fl ≡ factsFor (factsOf (aritiesOf l) fl)
+    → _≡_ {A = Task} (record { predicates = l; objects = objects; schemas = sl; facts = fl })
+    (taskFor (taskOf (record { predicates = l; objects = objects; schemas = sl; facts = fl })))
+unfolding taskFor taskOf
+task-kept objects p s f = λ i. record { predicates = p i; objects = objects; schemas = s i; facts = f i }

@@ -1,0 +1,4 @@
+pub mod Headers
+pub mod SchemaParts
+pub mod SchemaLoop
+pub mod Decoding

@@ -1,0 +1,71 @@
+-- `role_count` reads as the definition does.
+use Prim.Native.Nat.{_≤_, _<_}
+use mathlib.Core.Path.{refl, _∙_}
+use native.Mathlib.Omega.{arith}
+use borrow.Author.Tests.{not-true, not-false}
+use Rattle.card.specs.Represents.{refusalNumber}
+use Rattle.reader_atoms.proofs.Answers.{byteThat-ends, byteThat-passes, byteThat-fails, in-bounds, below-low, above-high}
+use Rattle.reader_atoms.proofs.Reading.{accepts, refuses, byte-read, byte-within, byte-refused, hands-on}
+use Rattle.reader.proofs.Headers.{role-absent, role-present}
+use borrow.Author.Needs.{needs}
+use Rattle.reader.proofs.role_count.Statement.{statement}
+use Rattle.reader.proofs.role_count.Tie as tie
+
+returns : tie.Need-returns
+returns c =
+    accepts (role-absent _ _ (not-true _ (c .if1 .taken))) (c .before .before .pre) refl
+
+byte-requires : tie.Need-byte-requires
+byte-requires c κs = search needs
+
+enum-known-read : tie.Need-enum-known-read
+enum-known-read c = search needs
+
+enum-told : tie.Need-enum-told
+enum-told c = search needs
+
+returns-2 : tie.Need-returns-2
+returns-2 c =
+    let at-byte = c .before .before in
+    let at-if1 = at-byte .before in
+    let told = c .enum-told .given .1 in
+    hands-on told (role-present _ _ (not-false _ (at-if1 .if1 .left)) ∙ byteThat-ends _ _ _ (byte-refused (at-byte .byte .ensures) told))
+
+returns-3 : tie.Need-returns-3
+unfolding refusalNumber
+returns-3 c =
+    let read = byte-read (c .before .before .before .before .byte .ensures) (c .before .before .read .given .1) in
+    let few : c .before .before .read .given .0 .0 < 2 = omega (arith, c .if2 .taken) in
+    refuses (role-present _ _ (not-false _ (c .before .before .before .before .before .if1 .left)) ∙ byteThat-fails _ _ _ read (below-low _ _ _ few))
+
+returns-4 : tie.Need-returns-4
+returns-4 c =
+    let w = c .before .before .before .before .before .byte .ensures in
+    let e = c .before .before .before .read .given .1 in
+    let low : 2 ≤ c .before .before .before .read .given .0 .0 = omega (arith, c .before .if2 .left) in
+    let high : c .before .before .before .read .given .0 .0 ≤ 6 = omega (arith, c .if3 .taken) in
+    let passes = byteThat-passes _ _ _ (byte-read w e) (in-bounds _ _ _ low high) in
+    accepts (role-present _ _ (not-false _ (c .before .before .before .before .before .before .if1 .left)) ∙ passes) (byte-within w e) refl
+
+returns-5 : tie.Need-returns-5
+unfolding refusalNumber
+returns-5 c =
+    let at-read = c .before .before .before in
+    let at-byte = at-read .before .before in
+    let at-if1 = at-byte .before in
+    let read = byte-read (at-byte .byte .ensures) (at-read .read .given .1) in
+    let many : 6 < at-read .read .given .0 .0 = omega (arith, c .if3 .left) in
+    refuses (role-present _ _ (not-false _ (at-if1 .if1 .left)) ∙ byteThat-fails _ _ _ read (above-high _ _ _ many))
+
+pub role-count-spec : {M : Type 1} → statement M
+role-count-spec =
+    tie.close
+    (tie.spec
+    returns
+    byte-requires
+    enum-known-read
+    enum-told
+    returns-2
+    returns-3
+    returns-4
+    returns-5)

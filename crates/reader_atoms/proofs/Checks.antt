@@ -1,0 +1,100 @@
+-- The checks at a whole atom: its place on its list, and what its own list asks.
+use Prim.Native.Nat.{ℕ, _+_, _-_}
+use native.Mathlib.Omega.{arith}
+use mathlib.Core.Bool.{true, false, not}
+use mathlib.Core.List.{List, _++_, map}
+use mathlib.Core.Option.{Option}
+use mathlib.Core.Path.{_≡_, refl, ap, _∙_, sym}
+use lib.ListN.{length, take, replicate, length-append, length-replicate, length-map}
+use lib.Seq.{take-at}
+use Rattle.model.specs.Answer.{refused, accepted}
+use Rattle.model.specs.Card as model
+use Rattle.card.specs.declared.Atom.{Atom}
+use Rattle.card.specs.declared.AtomList.{AtomList}
+use Rattle.card.specs.Represents.{refusalNumber, atomOf, atomFor, atomsOf, atomsFor, padded, blankAtom}
+use Rattle.reader_atoms.specs.declared.Previous.{Previous}
+use Rattle.reader_atoms.specs.declared.Previous.the-variants.{Nothing, Atom as After}
+use Rattle.reader_atoms.specs.declared.Section.{Section}
+use Rattle.reader_atoms.specs.declared.Section.the-variants.{Preconditions, Deletes, Adds}
+use Rattle.reader_atoms.specs.Atoms.{previousOf, previousFor, aboveBytes, hasBytes, AtomsKept, PreviousKept}
+use Rattle.reader_atoms.specs.Atoms.{sectionTest, belongsBytes, sectionRefusal, sectionAtom}
+use Rattle.reader_atoms.proofs.Answers.{goes, halts, passes, fails}
+use Rattle.reader_atoms.proofs.Orders.{Kept, below-bytes, has-bytes}
+
+module _ (arities : List ℕ) (a : Atom) (ka : Kept arities a) where
+  -- the atom before it is below: so are its bytes
+  pub above-bytes : (previous : Previous) → PreviousKept arities previous
+      → model.above (previousOf arities previous) (atomOf arities a) ≡ aboveBytes previous a
+  unfolding model.above previousOf previousFor
+  above-bytes Nothing k = refl
+  above-bytes (After b) k = let kb : Kept arities b = cc in below-bytes arities b a kb ka
+
+module _ {arities : List ℕ} {l : AtomList} (k : AtomsKept arities l) where
+  listed : List Atom
+  listed = map atomFor (atomsOf arities l)
+
+  listed-count : length listed ≡ l .count
+  unfolding listed atomsFor
+  listed-count = length-map (atomsOf arities l) atomFor ∙ sym (ap (λ l. l .count) (k .kept))
+
+  listed-first : l .atoms ≡ listed ++ replicate (8 - length listed) blankAtom
+  unfolding listed atomsFor padded
+  listed-first = ap (λ l. l .atoms) (k .kept)
+
+  -- the atoms of a list as read are kept as atoms are
+  pub list-exact : take (l .count) (l .atoms) ≡ map atomFor (map (atomOf arities) (take (l .count) (l .atoms)))
+  unfolding listed atomsOf
+  list-exact = ap (take (l .count)) listed-first ∙ take-at _ _ _ listed-count
+
+  pub list-long : length (l .atoms) ≡ 8
+  list-long =
+      let sum : length listed + (8 - length listed) ≡ 8 = omega (arith, listed-count, k .few) in
+      ap length listed-first ∙ length-append listed _ ∙ ap (λ m. length listed + m) (length-replicate _ blankAtom) ∙ sum
+
+-- the check of its own list, by the bytes
+pub belongs-bytes : (arities : List ℕ) (a : Atom) (section : Section) (l : AtomList) → Kept arities a → AtomsKept arities l
+    → sectionTest section (atomsOf arities l) (atomOf arities a) ≡ belongsBytes section l a
+unfolding sectionTest atomsOf hasBytes
+belongs-bytes arities a Preconditions l ka k = refl
+belongs-bytes arities a Deletes l ka k = has-bytes arities a _ ka (list-exact k)
+belongs-bytes arities a Adds l ka k = ap not (has-bytes arities a _ ka (list-exact k))
+
+module _ (arities : List ℕ) (parameters : ℕ) (section : Section) (preconditions : List model.Atom) (previous : Option model.Atom) (s : List ℕ) where
+  -- the atom is refused
+  pub section-ends : {k : ℕ} → model.atom arities parameters 7 s ≡ refused k
+      → sectionAtom arities parameters section preconditions previous s ≡ refused k
+  unfolding sectionAtom model.schemaAtom
+  section-ends e = halts _ e
+
+  module _ {a : model.Atom} {s₁ : List ℕ} (e : model.atom arities parameters 7 s ≡ accepted (a, s₁)) where
+    -- 8: it is not above the one before
+    pub section-unordered : model.above previous a ≡ false → sectionAtom arities parameters section preconditions previous s ≡ refused 8
+    unfolding sectionAtom model.schemaAtom
+    section-unordered o = goes _ e ∙ fails _ _ o
+
+    -- 9, 10: its own list's check fails
+    pub section-strange : model.above previous a ≡ true → sectionTest section preconditions a ≡ false
+        → sectionAtom arities parameters section preconditions previous s ≡ refused (refusalNumber (sectionRefusal section))
+    unfolding sectionAtom model.schemaAtom
+    section-strange o t = goes _ e ∙ passes _ _ o ∙ fails _ _ t
+
+    pub section-passes : model.above previous a ≡ true → sectionTest section preconditions a ≡ true
+        → sectionAtom arities parameters section preconditions previous s ≡ accepted (a, s₁)
+    unfolding sectionAtom model.schemaAtom
+    section-passes o t = goes _ e ∙ passes _ _ o ∙ passes _ _ t
+
+module _ (arities : List ℕ) (objects : ℕ) (previous : Option model.Atom) (s : List ℕ) where
+  -- the fact is refused
+  pub fact-ends : {k : ℕ} → model.atom arities objects 12 s ≡ refused k → model.fact arities objects previous s ≡ refused k
+  unfolding model.fact
+  fact-ends e = halts _ e
+
+  module _ {a : model.Atom} {s₁ : List ℕ} (e : model.atom arities objects 12 s ≡ accepted (a, s₁)) where
+    -- 13: it is not above the one before
+    pub fact-unordered : model.above previous a ≡ false → model.fact arities objects previous s ≡ refused 13
+    unfolding model.fact
+    fact-unordered o = goes _ e ∙ fails _ _ o
+
+    pub fact-passes : model.above previous a ≡ true → model.fact arities objects previous s ≡ accepted (a, s₁)
+    unfolding model.fact
+    fact-passes o = goes _ e ∙ passes _ _ o

@@ -1,0 +1,8 @@
+pub mod Answers
+pub mod Reading
+pub mod Many
+pub mod Filling
+pub mod ArgumentBytes
+pub mod Orders
+pub mod AtomReading
+pub mod Checks

@@ -1,0 +1,89 @@
+-- `schema_atom` reads as the definition does.
+use mathlib.Core.Path.{ap, sym, _∙_}
+use borrow.Author.Tests.{not-true, not-false}
+use Rattle.model.specs.Answer.{refused}
+use Rattle.card.specs.Represents.{refusalNumber}
+use Rattle.reader_atoms.proofs.Reading.{accepts, refuses}
+use Rattle.reader_atoms.proofs.AtomReading.{atom-read, atom-within, atom-kept, atom-refused, atom-hands-on}
+use Rattle.reader_atoms.proofs.Checks.{above-bytes, belongs-bytes, list-long, section-ends, section-unordered, section-strange, section-passes}
+use borrow.Author.Needs.{needs}
+use Rattle.reader_atoms.proofs.schema_atom.Statement.{statement}
+use Rattle.reader_atoms.proofs.schema_atom.Tie as tie
+
+atom-requires : tie.Need-atom-requires
+atom-requires c κs = search needs
+
+enum-known-read : tie.Need-enum-known-read
+enum-known-read c = search needs
+
+enum-told : tie.Need-enum-told
+enum-told c = search needs
+
+returns : tie.Need-returns
+unfolding refusalNumber
+returns c =
+    let told = c .enum-told .given .1 in
+    atom-hands-on told (section-ends _ _ _ _ _ _ (atom-refused (c .before .before .atom .ensures) told))
+
+is-above-requires : tie.Need-is-above-requires
+is-above-requires c κs = search needs
+
+returns-2 : tie.Need-returns-2
+unfolding refusalNumber
+returns-2 c =
+    let at-atom = c .before .before .before .before .before in
+    let start = at-atom .before .before .before in
+    let w = at-atom .atom .ensures in
+    let e = c .before .before .before .read .given .1 in
+    let o = above-bytes _ _ (atom-kept w e) _ (start .pre .2) ∙ sym (c .before .is-above .ensures) ∙ not-true _ (c .if1 .taken) in
+    refuses (section-unordered _ _ _ _ _ _ (atom-read w e) o)
+
+belongs-requires : tie.Need-belongs-requires
+belongs-requires c κs =
+    let start = c .before .before .before .before .before .before .before .before in
+    (start .pre .1 .few, list-long (start .pre .1))
+
+refusal-of-requires : tie.Need-refusal-of-requires
+refusal-of-requires c κs = search needs
+
+returns-3 : tie.Need-returns-3
+unfolding refusalNumber
+returns-3 c =
+    let at-is-above = c .before .before .before .before in
+    let at-read = at-is-above .before .before in
+    let at-atom = at-read .before .before in
+    let start = at-atom .before .before .before in
+    let w = at-atom .atom .ensures in
+    let e = at-read .read .given .1 in
+    let k = atom-kept w e in
+    let o = above-bytes _ _ k _ (start .pre .2) ∙ sym (at-is-above .is-above .ensures) ∙ not-false _ (c .before .before .before .if1 .left) in
+    let t = belongs-bytes _ _ _ _ k (start .pre .1) ∙ sym (c .before .before .belongs .ensures) ∙ not-true _ (c .before .if2 .taken) in
+    refuses (section-strange _ _ _ _ _ _ (atom-read w e) o t ∙ ap (λ r. refused (refusalNumber r)) (sym (c .refusal-of .ensures)))
+
+returns-4 : tie.Need-returns-4
+unfolding refusalNumber
+returns-4 c =
+    let at-read = c .before .before .before .before .before in
+    let at-atom = at-read .before .before in
+    let start = at-atom .before .before .before in
+    let w = at-atom .atom .ensures in
+    let e = at-read .read .given .1 in
+    let k = atom-kept w e in
+    let o = above-bytes _ _ k _ (start .pre .2) ∙ sym (c .before .before .before .is-above .ensures) ∙ not-false _ (c .before .before .if1 .left) in
+    let t = belongs-bytes _ _ _ _ k (start .pre .1) ∙ sym (c .before .belongs .ensures) ∙ not-false _ (c .if2 .left) in
+    accepts (section-passes _ _ _ _ _ _ (atom-read w e) o t) (atom-within w e) k
+
+pub schema-atom-spec : {M : Type 1} → statement M
+schema-atom-spec =
+    tie.close
+    (tie.spec
+    atom-requires
+    enum-known-read
+    enum-told
+    returns
+    is-above-requires
+    returns-2
+    belongs-requires
+    refusal-of-requires
+    returns-3
+    returns-4)

@@ -1,0 +1,322 @@
+// Reading a card from front to back, up to a list of atoms. Each read answers an enum: a value with the cursor after it, or the refusal.
+use card::Atom;
+use card::AtomList;
+use card::Refusal;
+ghost use Prim.Native.Nat.{_≤_};
+ghost use mathlib.Core.Bool.{true};
+ghost use mathlib.Core.Path.{_≡_};
+ghost use lib.Dec.{ltb};
+ghost use lib.ListN.{length, drop};
+ghost use Rattle.card.specs.Represents.{refusalNumber};
+ghost use Rattle.laws.specs.Lists.{same, before};
+ghost use Rattle.model.specs.Card.{byte, byteThat, between};
+ghost use Rattle.reader_atoms.specs.Reads.{ByteReads, refusalOfByte, refusalOfStep};
+ghost use Rattle.reader_atoms.specs.Atoms.{ArgumentsReadAt, AtomReadAt, SectionAtomReadAt, FactReadAt, AtomsKept, PreviousKept};
+ghost use Rattle.reader_atoms.specs.Atoms.{inRange, bytesOf, hasBytes, aboveBytes, belongsBytes, refusalOfAtom, sectionRefusal};
+
+// A place on the card.
+pub struct Cursor {
+    pub at: usize,
+}
+
+// How a read ends: at a place on the card, or refused. It stands beside a value that an enum cannot hold, an array or a struct with one.
+pub enum Step {
+    At(Cursor),
+    Refused(Refusal),
+}
+
+impl Step {
+    // The refusal of a refused read.
+    pub fn refusal(self) -> Refusal
+        ensures { λ r. ⌜ r ≡ refusalOfStep self ⌝ }
+    {
+        match self {
+            Step::At(_) => Refusal::CardEnds,
+            Step::Refused(r) => r,
+        }
+    }
+}
+
+pub enum ByteRead {
+    Byte(u8, Cursor),
+    Refused(Refusal),
+}
+
+impl ByteRead {
+    // The refusal of a refused read.
+    pub fn refusal(self) -> Refusal
+        ensures { λ r. ⌜ r ≡ refusalOfByte self ⌝ }
+    {
+        match self {
+            ByteRead::Byte(_, _) => Refusal::CardEnds,
+            ByteRead::Refused(r) => r,
+        }
+    }
+}
+
+pub fn byte(card: &[u8], c: Cursor) -> ByteRead
+    ensures { λ r. ⌜ ByteReads (now (card .entry)) (byte (drop (c .at) (now (card .entry)))) r ⌝ }
+{
+    let at = c.at;
+    if at < card.len() {
+        ByteRead::Byte(card[at], Cursor { at: at + 1 })
+    } else {
+        ByteRead::Refused(Refusal::CardEnds)
+    }
+}
+
+// A byte below the bound.
+pub fn byte_below(card: &[u8], c: Cursor, bound: usize, refusal: Refusal) -> ByteRead
+    ensures { λ r. ⌜ ByteReads (now (card .entry)) (byteThat (λ b. ltb b bound) (refusalNumber refusal) (drop (c .at) (now (card .entry)))) r ⌝ }
+{
+    let read = byte(card, c);
+    let ByteRead::Byte(b, _) = read else {
+        return read;
+    };
+    if (b as usize) < bound {
+        read
+    } else {
+        ByteRead::Refused(refusal)
+    }
+}
+
+// A byte from `low` to `high`.
+pub fn byte_between(card: &[u8], c: Cursor, low: u8, high: u8, refusal: Refusal) -> ByteRead
+    ensures { λ r. ⌜ ByteReads (now (card .entry)) (byteThat (between low high) (refusalNumber refusal) (drop (c .at) (now (card .entry)))) r ⌝ }
+{
+    let read = byte(card, c);
+    let ByteRead::Byte(b, _) = read else {
+        return read;
+    };
+    if b < low {
+        return ByteRead::Refused(refusal);
+    }
+    if b <= high {
+        read
+    } else {
+        ByteRead::Refused(refusal)
+    }
+}
+
+pub enum AtomRead {
+    Found(Atom, Cursor),
+    Refused(Refusal),
+}
+
+impl AtomRead {
+    // The refusal of a refused read.
+    pub fn refusal(self) -> Refusal
+        ensures { λ r. ⌜ r ≡ refusalOfAtom self ⌝ }
+    {
+        match self {
+            AtomRead::Found(_, _) => Refusal::CardEnds,
+            AtomRead::Refused(r) => r,
+        }
+    }
+}
+
+// The arguments of an atom, one byte each, below the bound. Places past the arity hold 0.
+fn arguments(
+    card: &[u8],
+    c: Cursor,
+    predicate: u8,
+    arity: u8,
+    bound: usize,
+    refusal: Refusal,
+) -> AtomRead
+    requires { ⌜ (1 ≤ arity) × (arity ≤ 3) ⌝ }
+    ensures { λ r. ⌜ ArgumentsReadAt predicate arity bound refusal (now (card .entry)) (c .at) r ⌝ }
+{
+    let read = byte_below(card, c, bound, refusal);
+    let ByteRead::Byte(first, c) = read else {
+        return AtomRead::Refused(read.refusal());
+    };
+    if arity == 1 {
+        return AtomRead::Found(
+            Atom {
+                predicate,
+                first,
+                second: 0,
+                third: 0,
+            },
+            c,
+        );
+    }
+    let read = byte_below(card, c, bound, refusal);
+    let ByteRead::Byte(second, c) = read else {
+        return AtomRead::Refused(read.refusal());
+    };
+    if arity == 2 {
+        return AtomRead::Found(
+            Atom {
+                predicate,
+                first,
+                second,
+                third: 0,
+            },
+            c,
+        );
+    }
+    let read = byte_below(card, c, bound, refusal);
+    let ByteRead::Byte(third, c) = read else {
+        return AtomRead::Refused(read.refusal());
+    };
+    AtomRead::Found(
+        Atom {
+            predicate,
+            first,
+            second,
+            third,
+        },
+        c,
+    )
+}
+
+// An atom: a predicate byte, and its arguments.
+pub fn atom(card: &[u8], c: Cursor, arities: &[u8], bound: usize, refusal: Refusal) -> AtomRead
+    requires { ⌜ inRange (now arities) ≡ true ⌝ }
+    ensures { λ r. ⌜ AtomReadAt (now (arities .entry)) bound refusal (now (card .entry)) (c .at) r ⌝ }
+{
+    let read = byte_below(card, c, arities.len(), refusal);
+    let ByteRead::Byte(predicate, c) = read else {
+        return AtomRead::Refused(read.refusal());
+    };
+    let arity = arities[predicate as usize];
+    arguments(card, c, predicate, arity, bound, refusal)
+}
+
+// The first atom stands below the second, byte by byte.
+pub fn is_below(a: Atom, b: Atom) -> bool
+    ensures { λ r. ⌜ r ≡ before (bytesOf a) (bytesOf b) ⌝ }
+{
+    if a.predicate != b.predicate {
+        return a.predicate < b.predicate;
+    }
+    if a.first != b.first {
+        return a.first < b.first;
+    }
+    if a.second != b.second {
+        return a.second < b.second;
+    }
+    a.third < b.third
+}
+
+pub fn is_same(a: Atom, b: Atom) -> bool
+    ensures { λ r. ⌜ r ≡ same (bytesOf a) (bytesOf b) ⌝ }
+{
+    if a.predicate != b.predicate {
+        return false;
+    }
+    if a.first != b.first {
+        return false;
+    }
+    if a.second != b.second {
+        return false;
+    }
+    a.third == b.third
+}
+
+// The atom is on the list.
+pub fn has(list: AtomList, a: Atom) -> bool
+    requires { ⌜ (list .count ≤ 8) × (length (list .atoms) ≡ 8) ⌝ }
+    ensures { λ r. ⌜ r ≡ hasBytes list a ⌝ }
+{
+    let count = list.count;
+    let mut i = 0;
+    while i < count {
+        let b = list.atoms[i];
+        if is_same(a, b) {
+            return true;
+        }
+        i = i + 1;
+    }
+    false
+}
+
+// The atom before, on a list.
+pub enum Previous {
+    Nothing,
+    Atom(Atom),
+}
+
+// The atom stands above the one before it, if there is one.
+pub fn is_above(previous: Previous, a: Atom) -> bool
+    ensures { λ r. ⌜ r ≡ aboveBytes previous a ⌝ }
+{
+    match previous {
+        Previous::Nothing => true,
+        Previous::Atom(b) => is_below(b, a),
+    }
+}
+
+// The three lists of a schema.
+pub enum Section {
+    Preconditions,
+    Deletes,
+    Adds,
+}
+
+// The atom passes the check of its own list: a deleted atom is a precondition, an added one is none.
+pub fn belongs(section: Section, preconditions: AtomList, a: Atom) -> bool
+    requires { ⌜ (preconditions .count ≤ 8) × (length (preconditions .atoms) ≡ 8) ⌝ }
+    ensures { λ r. ⌜ r ≡ belongsBytes section preconditions a ⌝ }
+{
+    match section {
+        Section::Preconditions => true,
+        Section::Deletes => has(preconditions, a),
+        Section::Adds => !has(preconditions, a),
+    }
+}
+
+// The refusal of an atom that does not pass it.
+pub fn refusal_of(section: Section) -> Refusal
+    ensures { λ r. ⌜ r ≡ sectionRefusal section ⌝ }
+{
+    match section {
+        Section::Preconditions => Refusal::AtomOrder,
+        Section::Deletes => Refusal::DeleteNotPrecondition,
+        Section::Adds => Refusal::AddIsPrecondition,
+    }
+}
+
+// An atom of a list of a schema.
+pub fn schema_atom(
+    card: &[u8],
+    c: Cursor,
+    arities: &[u8],
+    parameters: usize,
+    section: Section,
+    preconditions: AtomList,
+    previous: Previous,
+) -> AtomRead
+    requires { ⌜ (inRange (now arities) ≡ true) × AtomsKept (now arities) preconditions × PreviousKept (now arities) previous ⌝ }
+    ensures { λ r. ⌜ SectionAtomReadAt (now (arities .entry)) parameters section preconditions previous (now (card .entry)) (c .at) r ⌝ }
+{
+    let read = atom(card, c, arities, parameters, Refusal::AtomUnknown);
+    let AtomRead::Found(a, _) = read else {
+        return read;
+    };
+    if !is_above(previous, a) {
+        return AtomRead::Refused(Refusal::AtomOrder);
+    }
+    if !belongs(section, preconditions, a) {
+        return AtomRead::Refused(refusal_of(section));
+    }
+    read
+}
+
+// A fact.
+pub fn fact(card: &[u8], c: Cursor, arities: &[u8], objects: usize, previous: Previous) -> AtomRead
+    requires { ⌜ (inRange (now arities) ≡ true) × PreviousKept (now arities) previous ⌝ }
+    ensures { λ r. ⌜ FactReadAt (now (arities .entry)) objects previous (now (card .entry)) (c .at) r ⌝ }
+{
+    let read = atom(card, c, arities, objects, Refusal::FactUnknown);
+    let AtomRead::Found(a, _) = read else {
+        return read;
+    };
+    if is_above(previous, a) {
+        read
+    } else {
+        AtomRead::Refused(Refusal::FactOrder)
+    }
+}

@@ -1,0 +1,5 @@
+pub mod Ordered
+pub mod Plain
+pub mod Blanks
+pub mod FactCount
+pub mod AtomLists

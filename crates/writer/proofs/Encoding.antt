@@ -1,0 +1,102 @@
+-- The whole call: a table that passed its check fits, and what the writer answers and leaves is what document 01's writer does.
+use Prim.Native.Nat.{ℕ, _≤_, _<_}
+use native.Mathlib.Nat.{zero-add}
+use mathlib.Core.Path.{_≡_, refl, ap, _∙_}
+use mathlib.Core.Bool.{true}
+use mathlib.Core.Option.{Option, none}
+use mathlib.Core.List.{List, [], _∷_, _++_, map}
+use lib.Dec.{leb}
+use lib.ListN.{length, drop}
+use borrow.Author.Tests.{leb-true, le-leb, lt-leb}
+use Rattle.laws.specs.Lists.{all}
+use Rattle.laws.proofs.Tests.{and-right, and-intro}
+use Rattle.model.specs.Answer.{Answer, accepted, _>>_, need}
+use Rattle.model.specs.Card as model
+use Rattle.model.specs.Writer.{each, checkSchema, checkTask, taskBytes}
+use Rattle.model.specs.Calls.{outputBytes, finish, output, encode}
+use Rattle.card.specs.Represents.{atomOf, blankAtom, blankSchema}
+use Rattle.card.specs.declared.Refusal.{Refusal}
+use Rattle.card.specs.declared.Schema.{Schema}
+use Rattle.card.specs.declared.Task.{Task}
+use Rattle.writer.specs.Tables.{entries, schemaTable, tableOf, writingSays, Encodes}
+use Rattle.writer.specs.Checking.{checkedSays}
+use Rattle.writer.specs.Bytes.{cardRoom, Writes, schemaFits, Fits}
+use Rattle.writer.specs.declared.checking.Checked.{Checked}
+use Rattle.writer.specs.declared.checking.Checked.the-variants as checked
+use Rattle.writer.specs.declared.Writing.the-variants as writing
+use Rattle.writer.proofs.Entries.{length-entries, length-table}
+use Rattle.writer.proofs.Sequence.{then-left, then-right, need-passed, passed-says}
+use Rattle.writer.proofs.SchemaLaws.{passed-list}
+
+-- a number that passed a test against a bound
+bounded : (n bound number : ℕ) (rest : Answer (Unit {0})) → need (leb n bound) number >> rest ≡ accepted tt → n ≤ bound
+bounded n bound number rest e = leb-true n bound (need-passed (leb n bound) number (then-left (need (leb n bound) number) rest e))
+
+ranged : (low high n number : ℕ) (rest : Answer (Unit {0})) → need (model.between low high n) number >> rest ≡ accepted tt → n ≤ high
+unfolding model.between
+ranged low high n number rest e =
+    leb-true n high (and-right (leb low n) (leb n high) (need-passed _ number (then-left (need (model.between low high n) number) rest e)))
+
+-- a schema that passed fits
+passed-schema : (arities : List ℕ) (s : Schema) → checkSchema arities (schemaTable arities s) ≡ accepted tt → schemaFits s ≡ true
+unfolding checkSchema schemaTable schemaFits
+passed-schema arities s e =
+    let lists = then-right (need (model.between 1 6 (s .parameters)) 5) _ e in
+    let later = then-right _ _ lists in
+    and-intro _ _
+    (and-intro _ _
+    (and-intro _ _ (le-leb (s .parameters) 6 (ranged 1 6 (s .parameters) 5 _ e))
+    (le-leb (s .preconditions .count) 8 (passed-list _ arities (s .preconditions) (then-left _ _ lists))))
+    (le-leb (s .deletes .count) 8 (passed-list _ arities (s .deletes) (then-left _ _ later))))
+    (le-leb (s .adds .count) 8 (passed-list _ arities (s .adds) (then-right _ _ later)))
+
+passed-schemas : (arities : List ℕ) (p : Option model.Schema) (xs : List Schema)
+    → each (λ before. checkSchema arities) p (map (schemaTable arities) xs) ≡ accepted tt → all schemaFits xs ≡ true
+unfolding each all
+passed-schemas arities p [] e = refl
+passed-schemas arities p (s ∷ xs) e =
+    and-intro (schemaFits s) (all schemaFits xs)
+    (passed-schema arities s (then-left (checkSchema arities (schemaTable arities s)) _ e))
+    (passed-schemas arities _ xs (then-right (checkSchema arities (schemaTable arities s)) _ e))
+
+-- a table that passed fits
+passed-task : (t : Task) → checkTask (tableOf t) ≡ accepted tt → Fits t
+unfolding checkTask tableOf
+passed-task t e =
+    let arities : List ℕ = entries (t .predicates .count) 0 (t .predicates .arities) in
+    let schemas : List model.Schema = map (schemaTable arities) (entries (t .schemas .count) blankSchema (t .schemas .schemas)) in
+    let facts : List model.Atom = map (atomOf arities) (entries (t .facts .count) blankAtom (t .facts .facts)) in
+    let from-objects = then-right _ _ (then-right _ _ e) in
+    let from-schemas = then-right _ _ from-objects in
+    let checks = then-right _ _ from-schemas in
+    record {
+      predicates = rw (length-entries (t .predicates .count) 0 (t .predicates .arities)) at (ranged 1 20 (length arities) 2 _ e);
+      objects = ranged 1 64 (t .objects) 3 _ from-objects;
+      schemas = rw length-table at (bounded (length schemas) 32 4 _ from-schemas);
+      lists = passed-schemas arities none _ (then-left _ _ checks);
+      facts = rw length-table at (bounded (length facts) 512 11 _ (then-right _ _ checks));
+    }
+
+module _ (t : Task) (c : Checked) (says : checkedSays c ≡ checkTask (tableOf t)) where
+  pub checked-fits : c ≡ checked.Passed → Fits t
+  checked-fits e = passed-task t (passed-says c (checkTask (tableOf t)) says e)
+
+-- the three answers of the call
+module _ (t : Task) (out : List ℕ) (c : Checked) (says : checkedSays c ≡ checkTask (tableOf t)) where
+  pub encode-refused : (r : Refusal) → c ≡ checked.Refused r → Encodes t out out (writing.Refused r)
+  unfolding encode finish writingSays checkedSays _>>_
+  encode-refused r e = record { answer = rw (← says, e); buffer = rw (← says, e) }
+
+  pub encode-short : c ≡ checked.Passed → length out < outputBytes → Encodes t out out writing.OutputShort
+  unfolding encode finish writingSays checkedSays _>>_ need
+  encode-short e h = record { answer = rw (← says, e, lt-leb outputBytes (length out) h); buffer = rw (← says, e, lt-leb outputBytes (length out) h) }
+
+  pub encode-written : c ≡ checked.Passed → outputBytes ≤ length out → (after : List ℕ) (n : ℕ)
+      → Writes cardRoom 0 (taskBytes (tableOf t)) out after n → Encodes t out after (writing.Written n)
+  unfolding encode finish output writingSays checkedSays _>>_ need
+  encode-written e h after n w =
+      let bytes = taskBytes (tableOf t) in
+      record {
+        answer = rw (← says, e, le-leb outputBytes (length out) h) (ap accepted (w .place ∙ zero-add _));
+        buffer = rw (← says, e, le-leb outputBytes (length out) h) (w .stands ∙ ap (λ (k : ℕ). bytes ++ drop k out) (zero-add (length bytes)));
+      }

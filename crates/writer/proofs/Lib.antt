@@ -1,0 +1,10 @@
+pub mod Ranges
+pub mod AtomLaws
+pub mod Entries
+pub mod Loops
+pub mod Sequence
+pub mod SchemaLaws
+pub mod TaskLaws
+pub mod WriteLaws
+pub mod CardBytes
+pub mod Encoding

@@ -1,0 +1,18 @@
+//! Another implementation of document 01, written from its words and apart from the proved one.
+//! It is what the proved library is compared with, and the speed that it is measured against.
+
+pub mod card;
+pub mod comparison;
+pub mod examples;
+pub mod listing;
+pub mod proved;
+pub mod random;
+pub mod refusal;
+pub mod strips;
+pub mod tim;
+pub mod truth;
+pub mod vectors;
+
+pub use card::{decode, encode, Task};
+pub use listing::{listing, section};
+pub use strips::{initial, press};

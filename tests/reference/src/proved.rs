@@ -1,0 +1,117 @@
+//! The proved library, target/staticlib/libcapi.a, by its C interface (include/stakestalk.h).
+
+/// The calls that both implementations have.
+pub trait Calls {
+    /// Whether the card is accepted.
+    fn check(&self, card: &[u8]) -> Result<(), u8>;
+    /// The opening call: the count.
+    fn initial(&self, card: &[u8], state: &mut [u8]) -> Result<usize, u8>;
+    /// A press: the new count.
+    fn press(&self, card: &[u8], state: &mut [u8], count: usize, schema: usize, objects: &[u8]) -> Result<usize, u8>;
+    /// One section of the listing: its length.
+    fn section(&self, card: &[u8], number: usize, out: &mut [u8]) -> Result<usize, u8>;
+    /// The card read and written again: its length.
+    fn rewrite(&self, card: &[u8], out: &mut [u8]) -> Result<usize, u8>;
+
+    /// What the program prints, from the section calls.
+    fn listing(&self, card: &[u8]) -> Vec<u8> {
+        let mut text = Vec::new();
+        let mut out = vec![0; crate::card::OUTPUT_LEN];
+        for number in 0.. {
+            match self.section(card, number, &mut out) {
+                Ok(length) => text.extend_from_slice(&out[..length]),
+                Err(crate::refusal::SECTION) => break,
+                Err(refusal) => return format!("refused {refusal}\n").into_bytes(),
+            }
+        }
+        text
+    }
+}
+
+/// The implementation in this package.
+pub struct Reference;
+
+impl Calls for Reference {
+    fn check(&self, card: &[u8]) -> Result<(), u8> {
+        crate::decode(card).map(|_| ())
+    }
+
+    fn initial(&self, card: &[u8], state: &mut [u8]) -> Result<usize, u8> {
+        crate::initial(card, state)
+    }
+
+    fn press(&self, card: &[u8], state: &mut [u8], count: usize, schema: usize, objects: &[u8]) -> Result<usize, u8> {
+        crate::press(card, state, count, schema, objects)
+    }
+
+    fn section(&self, card: &[u8], number: usize, out: &mut [u8]) -> Result<usize, u8> {
+        crate::section(card, number, out)
+    }
+
+    fn rewrite(&self, card: &[u8], out: &mut [u8]) -> Result<usize, u8> {
+        crate::encode(&crate::decode(card)?, out)
+    }
+}
+
+/// The proved implementation.
+#[cfg(feature = "proved")]
+pub struct Proved;
+
+#[cfg(feature = "proved")]
+mod foreign {
+    extern "C" {
+        pub fn stakestalk_check(card: *const u8, card_len: usize) -> i32;
+        pub fn stakestalk_initial(card: *const u8, card_len: usize, state: *mut u8, state_len: usize) -> i32;
+        pub fn stakestalk_press(
+            card: *const u8,
+            card_len: usize,
+            state: *mut u8,
+            state_len: usize,
+            count: usize,
+            schema: usize,
+            objects: *const u8,
+            objects_len: usize,
+        ) -> i32;
+        pub fn stakestalk_section(card: *const u8, card_len: usize, number: usize, out: *mut u8, out_len: usize) -> i32;
+        pub fn stakestalk_rewrite(card: *const u8, card_len: usize, out: *mut u8, out_len: usize) -> i32;
+    }
+}
+
+/// A refusal comes as minus its number. No refusal is above 22, so anything else below 0 is kept apart as 255.
+#[cfg(feature = "proved")]
+fn answer(number: i32) -> Result<usize, u8> {
+    match usize::try_from(number) {
+        Ok(value) => Ok(value),
+        Err(_) => Err(u8::try_from(-i64::from(number)).unwrap_or(255)),
+    }
+}
+
+// Each call hands over slices that live until it returns, the changed one borrowed for it alone.
+#[cfg(feature = "proved")]
+impl Calls for Proved {
+    fn check(&self, card: &[u8]) -> Result<(), u8> {
+        match answer(unsafe { foreign::stakestalk_check(card.as_ptr(), card.len()) })? {
+            0 => Ok(()),
+            _ => Err(255),
+        }
+    }
+
+    fn initial(&self, card: &[u8], state: &mut [u8]) -> Result<usize, u8> {
+        answer(unsafe { foreign::stakestalk_initial(card.as_ptr(), card.len(), state.as_mut_ptr(), state.len()) })
+    }
+
+    fn press(&self, card: &[u8], state: &mut [u8], count: usize, schema: usize, objects: &[u8]) -> Result<usize, u8> {
+        let (state, state_len) = (state.as_mut_ptr(), state.len());
+        answer(unsafe {
+            foreign::stakestalk_press(card.as_ptr(), card.len(), state, state_len, count, schema, objects.as_ptr(), objects.len())
+        })
+    }
+
+    fn section(&self, card: &[u8], number: usize, out: &mut [u8]) -> Result<usize, u8> {
+        answer(unsafe { foreign::stakestalk_section(card.as_ptr(), card.len(), number, out.as_mut_ptr(), out.len()) })
+    }
+
+    fn rewrite(&self, card: &[u8], out: &mut [u8]) -> Result<usize, u8> {
+        answer(unsafe { foreign::stakestalk_rewrite(card.as_ptr(), card.len(), out.as_mut_ptr(), out.len()) })
+    }
+}

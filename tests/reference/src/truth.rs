@@ -1,0 +1,216 @@
+//! Whether a listing is true of a state (document 01, "True of a state", and the owner's demand 3).
+//! It works from the listing's text, parsed back line by line, and from the card; it shares nothing with the analysis.
+
+use crate::card::{Schema, Task};
+use crate::strips::FACT_LEN;
+
+/// A listing, parsed back from its lines.
+#[derive(Debug, Default)]
+pub struct Listing {
+    pub spaces: Vec<SpaceLines>,
+    /// `F` and `C` lines: predicate and number.
+    pub totals: Vec<(usize, usize)>,
+    pub ceilings: Vec<(usize, usize)>,
+    /// `R` lines: schema, parameter, objects.
+    pub types: Vec<(usize, usize, Vec<usize>)>,
+}
+
+/// The section of one space.
+#[derive(Debug, Default)]
+pub struct SpaceLines {
+    pub kind: String,
+    pub properties: Vec<usize>,
+    pub members: Vec<usize>,
+    /// `T` lines.
+    pub bags: Vec<Vec<usize>>,
+    /// `M` lines: property and most.
+    pub limits: Vec<(usize, usize)>,
+    /// `D` lines.
+    pub least: Vec<usize>,
+    /// `X` lines.
+    pub exclusions: Vec<(usize, usize)>,
+}
+
+impl Listing {
+    pub fn parse(text: &str) -> Option<Listing> {
+        let mut listing = Listing::default();
+        for line in text.lines() {
+            let mut parts = line.split(':');
+            let (letter, head) = parts.next()?.trim().split_once(' ').unwrap_or((line.get(..1)?, ""));
+            let lists: Vec<Vec<usize>> = parts.map(numbers).collect::<Option<_>>()?;
+            if letter == "S" {
+                let (number, kind) = head.split_once(' ')?;
+                if number.parse() != Ok(listing.spaces.len()) {
+                    return None;
+                }
+                let [properties, members] = <[Vec<usize>; 2]>::try_from(lists).ok()?;
+                listing.spaces.push(SpaceLines { kind: kind.to_string(), properties, members, ..SpaceLines::default() });
+                continue;
+            }
+            let head = numbers(head)?;
+            match (letter, head.as_slice(), lists.as_slice()) {
+                ("T", [], [counts]) => listing.spaces.last_mut()?.bags.push(counts.clone()),
+                ("M", &[property, most], []) => listing.spaces.last_mut()?.limits.push((property, most)),
+                ("D", &[bag], []) => listing.spaces.last_mut()?.least.push(bag),
+                ("X", &[one, other], []) => listing.spaces.last_mut()?.exclusions.push((one, other)),
+                ("F", &[predicate, total], []) => listing.totals.push((predicate, total)),
+                ("C", &[predicate, number], []) => listing.ceilings.push((predicate, number)),
+                ("R", &[schema, parameter], [objects]) => listing.types.push((schema, parameter, objects.clone())),
+                _ => return None,
+            }
+        }
+        Some(listing)
+    }
+}
+
+fn numbers(text: &str) -> Option<Vec<usize>> {
+    text.split_whitespace().map(|word| word.parse().ok()).collect()
+}
+
+/// A state as facts of predicate and objects.
+struct State {
+    facts: Vec<(usize, Vec<usize>)>,
+}
+
+impl State {
+    fn new(task: &Task, bytes: &[u8]) -> State {
+        let fact = |bytes: &[u8]| {
+            let arity = task.arity(bytes[0]);
+            (bytes[0] as usize, bytes[1..=arity].iter().map(|&object| object as usize).collect())
+        };
+        State { facts: bytes.chunks_exact(FACT_LEN).map(fact).collect() }
+    }
+
+    fn facts_of(&self, predicate: usize) -> usize {
+        self.facts.iter().filter(|fact| fact.0 == predicate).count()
+    }
+
+    /// For each property and object, the number of facts with that object at that position.
+    fn counts(&self, properties: &[(usize, usize)], objects: usize) -> Vec<Vec<usize>> {
+        let mut counts = vec![vec![0; objects]; properties.len()];
+        for (predicate, arguments) in &self.facts {
+            for (property, &(of, position)) in properties.iter().enumerate() {
+                if of == *predicate {
+                    counts[property][arguments[position]] += 1;
+                }
+            }
+        }
+        counts
+    }
+}
+
+/// Checks every line of a card's listing, and the rest of demand 3, against the facts of a state. Says what is false.
+pub fn check(task: &Task, listing: &Listing, facts: &[u8]) -> Result<(), String> {
+    let state = State::new(task, facts);
+    let arities = task.arities().iter().map(|&arity| arity as usize).enumerate();
+    let properties: Vec<(usize, usize)> =
+        arities.flat_map(|(predicate, arity)| (0..arity).map(move |position| (predicate, position))).collect();
+    let objects = task.object_count as usize;
+    let counts = state.counts(&properties, objects);
+
+    for (number, space) in listing.spaces.iter().enumerate() {
+        check_space(space, &counts, objects).map_err(|fault| format!("space {number}: {fault}"))?;
+    }
+    for &(predicate, total) in &listing.totals {
+        if state.facts_of(predicate) != total {
+            return Err(format!("F {predicate} {total}, but there are {}", state.facts_of(predicate)));
+        }
+    }
+    for &(predicate, number) in &listing.ceilings {
+        if state.facts_of(predicate) > number {
+            return Err(format!("C {predicate} {number}, but there are {}", state.facts_of(predicate)));
+        }
+    }
+    for (number, schema) in task.schemas().iter().enumerate() {
+        check_types(task, listing, &state, number, schema)?;
+    }
+    Ok(())
+}
+
+fn check_space(space: &SpaceLines, counts: &[Vec<usize>], objects: usize) -> Result<(), String> {
+    let bag = |object: usize| -> Vec<usize> { space.properties.iter().map(|&property| counts[property][object]).collect() };
+    for (object, bag) in (0..objects).map(|object| (object, bag(object))) {
+        let member = space.members.contains(&object);
+        if !member && bag.iter().any(|&count| count > 0) {
+            return Err(format!("object {object} is outside and has {bag:?}"));
+        }
+        if member && space.kind == "P" {
+            if !space.bags.contains(&bag) {
+                return Err(format!("object {object} has {bag:?}, which is not listed"));
+            }
+            if !space.least.iter().any(|&least| contains(&bag, &space.bags[least])) {
+                return Err(format!("object {object} has {bag:?}, which contains no D"));
+            }
+            for &(one, other) in &space.exclusions {
+                if contains(&bag, &space.bags[one]) && contains(&bag, &space.bags[other]) {
+                    return Err(format!("object {object} has {bag:?}, which contains both of X {one} {other}"));
+                }
+            }
+        }
+        for &(property, most) in &space.limits {
+            if counts[property][object] > most {
+                return Err(format!("object {object} is above M {property} {most}"));
+            }
+        }
+    }
+    Ok(())
+}
+
+fn contains(bag: &[usize], other: &[usize]) -> bool {
+    bag.iter().zip(other).all(|(count, least)| count >= least)
+}
+
+/// The most bindings that are looked at for one schema.
+const MOST_BINDINGS: usize = 20_000;
+
+/// Whether each press of a schema that the state allows has listed objects only.
+fn check_types(task: &Task, listing: &Listing, state: &State, number: usize, schema: &Schema) -> Result<(), String> {
+    let parameters = schema.parameters as usize;
+    let lines: Vec<&Vec<usize>> = listing.types.iter().filter(|line| line.0 == number).map(|(_, _, objects)| objects).collect();
+    if lines.len() != parameters {
+        return Err(format!("schema {number} has {} R lines", lines.len()));
+    }
+    let mut bindings = vec![vec![None; parameters]];
+    for atom in schema.preconditions.as_slice() {
+        let arguments = task.arguments(atom);
+        let mut extended = Vec::new();
+        for binding in &bindings {
+            for (_, objects) in state.facts.iter().filter(|fact| fact.0 == atom.predicate as usize) {
+                extended.extend(bind(binding, arguments, objects));
+            }
+        }
+        extended.truncate(MOST_BINDINGS);
+        bindings = extended;
+    }
+    for binding in bindings {
+        let bound: Vec<usize> = binding.iter().flatten().copied().collect();
+        // A parameter of no precondition may have any object that is left, if there are enough for all such parameters.
+        if parameters - bound.len() > task.object_count as usize - bound.len() {
+            continue;
+        }
+        for (parameter, object) in binding.iter().enumerate() {
+            let listed = match object {
+                Some(object) => lines[parameter].contains(object),
+                None => (0..task.object_count as usize).all(|object| bound.contains(&object) || lines[parameter].contains(&object)),
+            };
+            if !listed {
+                return Err(format!("schema {number} allows {binding:?}, but parameter {parameter} has {:?}", lines[parameter]));
+            }
+        }
+    }
+    Ok(())
+}
+
+/// The binding with an atom's parameters bound to a fact's objects, if that leaves the objects different.
+fn bind(binding: &[Option<usize>], parameters: &[u8], objects: &[usize]) -> Option<Vec<Option<usize>>> {
+    let mut binding = binding.to_vec();
+    for (&parameter, &object) in parameters.iter().zip(objects) {
+        let taken = binding.contains(&Some(object));
+        match &mut binding[parameter as usize] {
+            Some(bound) if *bound == object => {}
+            place @ None if !taken => *place = Some(object),
+            _ => return None,
+        }
+    }
+    Some(binding)
+}

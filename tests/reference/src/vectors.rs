@@ -1,0 +1,117 @@
+//! The outside vectors of tests/vectors, and document 01's bench card.
+
+use std::fs;
+use std::path::PathBuf;
+
+/// K1 of document 01: predicates idle/1, armed/1, holds/2, sample/1.
+pub const K1: [u8; 55] = [
+    0x04, 0x01, 0x01, 0x02, 0x01, 0x04, 0x02, 0x0E, 0x01, 0x00, 0x00, 0x01, 0x00, 0x00, 0x01, 0x01, 0x00, 0x0F, 0x03, 0x03, 0x01, 0x00,
+    0x02, 0x00, 0x01, 0x03, 0x02, 0x02, 0x01, 0x00, 0x02, 0x00, 0x01, 0x02, 0x00, 0x00, 0x02, 0x00, 0x02, 0x00, 0x06, 0x00, 0x00, 0x00,
+    0x01, 0x02, 0x00, 0x02, 0x02, 0x01, 0x02, 0x03, 0x02, 0x03, 0x03,
+];
+
+/// A card with what the program prints for it.
+pub struct Listing {
+    pub name: String,
+    pub card: Vec<u8>,
+    pub text: String,
+}
+
+pub struct Press {
+    pub schema: usize,
+    pub objects: Vec<u8>,
+    pub answer: Result<usize, u8>,
+}
+
+/// Presses in order from the opening state, and the facts that stand after them.
+pub struct History {
+    pub card: Vec<u8>,
+    pub presses: Vec<Press>,
+    pub facts: Vec<u8>,
+}
+
+/// The repository's directory of tests.
+pub fn tests() -> PathBuf {
+    PathBuf::from(concat!(env!("CARGO_MANIFEST_DIR"), "/.."))
+}
+
+/// The bytes of a run of hex digits, blanks aside.
+pub fn from_hex(text: &str) -> Vec<u8> {
+    let digits: Vec<u8> = text.chars().filter_map(|digit| digit.to_digit(16)).map(|digit| digit as u8).collect();
+    digits.chunks_exact(2).map(|pair| pair[0] << 4 | pair[1]).collect()
+}
+
+pub fn to_hex(bytes: &[u8]) -> String {
+    bytes.iter().map(|byte| format!("{byte:02x}")).collect()
+}
+
+/// The 800 cards of listings.txt.
+pub fn listings() -> Vec<Listing> {
+    let text = read("vectors/listings.txt");
+    let blocks = blocks(&text).into_iter().enumerate();
+    let listing = |(number, lines): (usize, Vec<&str>)| Listing {
+        name: format!("listings.txt, block {number}"),
+        card: from_hex(lines[0]),
+        text: lines[1..].iter().map(|line| format!("{line}\n")).collect(),
+    };
+    blocks.map(listing).collect()
+}
+
+/// The cards of extreme/, by name.
+pub fn extremes() -> Vec<Listing> {
+    let mut names: Vec<String> = fs::read_dir(tests().join("vectors/extreme"))
+        .expect("the vectors are there")
+        .filter_map(|entry| entry.ok()?.file_name().to_str()?.strip_suffix(".card").map(String::from))
+        .collect();
+    names.sort();
+    let listing = |name: String| {
+        let card = fs::read(tests().join(format!("vectors/extreme/{name}.card"))).expect("the card is there");
+        let text = read(&format!("vectors/extreme/{name}.listing"));
+        Listing { name, card, text }
+    };
+    names.into_iter().map(listing).collect()
+}
+
+/// The 400 histories of presses.txt.
+pub fn histories() -> Vec<History> {
+    let text = read("vectors/presses.txt");
+    blocks(&text).into_iter().map(|lines| history(&lines)).collect()
+}
+
+fn history(lines: &[&str]) -> History {
+    let (last, presses) = lines[1..].split_last().expect("a history ends with its state");
+    let facts = from_hex(last.strip_prefix("state").expect("a history ends with its state"));
+    History { card: from_hex(lines[0]), presses: presses.iter().map(|line| press(line)).collect(), facts }
+}
+
+fn press(line: &str) -> Press {
+    let (call, answer) = line.split_once("->").expect("a press has its answer");
+    let (schema, objects) = call.strip_prefix("press").and_then(|call| call.split_once(':')).expect("a press has its objects");
+    let answer = match answer.trim().strip_prefix("refused ") {
+        Some(number) => Err(number.parse().expect("a refusal is a number")),
+        None => Ok(answer.trim().parse().expect("a count is a number")),
+    };
+    Press {
+        schema: schema.trim().parse().expect("a schema is a number"),
+        objects: objects.split_whitespace().map(|object| object.parse().expect("an object is a number")).collect(),
+        answer,
+    }
+}
+
+/// The lines of each block that a line `--` closes. An empty card is an empty first line.
+fn blocks(text: &str) -> Vec<Vec<&str>> {
+    let mut blocks = Vec::new();
+    let mut lines = Vec::new();
+    for line in text.lines() {
+        if line == "--" {
+            blocks.push(std::mem::take(&mut lines));
+        } else {
+            lines.push(line);
+        }
+    }
+    blocks
+}
+
+fn read(path: &str) -> String {
+    fs::read_to_string(tests().join(path)).unwrap_or_else(|error| panic!("{path}: {error}"))
+}
