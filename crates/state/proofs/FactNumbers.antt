@@ -17,7 +17,8 @@ use Rattle.model.specs.Card.{Atom, Task, below, sameAtom, has, above}
 use Rattle.model.specs.Writer.{known}
 use Rattle.model.specs.Strips.{State, filler, factBytes, factAt, factsIn, rowRight, rowsRight, ascending, put, written}
 use Rattle.model.proofs.Order.{bytes-order, known-predicate, known-arity, known-arguments, sameAtom-eq, eq-sameAtom, ascending-head, ascending-tail}
-use Rattle.model.proofs.Buffer.{factAt-factBytes, put-at}
+use Rattle.model.proofs.Buffer.{factAt-factBytes}
+use Rattle.model.proofs.States.{put-at}
 use Rattle.sets.specs.Numbers.{rising, without, inserted, withoutAll, insertedAll}
 use Rattle.state.specs.Rows.{rowNumber, rowBytes, factNumber, numbersIn, signature, inRange, stored, Shape}
 use Rattle.state.proofs.RowBytes.{Four, four-at, number-bytes, number-order, number-same}

@@ -18,7 +18,7 @@ use Rattle.model.specs.Card.{Atom, Task, below, above, between}
 use Rattle.model.specs.Writer.{known}
 use Rattle.model.specs.Strips.{filler, factBytes, factAt, factsIn, rowRight, rowsRight, ascending, wellFormed}
 use Rattle.model.proofs.Order.{bytes-order}
-use Rattle.model.proofs.Buffer.{between-low, between-high}
+use Rattle.model.proofs.Checked.{between-low, between-high}
 use Rattle.state.specs.Rows.{rowNumber, factNumber, rowAt, numbersIn, signature, inRange, placeRight, rowsIn}
 use Rattle.state.proofs.RowBytes.{Four, four-at, number-order}
 

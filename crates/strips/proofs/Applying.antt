@@ -13,7 +13,7 @@ use borrow.Author.Tests.{le-leb, lt-leb}
 use Rattle.laws.specs.Lists.{all, keep, member}
 use Rattle.laws.proofs.Tests.{and-left, and-right}
 use Rattle.laws.proofs.Lists.{all-at, all-intro}
-use Rattle.laws.proofs.Orders.{all-map}
+use Rattle.laws.proofs.Mapped.{all-map, all-ext}
 use Rattle.model.specs.Answer.{Answer, refused, accepted, _>>=_, _>>_, need}
 use Rattle.model.specs.Card.{Atom, has}
 use Rattle.model.specs.Card as model
@@ -21,7 +21,9 @@ use Rattle.model.specs.Writer.{known}
 use Rattle.model.specs.Strips.{State, factsIn, wellFormed, ascending, ground, applicable, put, takenOut, putIn, successor, written}
 use Rattle.model.specs.Calls.{Call, finish, store}
 use Rattle.model.proofs.Valid.{Valid}
-use Rattle.model.proofs.Buffer.{CheckedSchema, checked-schema, WellFormed, well-formed, rows-known, length-factsIn, ground-known}
+use Rattle.model.proofs.Checked.{CheckedSchema, checked-schema}
+use Rattle.model.proofs.Buffer.{WellFormed, well-formed, rows-known}
+use Rattle.model.proofs.States.{ground-known}
 use Rattle.card.specs.Represents.{atomsOf, schemaOf}
 use Rattle.card.specs.declared.AtomList.{AtomList}
 use Rattle.card.specs.declared.Schema.{Schema}
@@ -34,13 +36,6 @@ use Rattle.strips.specs.Answers.{appliedSays}
 use Rattle.strips.specs.Stages.{Does, leaving, changed, allHeld, nextNumbers, ListKept, SchemaKept, StateKept, Ready, NextReady}
 use Rattle.strips.specs.declared.Applied.{Applied}
 use Rattle.strips.specs.declared.Applied.the-variants.{Count, PreconditionMissing, StateFull}
-
--- tests that agree on the elements agree on the list
-all-ext : {A : Type 0} (f g : A → Bool) (xs : List A) → ((x : A) → List·Memᴰ x xs → f x ≡ g x) → all f xs ≡ all g xs
-unfolding all
-all-ext f g [] h = refl
-all-ext f g (x ∷ xs) h =
-    ap (λ (b : Bool). b && all f xs) (h x (List·Memᴰ·head refl)) ∙ ap (λ (b : Bool). g x && b) (all-ext f g xs (λ y m. h y (List·Memᴰ·tail m)))
 
 -- facts put in one after the other are known
 puts-known :

@@ -16,7 +16,8 @@ use Rattle.model.specs.Card as model
 use Rattle.model.specs.Writer.{known, each, checkSchema, checkTask}
 use Rattle.model.specs.Strips.{State, factsIn, rowRight, rowsRight, ascending, wellFormed, schemaAt}
 use Rattle.model.proofs.Order.{known-predicate}
-use Rattle.model.proofs.Buffer.{Checked, checked, CheckedSchema, CheckedList, schemaAt-right, each-at, first-passed, then-passed, need-then}
+use Rattle.model.proofs.Answers.{first-passed, need-then}
+use Rattle.model.proofs.Checked.{Checked, checked, CheckedSchema, schemaAt-right, each-passed}
 use Rattle.card.specs.Represents.{atomOf, atomsOf, schemaOf, aritiesOf, schemasOf, factsOf, taskOf, padded, atomFor, blankAtom, atomsFor, schemaFor, blankSchema, aritiesFor, schemasFor, factsFor, taskFor}
 use Rattle.card.specs.declared.Atom.{Atom as Kept}
 use Rattle.card.specs.declared.AtomList.{AtomList}
@@ -132,7 +133,7 @@ module _ (task : Task) (kept : TaskKept task) where
         let e₃ = need-then _ 2 _ tt e₂ in
         let e₄ = need-then _ 3 _ tt e₃ in
         let e₅ = need-then _ 4 _ tt e₄ in
-        each-at (checkSchema arities) none (modelTask .schemas) (first-passed _ _ tt e₅) (schemaAt modelTask n) (mem-getD (modelTask .schemas) n _ inside)
+        each-passed (checkSchema arities) none (modelTask .schemas) (first-passed _ _ tt e₅) (schemaAt modelTask n) (mem-getD (modelTask .schemas) n _ inside)
 
     pub chosen-kept : SchemaKept arities chosen
     unfolding schemaFor taskOf

@@ -9,6 +9,8 @@ use actions::taken_out;
 use card::Refusal;
 use card::Schema;
 use card::Task;
+use card::Verdict;
+use reader::decode;
 use sets::insert_all;
 use sets::remove_all;
 use state::load;
@@ -22,6 +24,7 @@ ghost use lib.ListN.{length, getD, take, drop};
 ghost use Rattle.model.specs.Strips.{factsIn};
 ghost use Rattle.card.specs.Represents.{schemaOf, taskOf};
 ghost use Rattle.sets.specs.Numbers.{rising, Becomes};
+ghost use Rattle.strips.specs.Answers.{Opens, Applies};
 ghost use Rattle.strips.specs.Stages.{Does, leaving, changed, bound, pressTask, initialTask, allHeld, nextNumbers};
 ghost use Rattle.strips.specs.Stages.{Ready, NextReady, StateKept, SchemaKept, TaskKept};
 ghost use Rattle.actions.specs.Grounds.{Bound};
@@ -147,4 +150,32 @@ fn open_task(task: Task, state: &mut [u8]) -> Applied
     fact_numbers(facts, &arities[0..predicate_count], &mut numbers);
     store(state, &numbers[0..count]);
     Applied::Count(count)
+}
+
+// The opening call: the initial state of a card's task is written to the buffer, and its count is answered.
+pub fn initial(card: &[u8], state: &mut [u8]) -> Applied
+    ensures { λ r. ⌜ Opens (now (card .entry)) (now (state .entry)) (now (state .exit)) r ⌝ }
+{
+    let decoded = decode(card);
+    let verdict = decoded.verdict;
+    let task = decoded.task;
+    match verdict {
+        Verdict::Refused(refusal) => Applied::CardRefused(refusal),
+        Verdict::Accepted => open_task(task, state),
+    }
+}
+
+// An action is applied to the state in the buffer, and the next state's count is answered. A refusal alters no byte.
+pub fn apply(card: &[u8], state: &mut [u8], count: usize, schema: usize, objects: &[u8]) -> Applied
+    ensures {
+        λ r. ⌜ Applies (now (card .entry)) (now (state .entry)) count (record { schema = schema; objects = now (objects .entry) }) (now (state .exit)) r ⌝
+    }
+{
+    let decoded = decode(card);
+    let verdict = decoded.verdict;
+    let task = decoded.task;
+    match verdict {
+        Verdict::Refused(refusal) => Applied::CardRefused(refusal),
+        Verdict::Accepted => apply_task(task, state, count, schema, objects),
+    }
 }
