@@ -3,3 +3,4 @@ pub mod Applying
 pub mod Tasks
 pub mod Refusing
 pub mod Pressing
+pub mod Calling
