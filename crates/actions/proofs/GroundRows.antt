@@ -69,7 +69,7 @@ ground-row arities objects a right h =
     (row-of arity (a .predicate) (getD objects (a .first) 0) (getD objects (a .second) 0) (getD objects (a .third) 0)
     (arity-low arities (a .predicate) right h) (arity-high arities (a .predicate) right h)
     ∙ ap (λ (l : List ℕ). factBytes (record { predicate = a .predicate; arguments = l }))
-      (map-take (λ k. getD objects k 0) arity (a .first ∷ a .second ∷ a .third ∷ [])))
+    (map-take (λ k. getD objects k 0) arity (a .first ∷ a .second ∷ a .third ∷ [])))
 
 -- the arguments that count are below the bound
 pub arguments-below :
@@ -79,13 +79,16 @@ unfolding all
 arguments-below zero bound x y z high e = (λ h. absurd (omega arith), λ h. absurd (omega arith), λ h. absurd (omega arith))
 arguments-below (suc zero) bound x y z high e =
     (λ h. ltb-true x bound (and-left (ltb x bound) true e), λ h. absurd (omega arith), λ h. absurd (omega arith))
-arguments-below (suc (suc zero)) bound x y z high e =
-    (λ h. ltb-true x bound (and-left (ltb x bound) _ e),
-    λ h. ltb-true y bound (and-left (ltb y bound) true (and-right (ltb x bound) _ e)), λ h. absurd (omega arith))
-arguments-below (suc (suc (suc zero))) bound x y z high e =
-    (λ h. ltb-true x bound (and-left (ltb x bound) _ e),
-    λ h. ltb-true y bound (and-left (ltb y bound) _ (and-right (ltb x bound) _ e)),
-    λ h. ltb-true z bound (and-left (ltb z bound) true (and-right (ltb y bound) _ (and-right (ltb x bound) _ e))))
+arguments-below (suc (suc zero)) bound x y z high e = (
+  λ h. ltb-true x bound (and-left (ltb x bound) _ e),
+  λ h. ltb-true y bound (and-left (ltb y bound) true (and-right (ltb x bound) _ e)),
+  λ h. absurd (omega arith),
+)
+arguments-below (suc (suc (suc zero))) bound x y z high e = (
+  λ h. ltb-true x bound (and-left (ltb x bound) _ e),
+  λ h. ltb-true y bound (and-left (ltb y bound) _ (and-right (ltb x bound) _ e)),
+  λ h. ltb-true z bound (and-left (ltb z bound) true (and-right (ltb y bound) _ (and-right (ltb x bound) _ e))),
+)
 arguments-below (suc (suc (suc (suc n)))) bound x y z high e = absurd (omega arith)
 
 -- a known atom: its predicate, and its arguments that count
@@ -145,9 +148,9 @@ module _ (arities objects : List ℕ) (l : AtomList) (bound : Bound arities obje
       let size = bound .size in
       ap (λ (ns : List ℕ). set ns i v) e
       ∙ filled-next 8 i v (map numberOf (take i (l .atoms)))
-        (length-map (take i (l .atoms)) numberOf ∙ length-take-le i (l .atoms) (omega arith)) (omega arith)
+      (length-map (take i (l .atoms)) numberOf ∙ length-take-le i (l .atoms) (omega arith)) (omega arith)
       ∙ ap (filled 8)
-        (ap (λ (n : ℕ). map numberOf (take i (l .atoms)) ++ (n ∷ [])) p ∙ sym (map-next numberOf (l .atoms) i blankAtom (omega arith)))
+      (ap (λ (n : ℕ). map numberOf (take i (l .atoms)) ++ (n ∷ [])) p ∙ sym (map-next numberOf (l .atoms) i blankAtom (omega arith)))
 
   pub grounded-end :
       (i : ℕ) (numbers : List ℕ) → i ≡ l .count → numbers ≡ filled 8 (map numberOf (take i (l .atoms)))
@@ -163,8 +166,8 @@ module _ (arities objects : List ℕ) (l : AtomList) (bound : Bound arities obje
       let same : numbers ≡ filled 8 (map factNumber (map (ground objects) (map (atomOf arities) atoms))) =
       (e ∙ ap (λ (k : ℕ). filled 8 (map numberOf (take k (l .atoms)))) all
       ∙ ap (filled 8)
-        (sym (map-map factNumber (λ a. ground objects (atomOf arities a)) atoms)
-        ∙ ap (map factNumber) (sym (map-map (ground objects) (atomOf arities) atoms)))) in
+      (sym (map-map factNumber (λ a. ground objects (atomOf arities a)) atoms)
+      ∙ ap (map factNumber) (sym (map-map (ground objects) (atomOf arities) atoms)))) in
       λ k. record { count = n k; numbers = same k }
 
 -- Facts of a task, the first i of them.
@@ -193,9 +196,9 @@ module _ (arities : List ℕ) (l : FactList) (was : List ℕ) (kept : FactsRight
       let room = kept .room in
       ap (λ (ns : List ℕ). set ns i v) e
       ∙ store-next (map factNumberOf (take i (l .facts))) was i v
-        (length-map (take i (l .facts)) factNumberOf ∙ length-take-le i (l .facts) (omega arith)) (omega arith)
+      (length-map (take i (l .facts)) factNumberOf ∙ length-take-le i (l .facts) (omega arith)) (omega arith)
       ∙ ap (λ (ns : List ℕ). ns ++ drop (i + 1) was)
-        (ap (λ (n : ℕ). map factNumberOf (take i (l .facts)) ++ (n ∷ [])) p ∙ sym (map-next factNumberOf (l .facts) i blankAtom (omega arith)))
+      (ap (λ (n : ℕ). map factNumberOf (take i (l .facts)) ++ (n ∷ [])) p ∙ sym (map-next factNumberOf (l .facts) i blankAtom (omega arith)))
 
   pub facts-end :
       (i : ℕ) (numbers : List ℕ) → i ≡ l .count → numbers ≡ map factNumberOf (take i (l .facts)) ++ drop i was

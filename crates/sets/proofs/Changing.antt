@@ -64,7 +64,7 @@ module _ (count n : ℕ) (was : List ℕ) (holds : Holds count was) where
             ∙ ap (λ (l : List ℕ). l ++ drop count was) (sym e)
             ∙ ap (λ (l : List ℕ). list ++ l) (holds .blank)
             ∙ ap (λ (k : ℕ). list ++ replicate (length was - k) 0) (sym same);
-        counted = sym same
+        counted = sym same;
       }
 
   pub removed-missing : member n (take count was) ≡ false → Becomes (without n (take count was)) was was count
@@ -91,7 +91,7 @@ module _ (count n : ℕ) (was : List ℕ) (holds : Holds count was) where
             q ∙ ap (λ (l : List ℕ). l ++ 0 ∷ drop count was) (sym gone)
             ∙ ap (λ (l : List ℕ). without n (take count was) ++ 0 ∷ l) (holds .blank)
             ∙ ap (λ (k : ℕ). without n (take count was) ++ replicate k 0) zeros;
-        counted = sym fewer
+        counted = sym fewer;
       }
 
   pub inserted-again : member n (take count was) ≡ true → Becomes (inserted n (take count was)) was was count
@@ -120,7 +120,7 @@ module _ (count n : ℕ) (was : List ℕ) (holds : Holds count was) where
             q ∙ sym (append-assoc (take at was) (n ∷ drop at (take count was)) (drop (suc count) was))
             ∙ ap (λ (l : List ℕ). l ++ drop (suc count) was) (sym more)
             ∙ ap (λ (l : List ℕ). inserted n (take count was) ++ l) behind;
-        counted = add-one count ∙ sym longer
+        counted = add-one count ∙ sym longer;
       }
 
 -- what a change left is a set again, where it ascends and there is room for it
@@ -146,7 +146,7 @@ module _ (set before after : List ℕ) (r : ℕ) (becomes : Becomes set before a
         ascends = ap (rising 0) left-set ∙ e;
         blank =
             ap (λ (l : List ℕ). drop r l) (becomes .listed) ∙ drop-at set _ r (sym count)
-            ∙ ap (λ (k : ℕ). replicate k 0) (let z : length before - length set ≡ length after - r = omega arith in z)
+            ∙ ap (λ (k : ℕ). replicate k 0) (let z : length before - length set ≡ length after - r = omega arith in z);
       }
 
 -- one more number after those before it
@@ -186,11 +186,11 @@ module _ (change : List ℕ → ℕ → List ℕ) (ns list before : List ℕ) wh
         some-done = omega arith;
         becomes = record {
           listed = b .listed ∙ ap (λ (m : ℕ). filled m (change (take r now) (getD ns i 0))) same ∙ ap (filled (length before)) (sym more);
-          counted = b .counted ∙ ap length (sym more)
+          counted = b .counted ∙ ap length (sym more);
         };
         ascends = ap (rising 0) more ∙ e;
         room = subst (λ (m : List ℕ). length m ≤ length list + (i + 1)) (sym more) (omega arith);
-        fits = subst (λ (m : List ℕ). length m ≤ length before) (sym more) l
+        fits = subst (λ (m : List ℕ). length m ≤ length before) (sym more) l;
       }
 
   pub changing-end :
@@ -210,7 +210,7 @@ changing-start change ns before count holds =
       becomes = unchanged count 0 before holds (take count before) refl;
       ascends = holds .ascends;
       room = omega arith;
-      fits = omega arith
+      fits = omega arith;
     }
 
 -- what stands between two changes

@@ -42,24 +42,24 @@ closing-step at count was i now c h k =
   where
     step : Closing at count was (suc i) (set now i (getD now (i + 1) 0))
     step =
-       let size = c .size in
-       let low = c .low in
-       let within : i < length now = omega arith in
-       let next : getD now (i + 1) 0 ≡ getD (take count was) (suc i) 0 =
-       (kept-at i was now (c .back) 1 ∙ ap (λ (j : ℕ). getD was j 0) (add-one i) ∙ sym (getD-take count was (suc i) 0 h)) in
-       let taken : suc i < length (take count was) = (let l = length-take-le count was k in omega arith) in
-       record {
-         low = omega arith;
-         high = h;
-         size = length-set now i _ ∙ size;
-         front =
-             ap (λ (l : List ℕ). l ++ drop (suc (suc i)) (take count was)) (take-suc-set now i (getD now (i + 1) 0) within)
-             ∙ append-assoc (take i now) (getD now (i + 1) 0 ∷ []) (drop (suc (suc i)) (take count was))
-             ∙ ap (λ (x : ℕ). take i now ++ x ∷ drop (suc (suc i)) (take count was)) next
-             ∙ ap (λ (l : List ℕ). take i now ++ l) (sym (drop-cons (take count was) (suc i) 0 taken))
-             ∙ c .front;
-         back = drop-set-lt (suc i) now i _ (le-refl (suc i)) ∙ kept-behind i was now (c .back)
-       }
+        let size = c .size in
+        let low = c .low in
+        let within : i < length now = omega arith in
+        let next : getD now (i + 1) 0 ≡ getD (take count was) (suc i) 0 =
+        (kept-at i was now (c .back) 1 ∙ ap (λ (j : ℕ). getD was j 0) (add-one i) ∙ sym (getD-take count was (suc i) 0 h)) in
+        let taken : suc i < length (take count was) = (let l = length-take-le count was k in omega arith) in
+        record {
+          low = omega arith;
+          high = h;
+          size = length-set now i _ ∙ size;
+          front =
+              ap (λ (l : List ℕ). l ++ drop (suc (suc i)) (take count was)) (take-suc-set now i (getD now (i + 1) 0) within)
+              ∙ append-assoc (take i now) (getD now (i + 1) 0 ∷ []) (drop (suc (suc i)) (take count was))
+              ∙ ap (λ (x : ℕ). take i now ++ x ∷ drop (suc (suc i)) (take count was)) next
+              ∙ ap (λ (l : List ℕ). take i now ++ l) (sym (drop-cons (take count was) (suc i) 0 taken))
+              ∙ c .front;
+          back = drop-set-lt (suc i) now i _ (le-refl (suc i)) ∙ kept-behind i was now (c .back);
+        }
 
 pub closing-end :
     (at count : ℕ) (was : List ℕ) (i : ℕ) (now : List ℕ) → Closing at count was i now → count ≤ suc i → count ≤ length was
@@ -72,9 +72,9 @@ closing-end at count was i now c h k =
     let all-moved : drop (suc i) (take count was) ≡ [] = (ap (λ (m : ℕ). drop m (take count was)) last ∙ drop-take count was) in
     set-split now i 0 (omega arith)
     ∙ ap (λ (l : List ℕ). l ++ 0 ∷ drop (suc i) now)
-      (sym (append-nil (take i now)) ∙ ap (λ (l : List ℕ). take i now ++ l) (sym all-moved) ∙ c .front)
+    (sym (append-nil (take i now)) ∙ ap (λ (l : List ℕ). take i now ++ l) (sym all-moved) ∙ c .front)
     ∙ ap (λ (l : List ℕ). take at was ++ drop (suc at) (take count was) ++ 0 ∷ l)
-      (kept-behind i was now (c .back) ∙ ap (λ (m : ℕ). drop m was) last)
+    (kept-behind i was now (c .back) ∙ ap (λ (m : ℕ). drop m was) last)
   where
     append-nil : (xs : List ℕ) → xs ++ [] ≡ xs
     append-nil [] = refl
@@ -94,7 +94,7 @@ opening-start at count was h = record {
   high = le-refl count;
   size = refl;
   front = refl;
-  back = ap (λ (l : List ℕ). l ++ drop (suc count) was) (sym (drop-take count was))
+  back = ap (λ (l : List ℕ). l ++ drop (suc count) was) (sym (drop-take count was));
 }
 
 opening-suc :
@@ -121,7 +121,7 @@ opening-suc at count was j now c h k =
           drop-cons (set now (suc j) (getD now j 0)) (suc j) 0 room
           ∙ ap (λ (x : ℕ). x ∷ drop (suc (suc j)) (set now (suc j) (getD now j 0))) (getD-set-same now (suc j) _ 0 within ∙ moved)
           ∙ ap (λ (l : List ℕ). getD (take count was) j 0 ∷ l) (drop-set-lt (suc (suc j)) now (suc j) _ (le-refl (suc (suc j))) ∙ c .back)
-          ∙ ap (λ (l : List ℕ). l ++ drop (suc count) was) (sym (drop-cons (take count was) j 0 taken))
+          ∙ ap (λ (l : List ℕ). l ++ drop (suc count) was) (sym (drop-cons (take count was) j 0 taken));
     }
 
 pub opening-step :
@@ -144,4 +144,4 @@ opening-end at count n was i now c h k =
     set-split now at n (omega arith)
     ∙ ap (λ (l : List ℕ). l ++ n ∷ drop (suc at) now) (subst (λ (j : ℕ). take j now ≡ take j was) here (c .front))
     ∙ ap (λ (l : List ℕ). take at was ++ n ∷ l)
-      (subst (λ (j : ℕ). drop (suc j) now ≡ drop j (take count was) ++ drop (suc count) was) here (c .back))
+    (subst (λ (j : ℕ). drop (suc j) now ≡ drop j (take count was) ++ drop (suc count) was) here (c .back))

@@ -118,14 +118,16 @@ module _ (arities : List ℕ) (objects : ℕ) (shape : Shape arities objects) wh
   numbers-put f (g ∷ s) p k =
       go (sameAtom f g) (below f g) (numbers-put f s p (tail-known g s k))
       ∙ ap (λ (b : Bool). cond b (n ∷ ns) (cond (below f g) (factNumber f ∷ n ∷ ns) (n ∷ inserted (factNumber f) ns)))
-        (sym (number-equal f g p (head-known g s k)))
+      (sym (number-equal f g p (head-known g s k)))
       ∙ ap (λ (b : Bool). cond (eqb (factNumber f) n) (n ∷ ns) (cond b (factNumber f ∷ n ∷ ns) (n ∷ inserted (factNumber f) ns)))
-        (sym (number-below f g p (head-known g s k)))
+      (sym (number-below f g p (head-known g s k)))
     where
       n : ℕ
       n = factNumber g
+
       ns : List ℕ
       ns = map factNumber s
+
       go : (same less : Bool) → map factNumber (put f s) ≡ inserted (factNumber f) ns
           → map factNumber (cond same (g ∷ s) (cond less (f ∷ g ∷ s) (g ∷ put f s)))
           ≡ cond same (n ∷ ns) (cond less (factNumber f ∷ n ∷ ns) (n ∷ inserted (factNumber f) ns))
@@ -155,7 +157,7 @@ module _ (arities : List ℕ) (objects : ℕ) (shape : Shape arities objects) wh
   numbers-without d (g ∷ s) p k =
       go (sameAtom g d) (numbers-without d s p (tail-known g s k))
       ∙ ap (λ (b : Bool). cond (not b) (factNumber g ∷ without (factNumber d) (map factNumber s)) (without (factNumber d) (map factNumber s)))
-        (sym (eqb-swap (factNumber d) (factNumber g) ∙ number-equal g d (head-known g s k) p))
+      (sym (eqb-swap (factNumber d) (factNumber g) ∙ number-equal g d (head-known g s k) p))
     where
       go : (b : Bool) → map factNumber (keep (λ f. not (sameAtom f d)) s) ≡ without (factNumber d) (map factNumber s)
           → map factNumber (cond (not b) (g ∷ keep (λ f. not (sameAtom f d)) s) (keep (λ f. not (sameAtom f d)) s))
@@ -229,4 +231,4 @@ module _ (arities : List ℕ) (objects : ℕ) (shape : Shape arities objects) wh
       ∙ sym bytes) in
       ap (λ (m : ℕ). m ∷ numbersIn n (drop 4 buffer)) (ap rowNumber (sym fact))
       ∙ ap (λ (l : List ℕ). factNumber (factAt arities (take 4 buffer)) ∷ l)
-        (numbers-of-rows n (drop 4 buffer) rest (let l = length-drop 4 buffer in omega arith))
+      (numbers-of-rows n (drop 4 buffer) rest (let l = length-drop 4 buffer in omega arith))

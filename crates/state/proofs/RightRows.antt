@@ -150,15 +150,19 @@ module _ (arities : List ℕ) (objects : ℕ) (right : inRange arities ≡ true)
 
       four : Four (take 4 buffer)
       four = record {
-        first = getD buffer 0 0; second = getD buffer 1 0; third = getD buffer 2 0; fourth = getD buffer 3 0;
-        are = bytes; small = (small 0, small 1, small 2, small 3)
+        first = getD buffer 0 0;
+        second = getD buffer 1 0;
+        third = getD buffer 2 0;
+        fourth = getD buffer 3 0;
+        are = bytes;
+        small = (small 0, small 1, small 2, small 3);
       }
 
       fact : rowRight (signature arities objects) (take 4 buffer) ≡ true → factBytes f ≡ take 4 buffer
       fact e =
           ap (λ (r : List ℕ). factBytes (factAt arities r)) bytes
           ∙ right-row-fact arities objects (getD buffer 0 0) (getD buffer 1 0) (getD buffer 2 0) (getD buffer 3 0) right
-            (sym (ap (rowRight (signature arities objects)) bytes) ∙ e)
+          (sym (ap (rowRight (signature arities objects)) bytes) ∙ e)
           ∙ sym bytes
 
       step : (r : Bool) → rowRight (signature arities objects) (take 4 buffer) ≡ r
@@ -175,10 +179,10 @@ module _ (arities : List ℕ) (objects : ℕ) (right : inRange arities ≡ true)
           let is-known : known arities objects f ≡ true = (unfold rowRight signature in and-left (known arities objects f) _ e) in
           ap (λ (k : ℕ). leb least k && rowsIn (signature arities objects) (suc k) n (drop 4 buffer)) number
           ∙ ap (λ (b : Bool). b && rowsIn (signature arities objects) (suc (factNumber f)) n (drop 4 buffer))
-            (in-order previous least before f is-known four-bytes)
+          (in-order previous least before f is-known four-bytes)
           ∙ ap (λ (b : Bool). above previous f && b) (later (after f is-known four-bytes))
           ∙ regrouped (above previous f) (rowsRight (signature arities objects) n (drop 4 buffer))
-            (ascending (some f) (factsIn arities n (drop 4 buffer)))
+          (ascending (some f) (factsIn arities n (drop 4 buffer)))
 
 -- so 15 is one pass over the rows
 pub well-formed-rows :
@@ -252,7 +256,7 @@ module _ (t : Task) (count : ℕ) (buffer : List ℕ) where
       let row : List ℕ = take 4 (drop (4 * i) buffer) in
       ap (λ (m : ℕ). rowRight t row && leb least (rowNumber row) && rowsIn t m (count - (i + 1)) (drop (4 * (i + 1)) buffer)) (add-one (rowNumber row))
       ∙ ap (λ (l : List ℕ). rowRight t row && leb least (rowNumber row) && rowsIn t (suc (rowNumber row)) (count - (i + 1)) l)
-        (ap (λ (k : ℕ). drop k buffer) (sym next) ∙ sym (drop-drop 4 (4 * i) buffer))
+      (ap (λ (k : ℕ). drop k buffer) (sym next) ∙ sym (drop-drop 4 (4 * i) buffer))
       ∙ ap (λ (k : ℕ). rowsIn t least k (drop (4 * i) buffer)) (sym left)
 
   pub rows-end : (least i : ℕ) → count ≤ i → true ≡ rowsIn t least (count - i) (drop (4 * i) buffer)

@@ -26,12 +26,12 @@ four-at k b h =
     let h₂ : suc (suc k) < length b = omega arith in
     let h₃ : suc (suc (suc k)) < length b = omega arith in
     ap (take 4)
-      (drop-cons b k 0 h₀ ∙ ap (λ (l : List ℕ). getD b k 0 ∷ l)
-      (drop-cons b (suc k) 0 h₁ ∙ ap (λ (l : List ℕ). getD b (suc k) 0 ∷ l)
-      (drop-cons b (suc (suc k)) 0 h₂ ∙ ap (λ (l : List ℕ). getD b (suc (suc k)) 0 ∷ l) (drop-cons b (suc (suc (suc k))) 0 h₃))))
+    (drop-cons b k 0 h₀ ∙ ap (λ (l : List ℕ). getD b k 0 ∷ l)
+    (drop-cons b (suc k) 0 h₁ ∙ ap (λ (l : List ℕ). getD b (suc k) 0 ∷ l)
+    (drop-cons b (suc (suc k)) 0 h₂ ∙ ap (λ (l : List ℕ). getD b (suc (suc k)) 0 ∷ l) (drop-cons b (suc (suc (suc k))) 0 h₃))))
     ∙ sym (ap (λ (i : ℕ). getD b k 0 ∷ getD b i 0 ∷ getD b (k + 2) 0 ∷ getD b (k + 3) 0 ∷ []) (add-one k)
-      ∙ ap (λ (i : ℕ). getD b k 0 ∷ getD b (suc k) 0 ∷ getD b i 0 ∷ getD b (k + 3) 0 ∷ []) (add-two k)
-      ∙ ap (λ (i : ℕ). getD b k 0 ∷ getD b (suc k) 0 ∷ getD b (suc (suc k)) 0 ∷ getD b i 0 ∷ []) (add-three k))
+    ∙ ap (λ (i : ℕ). getD b k 0 ∷ getD b (suc k) 0 ∷ getD b i 0 ∷ getD b (k + 3) 0 ∷ []) (add-two k)
+    ∙ ap (λ (i : ℕ). getD b k 0 ∷ getD b (suc k) 0 ∷ getD b (suc (suc k)) 0 ∷ getD b i 0 ∷ []) (add-three k))
 
 -- four bytes stored one after the other
 pub four-stored :
@@ -77,14 +77,17 @@ module _ (a b c d x y z w : ℕ) (p : (a < 256) × (b < 256) × (c < 256) × (d 
     where
       fourth : a ≡ x → b ≡ y → c ≡ z → before (d ∷ []) (w ∷ []) ≡ true
       fourth i j k = before-first d w [] [] (omega arith)
+
       third : a ≡ x → b ≡ y → (c < z) ⊎ ((c ≡ z) ⊎ (z < c)) → before (c ∷ d ∷ []) (z ∷ w ∷ []) ≡ true
       third i j (inl k) = before-first c z _ _ k
       third i j (inr (inl k)) = before-rest c z _ _ k (fourth i j k)
       third i j (inr (inr k)) = absurd (omega arith)
+
       second : a ≡ x → (b < y) ⊎ ((b ≡ y) ⊎ (y < b)) → before (b ∷ c ∷ d ∷ []) (y ∷ z ∷ w ∷ []) ≡ true
       second i (inl k) = before-first b y _ _ k
       second i (inr (inl k)) = before-rest b y _ _ k (third i k (compared c z))
       second i (inr (inr k)) = absurd (omega arith)
+
       first : (a < x) ⊎ ((a ≡ x) ⊎ (x < a)) → before (a ∷ b ∷ c ∷ d ∷ []) (x ∷ y ∷ z ∷ w ∷ []) ≡ true
       first (inl k) = before-first a x _ _ k
       first (inr (inl k)) = before-rest a x _ _ k (second k (compared b y))
@@ -97,12 +100,15 @@ module _ (a b c d x y z w : ℕ) (p : (a < 256) × (b < 256) × (c < 256) × (d 
       fourth : a ≡ x → b ≡ y → c ≡ z → (d < w) ⊎ ((d ≡ w) × (before [] [] ≡ true)) → digits a b c d < digits x y z w
       fourth i j k (inl l) = omega arith
       fourth i j k (inr l) = never (sym (l .1) ∙ before-irreflexive [])
+
       third : a ≡ x → b ≡ y → (c < z) ⊎ ((c ≡ z) × (before (d ∷ []) (w ∷ []) ≡ true)) → digits a b c d < digits x y z w
       third i j (inl k) = omega arith
       third i j (inr k) = fourth i j (k .0) (before-cases d w [] [] (k .1))
+
       second : a ≡ x → (b < y) ⊎ ((b ≡ y) × (before (c ∷ d ∷ []) (z ∷ w ∷ []) ≡ true)) → digits a b c d < digits x y z w
       second i (inl k) = omega arith
       second i (inr k) = third i (k .0) (before-cases c z (d ∷ []) (w ∷ []) (k .1))
+
       first : (a < x) ⊎ ((a ≡ x) × (before (b ∷ c ∷ d ∷ []) (y ∷ z ∷ w ∷ []) ≡ true)) → digits a b c d < digits x y z w
       first (inl k) = omega arith
       first (inr k) = second (k .0) (before-cases b y (c ∷ d ∷ []) (z ∷ w ∷ []) (k .1))

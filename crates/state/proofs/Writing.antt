@@ -27,7 +27,7 @@ numbers-more (suc i) buffer =
     ap (λ (l : List ℕ). rowNumber (take 4 buffer) ∷ l)
     (numbers-more i (drop 4 buffer)
     ∙ ap (λ (l : List ℕ). numbersIn i (drop 4 buffer) ++ (rowNumber (take 4 l) ∷ []))
-      (drop-drop (4 * i) 4 buffer ∙ ap (λ (k : ℕ). drop k buffer) (let e : 4 + 4 * i ≡ 4 * suc i = omega arith in e)))
+    (drop-drop (4 * i) 4 buffer ∙ ap (λ (k : ℕ). drop k buffer) (let e : 4 + 4 * i ≡ 4 * suc i = omega arith in e)))
 
 pub length-numbersIn : (n : ℕ) (buffer : List ℕ) → length (numbersIn n buffer) ≡ n
 unfolding numbersIn
@@ -42,8 +42,8 @@ load-step buffer was now i n e h p =
     ap (λ (l : List ℕ). set l i n) e
     ∙ store-next (numbersIn i buffer) was i n (length-numbersIn i buffer) h
     ∙ ap (λ (l : List ℕ). l ++ drop (i + 1) was)
-      (ap (λ (m : ℕ). numbersIn i buffer ++ (m ∷ [])) p ∙ sym (numbers-more i buffer)
-      ∙ ap (λ (k : ℕ). numbersIn k buffer) (sym (add-one i)))
+    (ap (λ (m : ℕ). numbersIn i buffer ++ (m ∷ [])) p ∙ sym (numbers-more i buffer)
+    ∙ ap (λ (k : ℕ). numbersIn k buffer) (sym (add-one i)))
 
 pub load-length : (buffer was now : List ℕ) (i : ℕ) → now ≡ numbersIn i buffer ++ drop i was → i ≤ length was → length now ≡ length was
 load-length buffer was now i e h =
@@ -57,13 +57,13 @@ pub clear-step :
 clear-step at was now i low e h =
     ap (λ (l : List ℕ). set l i 0) e
     ∙ store-next (take at was ++ replicate (i - at) 0) was i 0
-      (length-append (take at was) (replicate (i - at) 0)
-      ∙ (let a = length-take-le at was (omega arith) in let b = length-replicate {A = ℕ} (i - at) 0 in omega arith)) h
+    (length-append (take at was) (replicate (i - at) 0)
+    ∙ (let a = length-take-le at was (omega arith) in let b = length-replicate {A = ℕ} (i - at) 0 in omega arith)) h
     ∙ ap (λ (l : List ℕ). l ++ drop (i + 1) was)
-      (append-assoc (take at was) (replicate (i - at) 0) (0 ∷ [])
-      ∙ ap (λ (l : List ℕ). take at was ++ l)
-        (replicate-append-replicate (i - at) 1 0
-        ∙ ap (λ (k : ℕ). replicate k 0) (let m : i - at + 1 ≡ i + 1 - at = omega arith in m)))
+    (append-assoc (take at was) (replicate (i - at) 0) (0 ∷ [])
+    ∙ ap (λ (l : List ℕ). take at was ++ l)
+    (replicate-append-replicate (i - at) 1 0
+    ∙ ap (λ (k : ℕ). replicate k 0) (let m : i - at + 1 ≡ i + 1 - at = omega arith in m)))
 
 pub clear-start : (at : ℕ) (was : List ℕ) → was ≡ take at was ++ replicate (at - at) 0 ++ drop at was
 clear-start at was =

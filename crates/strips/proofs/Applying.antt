@@ -88,7 +88,7 @@ module _ (arities : List ℕ) (bound : ℕ) (buffer : List ℕ) (count : ℕ) (k
       ascends = ap (rising 0) loaded-set ∙ rising-state arities bound (kept .shape) stateIn state-known state-ascends;
       blank =
           ap (drop count) loaded ∙ drop-at (numbersIn count buffer) _ count (length-numbersIn count buffer) ∙ drop-zeros count size
-          ∙ ap (λ (n : ℕ). replicate (n - count) 0) (sym loaded-length)
+          ∙ ap (λ (n : ℕ). replicate (n - count) 0) (sym loaded-length);
     }
       where
         drop-zeros : (k n : ℕ) → drop {A = ℕ} k (replicate n 0) ≡ replicate (n - k) 0
@@ -115,7 +115,7 @@ module _ (arities objects : List ℕ) (schema : Schema) (buffer : List ℕ) (cou
     right = shape .right;
     few = k .few;
     size = k .size;
-    atoms-known = subst (λ (n : ℕ). all (known arities n) (atomsOf arities l) ≡ true) (sym (ready .one-for-each)) e
+    atoms-known = subst (λ (n : ℕ). all (known arities n) (atomsOf arities l) ≡ true) (sym (ready .one-for-each)) e;
   }
 
   pub preconditions-bound : Bound arities objects (schema .preconditions)
@@ -143,7 +143,7 @@ module _ (arities objects : List ℕ) (schema : Schema) (buffer : List ℕ) (cou
   applicable-numbers =
       all-map factNumber (λ n. member n (map factNumber before)) (map (ground objects) (atomsOf arities (schema .preconditions)))
       ∙ all-same (map (ground objects) (atomsOf arities (schema .preconditions)))
-        (grounds-known (atomsOf arities (schema .preconditions)) (preconditions-bound .atoms-known))
+      (grounds-known (atomsOf arities (schema .preconditions)) (preconditions-bound .atoms-known))
     where
       all-same : (fs : List Atom) → allKnown arities (ready .known-objects) shape fs
           → all (λ f. member (factNumber f) (map factNumber before)) fs ≡ all (has before) fs
@@ -178,8 +178,8 @@ module _ (arities objects : List ℕ) (schema : Schema) (buffer : List ℕ) (cou
   next-numbers =
       sym (numbers-puts arities (ready .known-objects) shape (putIn model-schema objects) left in-known left-known
       ∙ ap (insertedAll (map factNumber (putIn model-schema objects)))
-        (numbers-removed arities (ready .known-objects) shape (takenOut model-schema objects) before out-known
-        (state-known arities (ready .known-objects) buffer count (ready .state))))
+      (numbers-removed arities (ready .known-objects) shape (takenOut model-schema objects) before out-known
+      (state-known arities (ready .known-objects) buffer count (ready .state))))
 
   -- What the function answers: 19, 20, or the count of the next state, which is stored.
   pub refused-missing : applicable model-schema objects before ≡ false → Does (leaving buffer (changed model-schema objects before)) buffer PreconditionMissing
@@ -204,7 +204,7 @@ module _ (arities objects : List ℕ) (schema : Schema) (buffer : List ℕ) (cou
         answer = ap accepted p;
         buffer =
             w ∙ ap (λ (l : List ℕ). stored l buffer) q
-            ∙ stored-written arities (ready .known-objects) shape (successor model-schema objects before) buffer next-known
+            ∙ stored-written arities (ready .known-objects) shape (successor model-schema objects before) buffer next-known;
       })
 
   -- the state's numbers loaded to the front of an array of zeros
@@ -229,7 +229,7 @@ module _ (arities objects : List ℕ) (schema : Schema) (buffer : List ℕ) (cou
       room =
           let size = loaded-length arities (ready .known-objects) buffer count (ready .state) 1032 enough numbers loaded in
           let few = few-rows in
-          omega arith
+          omega arith;
     }
 
     -- what the test of the preconditions says

@@ -68,7 +68,7 @@ module _ (card : List ℕ) (d : Decoded) (decodes : Decodes card d) where
     unfolding taskBeside
     task-kept = record {
       checks = decode-checks card (taskOf (d .task)) accepts;
-      kept = decodes .kept ∙ ap taskBeside accepts
+      kept = decodes .kept ∙ ap taskBeside accepts;
     }
 
     pub opening : (buffer after : List ℕ) (r : Applied) → Does (initialTask (taskOf (d .task)) buffer) after r → Opens card buffer after r

@@ -77,40 +77,40 @@ module _
     (now : List ℕ) (left : ℕ)
     (gone : Becomes (withoutAll (map factNumber (takenOut (schemaOf arities schema) objects)) (take count was)) was now left)
   where
-  out : List ℕ
-  out = map factNumber (takenOut (schemaOf arities schema) objects)
+    out : List ℕ
+    out = map factNumber (takenOut (schemaOf arities schema) objects)
 
-  size : length (take count was) ≡ count
-  size = length-take-le count was (ready .holds .few)
+    size : length (take count was) ≡ count
+    size = length-take-le count was (ready .holds .few)
 
-  fits : length (withoutAll out (take count was)) ≤ length was
-  unfolding out
-  fits = let fewer = length-withoutAll out (take count was) in let n = size in let few = ready .holds .few in omega arith
+    fits : length (withoutAll out (take count was)) ≤ length was
+    unfolding out
+    fits = let fewer = length-withoutAll out (take count was) in let n = size in let few = ready .holds .few in omega arith
 
-  pub between-length : length now ≡ length was
-  unfolding out
-  between-length = left-length (withoutAll out (take count was)) was now left gone fits
+    pub between-length : length now ≡ length was
+    unfolding out
+    between-length = left-length (withoutAll out (take count was)) was now left gone fits
 
-  pub between-holds : Holds left now
-  unfolding out
-  between-holds =
-      left-holds (withoutAll out (take count was)) was now left gone fits (withoutAll-rising out (take count was) (ready .holds .ascends))
+    pub between-holds : Holds left now
+    unfolding out
+    between-holds =
+        left-holds (withoutAll out (take count was)) was now left gone fits (withoutAll-rising out (take count was) (ready .holds .ascends))
 
-  pub between-few : left ≤ count
-  unfolding out
-  between-few =
-      let fewer = length-withoutAll out (take count was) in let n = size in let c = gone .counted in omega arith
+    pub between-few : left ≤ count
+    unfolding out
+    between-few =
+        let fewer = length-withoutAll out (take count was) in let n = size in let c = gone .counted in omega arith
 
-  pub next-becomes :
-      (next : List ℕ) (r : ℕ) → Becomes (insertedAll (map factNumber (putIn (schemaOf arities schema) objects)) (take left now)) now next r
-      → Becomes (nextNumbers (schemaOf arities schema) objects (take count was)) was next r
-  unfolding nextNumbers filled out
-  next-becomes next r b =
-      let same = left-set (withoutAll out (take count was)) was now left gone fits in
-      let new : List ℕ = map factNumber (putIn (schemaOf arities schema) objects) in
-      record {
-        listed =
-            b .listed ∙ ap (λ (k : ℕ). filled k (insertedAll new (take left now))) between-length
-            ∙ ap (λ (l : List ℕ). filled (length was) (insertedAll new l)) same;
-        counted = b .counted ∙ ap (λ (l : List ℕ). length (insertedAll new l)) same
-      }
+    pub next-becomes :
+        (next : List ℕ) (r : ℕ) → Becomes (insertedAll (map factNumber (putIn (schemaOf arities schema) objects)) (take left now)) now next r
+        → Becomes (nextNumbers (schemaOf arities schema) objects (take count was)) was next r
+    unfolding nextNumbers filled out
+    next-becomes next r b =
+        let same = left-set (withoutAll out (take count was)) was now left gone fits in
+        let new : List ℕ = map factNumber (putIn (schemaOf arities schema) objects) in
+        record {
+          listed =
+              b .listed ∙ ap (λ (k : ℕ). filled k (insertedAll new (take left now))) between-length
+              ∙ ap (λ (l : List ℕ). filled (length was) (insertedAll new l)) same;
+          counted = b .counted ∙ ap (λ (l : List ℕ). length (insertedAll new l)) same;
+        }

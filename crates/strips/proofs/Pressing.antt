@@ -56,7 +56,7 @@ module _ (task : Task) (kept : TaskKept task) where
       pub state-kept : StateKept part (task .objects) buffer count
       state-kept = record {
         shape = subst (λ (l : List ℕ). Shape l (task .objects)) (sym same) (task-shape task kept);
-        well = sym says ∙ passed
+        well = sym says ∙ passed;
       }
 
       pub refused-unknown : task .schemas .count ≤ action .schema → Does (pressTask (modelTask task kept) buffer count action) buffer SchemaUnknown
@@ -85,7 +85,7 @@ module _ (task : Task) (kept : TaskKept task) where
             subst (λ (c : Call). Does c after answer)
             (ap (λ (l : List ℕ). leaving buffer (bound (task .objects) (schemaOf l chosen) (action .objects) (factsIn l count buffer))) same
             ∙ ap (λ (s : model.Schema). leaving buffer (bound (task .objects) s (action .objects) (factsIn (arities task kept) count buffer)))
-              (ap (schemaOf (arities task kept)) usual ∙ chosen-is task kept (action .schema) within)
+            (ap (schemaOf (arities task kept)) usual ∙ chosen-is task kept (action .schema) within)
             ∙ sym (schema-named (modelTask task kept) buffer count action well (subst (λ (n : ℕ). action .schema < n) (schema-count task kept) within)))
             d
 
@@ -97,7 +97,7 @@ module _ (task : Task) (kept : TaskKept task) where
         ap (λ (k : ℕ). take k numbers) (sub-zero (task .facts .count))
         ∙ ap (take (task .facts .count)) (loaded ∙ ap (λ (l : List ℕ). map factNumber (factsOf l (task .facts)) ++ drop (task .facts .count) was) same)
         ∙ take-at (map factNumber (modelTask task kept .facts)) _ (task .facts .count)
-          (length-map (modelTask task kept .facts) factNumber ∙ sym (fact-count task kept))
+        (length-map (modelTask task kept .facts) factNumber ∙ sym (fact-count task kept))
 
     pub facts-few : length (take (task .facts .count - 0) numbers) ≤ 1024
     facts-few =

@@ -54,7 +54,7 @@ list-kept : (atoms : List model.Atom) → length atoms ≤ 8 → ListKept (atoms
 unfolding atomsFor
 list-kept atoms h = record {
   few = h;
-  size = length-padded 8 blankAtom (map atomFor atoms) (let n = length-map atoms atomFor in omega arith)
+  size = length-padded 8 blankAtom (map atomFor atoms) (let n = length-map atoms atomFor in omega arith);
 }
 
 module _ (task : Task) (kept : TaskKept task) where
@@ -143,7 +143,7 @@ module _ (task : Task) (kept : TaskKept task) where
           checks = ap (checkSchema arities) chosen-is ∙ passes;
           preconditions = subst ListKept (sym (ap (λ (s : Schema). s .preconditions) chosen-for)) (list-kept _ (schema-right .preconditions-right .few));
           deletes = subst ListKept (sym (ap (λ (s : Schema). s .deletes) chosen-for)) (list-kept _ (schema-right .deletes-right .few));
-          adds = subst ListKept (sym (ap (λ (s : Schema). s .adds) chosen-for)) (list-kept _ (schema-right .adds-right .few))
+          adds = subst ListKept (sym (ap (λ (s : Schema). s .adds) chosen-for)) (list-kept _ (schema-right .adds-right .few));
         }
 
   -- the facts, and room for their numbers
@@ -165,7 +165,7 @@ module _ (task : Task) (kept : TaskKept task) where
     predicates-known =
         all-intro _ (modelTask .facts) (λ f m. known-predicate arities (task .objects) f
         (all-at (known arities (task .objects)) (modelTask .facts) (right .facts-right .facts-known) f m));
-    room = room
+    room = room;
   }
 
   pub facts-known : all (known arities (task .objects)) (modelTask .facts) ≡ true

@@ -42,11 +42,15 @@ pub enum Applied {
 }
 
 // The numbers of the next state, from those of the state: what the action takes out goes, then what it puts in comes.
-fn next_numbers(numbers: &mut [u32], count: usize, schema: Schema, arities: &[u8], objects: &[u8]) -> usize
+fn next_numbers(
+    numbers: &mut [u32],
+    count: usize,
+    schema: Schema,
+    arities: &[u8],
+    objects: &[u8],
+) -> usize
     requires { ⌜ NextReady (now arities) (now objects) schema (now numbers) count ⌝ }
-    ensures {
-        λ r. ⌜ Becomes (nextNumbers (schemaOf (now (arities .entry)) schema) (now (objects .entry)) (take count (now (numbers .entry)))) (now (numbers .entry)) (now (numbers .exit)) r ⌝
-    }
+    ensures { λ r. ⌜ Becomes (nextNumbers (schemaOf (now (arities .entry)) schema) (now (objects .entry)) (take count (now (numbers .entry)))) (now (numbers .entry)) (now (numbers .exit)) r ⌝ }
 {
     let out = taken_out(schema, arities, objects);
     let out_count = out.count;
@@ -71,11 +75,15 @@ fn applicable(numbers: &[u32], schema: Schema, arities: &[u8], objects: &[u8]) -
 }
 
 // 19 and 20. Nothing is written before the last check.
-fn apply_bound(schema: Schema, arities: &[u8], state: &mut [u8], count: usize, objects: &[u8]) -> Applied
+fn apply_bound(
+    schema: Schema,
+    arities: &[u8],
+    state: &mut [u8],
+    count: usize,
+    objects: &[u8],
+) -> Applied
     requires { ⌜ Ready (now arities) (now objects) schema (now state) count ⌝ }
-    ensures {
-        λ r. ⌜ Does (leaving (now (state .entry)) (changed (schemaOf (now (arities .entry)) schema) (now (objects .entry)) (factsIn (now (arities .entry)) count (now (state .entry))))) (now (state .exit)) r ⌝
-    }
+    ensures { λ r. ⌜ Does (leaving (now (state .entry)) (changed (schemaOf (now (arities .entry)) schema) (now (objects .entry)) (factsIn (now (arities .entry)) count (now (state .entry))))) (now (state .exit)) r ⌝ }
 {
     let mut numbers = [0u32; 1032];
     load(state, count, &mut numbers);
@@ -91,11 +99,16 @@ fn apply_bound(schema: Schema, arities: &[u8], state: &mut [u8], count: usize, o
 }
 
 // 17 to 20: the objects first.
-fn apply_schema(schema: Schema, arities: &[u8], known: usize, state: &mut [u8], count: usize, objects: &[u8]) -> Applied
+fn apply_schema(
+    schema: Schema,
+    arities: &[u8],
+    known: usize,
+    state: &mut [u8],
+    count: usize,
+    objects: &[u8],
+) -> Applied
     requires { ⌜ (StateKept (now arities) known (now state) count) × (SchemaKept (now arities) schema) ⌝ }
-    ensures {
-        λ r. ⌜ Does (leaving (now (state .entry)) (bound known (schemaOf (now (arities .entry)) schema) (now (objects .entry)) (factsIn (now (arities .entry)) count (now (state .entry))))) (now (state .exit)) r ⌝
-    }
+    ensures { λ r. ⌜ Does (leaving (now (state .entry)) (bound known (schemaOf (now (arities .entry)) schema) (now (objects .entry)) (factsIn (now (arities .entry)) count (now (state .entry))))) (now (state .exit)) r ⌝ }
 {
     let parameters = schema.parameters;
     if objects.len() != parameters {
@@ -113,9 +126,7 @@ fn apply_schema(schema: Schema, arities: &[u8], known: usize, state: &mut [u8], 
 // 15 to 20, for a task: the state first, then the schema.
 fn apply_task(task: Task, state: &mut [u8], count: usize, schema: usize, objects: &[u8]) -> Applied
     requires { ⌜ TaskKept task ⌝ }
-    ensures {
-        λ r. ⌜ Does (pressTask (taskOf task) (now (state .entry)) count (record { schema = schema; objects = now (objects .entry) })) (now (state .exit)) r ⌝
-    }
+    ensures { λ r. ⌜ Does (pressTask (taskOf task) (now (state .entry)) count (record { schema = schema; objects = now (objects .entry) })) (now (state .exit)) r ⌝ }
 {
     let predicates = task.predicates;
     let predicate_count = predicates.count;
@@ -130,7 +141,14 @@ fn apply_task(task: Task, state: &mut [u8], count: usize, schema: usize, objects
         return Applied::SchemaUnknown;
     }
     let chosen = schemas.schemas[schema];
-    apply_schema(chosen, &arities[0..predicate_count], known, state, count, objects)
+    apply_schema(
+        chosen,
+        &arities[0..predicate_count],
+        known,
+        state,
+        count,
+        objects,
+    )
 }
 
 // The opening call for a task: its facts are stored.
@@ -167,9 +185,7 @@ pub fn initial(card: &[u8], state: &mut [u8]) -> Applied
 
 // An action is applied to the state in the buffer, and the next state's count is answered. A refusal alters no byte.
 pub fn apply(card: &[u8], state: &mut [u8], count: usize, schema: usize, objects: &[u8]) -> Applied
-    ensures {
-        λ r. ⌜ Applies (now (card .entry)) (now (state .entry)) count (record { schema = schema; objects = now (objects .entry) }) (now (state .exit)) r ⌝
-    }
+    ensures { λ r. ⌜ Applies (now (card .entry)) (now (state .entry)) count (record { schema = schema; objects = now (objects .entry) }) (now (state .exit)) r ⌝ }
 {
     let decoded = decode(card);
     let verdict = decoded.verdict;

@@ -41,9 +41,10 @@ loop-less c = omega arith
 loop-again : tie.Need-loop-again Inv-loop μ-loop
 loop-again c =
     let start = c .before .before .before .before .before .before in
-    let head = c .before .before .before .before .loop in
-    (omega arith,
-    distinct-again (start .args .objects .now) (head .i) _ (head .inv .1) (omega arith) (sym (c .before .stands-from .ensures) ∙ c .if1 .left))
+    let head = c .before .before .before .before .loop in (
+      omega arith,
+      distinct-again (start .args .objects .now) (head .i) _ (head .inv .1) (omega arith) (sym (c .before .stands-from .ensures) ∙ c .if1 .left),
+    )
 
 returns-2 : tie.Need-returns-2 Inv-loop μ-loop
 returns-2 c =

@@ -52,10 +52,11 @@ loop-less c = omega arith
 loop-again : tie.Need-loop-again Inv-loop μ-loop
 loop-again c =
     let start = c .before .before .before .before .before .before .before .before in
-    let head = c .before .before .before .before .before .loop in
-    (omega arith,
-    all-again (λ n. member n (start .args .numbers .now)) (start .args .facts .now) (head .i) _ (head .inv .1) (omega arith)
-    (found-there _ _ _ (start .args .numbers .now) (c .before .before .find .ensures) (c .enum-told .given .1) .0))
+    let head = c .before .before .before .before .before .loop in (
+      omega arith,
+      all-again (λ n. member n (start .args .numbers .now)) (start .args .facts .now) (head .i) _ (head .inv .1) (omega arith)
+          (found-there _ _ _ (start .args .numbers .now) (c .before .before .find .ensures) (c .enum-told .given .1) .0),
+    )
 
 returns-2 : tie.Need-returns-2 Inv-loop μ-loop
 returns-2 c =

@@ -48,10 +48,12 @@ loop-again : tie.Need-loop-again Inv-loop μ-loop
 unfolding blankAtom
 loop-again c =
     let start = c .before .before .before .before .before .before in
-    let head = c .before .before .before .loop in
-    (omega arith, length-set (head .numbers) (head .i) _ ∙ head .inv .1,
-    facts-step (start .args .arities .now) (start .args .t1) (start .args .numbers .now) (start .pre) (head .i) (c .fact-number .result) (head .numbers)
-    (omega arith) (head .inv .2) (c .fact-number .ensures))
+    let head = c .before .before .before .loop in (
+      omega arith,
+      length-set (head .numbers) (head .i) _ ∙ head .inv .1,
+      facts-step (start .args .arities .now) (start .args .t1) (start .args .numbers .now) (start .pre) (head .i) (c .fact-number .result) (head .numbers)
+          (omega arith) (head .inv .2) (c .fact-number .ensures),
+    )
 
 same-length : tie.Need-same-length Inv-loop μ-loop
 same-length c = c .before .loop .inv .1

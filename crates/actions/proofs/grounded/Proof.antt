@@ -51,10 +51,11 @@ loop-again : tie.Need-loop-again Inv-loop μ-loop
 unfolding blankAtom
 loop-again c =
     let start = c .before .before .before .before .before .before in
-    let head = c .before .before .before .loop in
-    (omega arith,
-    grounded-step (start .args .arities .now) (start .args .objects .now) (start .args .t1) (start .pre) (head .i) (c .ground .result) (head .numbers)
-    (omega arith) (head .inv .1) (c .ground .ensures))
+    let head = c .before .before .before .loop in (
+      omega arith,
+      grounded-step (start .args .arities .now) (start .args .objects .now) (start .args .t1) (start .pre) (head .i) (c .ground .result) (head .numbers)
+          (omega arith) (head .inv .1) (c .ground .ensures),
+    )
 
 returns : tie.Need-returns Inv-loop μ-loop
 returns c =

@@ -33,10 +33,11 @@ insert-requires c κs =
     let list : List ℕ = take (start .args .count) (start .args .numbers .now) in
     let size = length-take-le (start .args .count) (start .args .numbers .now) (start .pre .1 .few) in
     let same = changing-length putIn (start .args .new .now) list (start .args .numbers .now) (head .i) (head .numbers) (head .held) (head .inv) in
-    let count = changing-count putIn (start .args .new .now) list (start .args .numbers .now) (head .i) (head .numbers) (head .held) (head .inv) in
-    (omega arith,
-    changing-holds putIn (start .args .new .now) (take (start .args .count) (start .args .numbers .now)) (start .args .numbers .now)
-    (head .i) (head .numbers) (head .held) (head .inv))
+    let count = changing-count putIn (start .args .new .now) list (start .args .numbers .now) (head .i) (head .numbers) (head .held) (head .inv) in (
+      omega arith,
+      changing-holds putIn (start .args .new .now) (take (start .args .count) (start .args .numbers .now)) (start .args .numbers .now)
+          (head .i) (head .numbers) (head .held) (head .inv),
+    )
 
 add-i : tie.Need-add-i Inv-loop μ-loop
 add-i c = omega arith
@@ -50,7 +51,7 @@ loop-again c =
     let head = c .before .before .before .before .before .before .loop in
     let size = length-take-le (start .args .count) (start .args .numbers .now) (start .pre .1 .few) in
     let enough : length (take (start .args .count) (start .args .numbers .now)) + length (start .args .new .now) ≤ length (start .args .numbers .now) =
-        omega arith in
+    omega arith in
     inserting-step (start .args .new .now) (take (start .args .count) (start .args .numbers .now)) (start .args .numbers .now)
     (head .i) (head .numbers) _ (head .held) _ (head .inv) (omega arith) enough (c .before .before .insert .ensures)
 

@@ -41,7 +41,7 @@ returns c =
     let start = c .before .before .before .before .before .before in
     let list : List ℕ = start .args .numbers .now in
     let told = found-missing _ (start .args .n) _ (take (start .args .count) list)
-        (c .before .before .find .ensures ∙ ap (found (start .args .n)) (part-front (start .args .count) list)) (c .enum-told .given .1) in
+    (c .before .before .find .ensures ∙ ap (found (start .args .n)) (part-front (start .args .count) list)) (c .enum-told .given .1) in
     removed-missing (start .args .count) (start .args .n) list (start .pre) (told .0)
 
 -- where the number was found

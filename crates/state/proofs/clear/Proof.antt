@@ -9,7 +9,7 @@ use Rattle.state.proofs.clear.Statement.{statement}
 use Rattle.state.proofs.clear.Tie as tie
 
 abbrev Inv-loop : tie.InvT-loop
-Inv-loop state₀ at i₀ state i =     (at ≤ i) × (i ≤ 4096) × (length state ≡ length state₀) × (state ≡ take at state₀ ++ replicate (i - at) 0 ++ drop i state₀)
+Inv-loop state₀ at i₀ state i = (at ≤ i) × (i ≤ 4096) × (length state ≡ length state₀) × (state ≡ take at state₀ ++ replicate (i - at) 0 ++ drop i state₀)
 
 abbrev μ-loop : tie.MeasureT-loop
 μ-loop state₀ at i₀ state i = 4096 - i
@@ -29,9 +29,12 @@ loop-less c = omega arith
 loop-again : tie.Need-loop-again Inv-loop μ-loop
 loop-again c =
     let start = c .before .before in
-    let head = c .before .loop in
-    (omega arith, omega arith, length-set (head .state) (head .i) _ ∙ head .inv .2,
-    clear-step (start .args .at) (start .args .state .now) (head .state) (head .i) (head .inv .0) (head .inv .3) (omega arith))
+    let head = c .before .loop in (
+      omega arith,
+      omega arith,
+      length-set (head .state) (head .i) _ ∙ head .inv .2,
+      clear-step (start .args .at) (start .args .state .now) (head .state) (head .i) (head .inv .0) (head .inv .3) (omega arith),
+    )
 
 same-length : tie.Need-same-length Inv-loop μ-loop
 same-length c = c .before .loop .inv .2

@@ -37,9 +37,11 @@ loop-less c = omega arith
 loop-again : tie.Need-loop-again Inv-loop μ-loop
 loop-again c =
     let start = c .before .before .before .before .before in
-    let head = c .before .before .loop in
-    (omega arith, length-set (head .numbers) (head .i) _ ∙ head .inv .1,
-    load-step (start .args .state .now) (start .args .numbers .now) (head .numbers) (head .i) (c .row .result) (head .inv .2) (omega arith) (c .row .ensures))
+    let head = c .before .before .loop in (
+      omega arith,
+      length-set (head .numbers) (head .i) _ ∙ head .inv .1,
+      load-step (start .args .state .now) (start .args .numbers .now) (head .numbers) (head .i) (c .row .result) (head .inv .2) (omega arith) (c .row .ensures),
+    )
 
 same-length : tie.Need-same-length Inv-loop μ-loop
 same-length c = c .before .loop .inv .1

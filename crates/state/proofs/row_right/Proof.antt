@@ -39,7 +39,7 @@ returns-2 c =
     let start = c .before .before .before .before .before .before .before .before in
     first-fails _ _ _ (sym (c .before .place-right .ensures) ∙ not-true _ (c .if2 .taken))
     ∙ row-places (start .args .arities .now) (start .args .objects) (start .args .i) (start .args .state .now) (start .pre .0) (start .pre .1)
-      (c .before .before .before .before .if1 .left)
+    (c .before .before .before .before .if1 .left)
 
 add-place-right-2 : tie.Need-add-place-right-2
 add-place-right-2 c = search needs
@@ -56,7 +56,7 @@ returns-3 c =
     second-fails _ _ _ (sym (c .before .before .before .before .place-right .ensures) ∙ not-false _ (c .before .before .before .if2 .left))
     (sym (c .before .place-right2 .ensures) ∙ not-true _ (c .if3 .taken))
     ∙ row-places (start .args .arities .now) (start .args .objects) (start .args .i) (start .args .state .now) (start .pre .0) (start .pre .1)
-      (c .before .before .before .before .before .before .before .if1 .left)
+    (c .before .before .before .before .before .before .before .if1 .left)
 
 add-place-right-3 : tie.Need-add-place-right-3
 add-place-right-3 c = search needs
@@ -72,9 +72,9 @@ returns-4 c =
     let start = c .before .before .before .before .before .before .before .before .before .before .before .before .before in
     c .place-right3 .ensures
     ∙ third-decides _ _ _ (sym (c .before .before .before .before .before .before .place-right .ensures) ∙ not-false _ (c .before .before .before .before .before .if2 .left))
-      (sym (c .before .before .before .place-right2 .ensures) ∙ not-false _ (c .before .before .if3 .left))
+    (sym (c .before .before .before .place-right2 .ensures) ∙ not-false _ (c .before .before .if3 .left))
     ∙ row-places (start .args .arities .now) (start .args .objects) (start .args .i) (start .args .state .now) (start .pre .0) (start .pre .1)
-      (c .before .before .before .before .before .before .before .before .before .if1 .left)
+    (c .before .before .before .before .before .before .before .before .before .if1 .left)
 
 pub row-right-spec : {M : Type 1} → statement M
 row-right-spec =

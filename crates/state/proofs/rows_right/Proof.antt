@@ -10,7 +10,7 @@ use Rattle.state.proofs.rows_right.Statement.{statement}
 use Rattle.state.proofs.rows_right.Tie as tie
 
 abbrev Inv-loop : tie.InvT-loop
-Inv-loop state count arities objects least₀ i₀ least i =     (i ≤ count) × (rowsIn (signature arities objects) least (count - i) (drop (4 * i) state) ≡ rowsIn (signature arities objects) 0 count state)
+Inv-loop state count arities objects least₀ i₀ least i = (i ≤ count) × (rowsIn (signature arities objects) least (count - i) (drop (4 * i) state) ≡ rowsIn (signature arities objects) 0 count state)
 
 abbrev μ-loop : tie.MeasureT-loop
 μ-loop state count arities objects least₀ i₀ least i = count - i
@@ -56,11 +56,12 @@ loop-less c = omega arith
 loop-again : tie.Need-loop-again Inv-loop μ-loop
 loop-again c =
     let start = c .before .before .before .before .before .before .before .before in
-    let head = c .before .before .before .before .before .loop in
-    (omega arith,
-    rows-again _ (start .args .count) (start .args .state .now) (head .least) (head .i) _ (head .inv .1) (c .before .before .before .before .loop-test .taken)
-    (c .before .row .result)
-    (sym (c .before .before .before .row-right .ensures) ∙ not-false _ (c .before .before .if1 .left)) (c .before .row .ensures) (c .if2 .left))
+    let head = c .before .before .before .before .before .loop in (
+      omega arith,
+      rows-again _ (start .args .count) (start .args .state .now) (head .least) (head .i) _ (head .inv .1) (c .before .before .before .before .loop-test .taken)
+          (c .before .row .result)
+          (sym (c .before .before .before .row-right .ensures) ∙ not-false _ (c .before .before .if1 .left)) (c .before .row .ensures) (c .if2 .left),
+    )
 
 returns-3 : tie.Need-returns-3 Inv-loop μ-loop
 returns-3 c =

@@ -26,7 +26,7 @@ returns-3 c =
     let start = c .before .before .before .before .before in
     c .rows-right .ensures
     ∙ well-formed-rows (start .args .arities .now) (start .args .objects) (start .args .state .now) (start .args .count) (start .pre)
-      (λ i. c .before .before .before .before .shared-slice-known .given i .fits) (c .before .before .if1 .left) (c .before .if2 .left)
+    (λ i. c .before .before .before .before .shared-slice-known .given i .fits) (c .before .before .if1 .left) (c .before .if2 .left)
 
 pub well-formed-spec : {M : Type 1} → statement M
 well-formed-spec = tie.close (tie.spec returns returns-2 rows-right-requires returns-3)

@@ -11,7 +11,7 @@ use Rattle.state.proofs.write_rows.Statement.{statement}
 use Rattle.state.proofs.write_rows.Tie as tie
 
 abbrev Inv-loop : tie.InvT-loop
-Inv-loop state₀ numbers i₀ state i =     (i ≤ length numbers) × (length state ≡ length state₀) × (state ≡ flatMap rowBytes (take i numbers) ++ drop (4 * i) state₀)
+Inv-loop state₀ numbers i₀ state i = (i ≤ length numbers) × (length state ≡ length state₀) × (state ≡ flatMap rowBytes (take i numbers) ++ drop (4 * i) state₀)
 
 abbrev μ-loop : tie.MeasureT-loop
 μ-loop state₀ numbers i₀ state i = length numbers - i

@@ -41,11 +41,12 @@ part-applicable-end c =
 
 applicable-requires : tie.Need-applicable-requires
 applicable-requires c κs =
-    let start = c .before .before .before .before .before .before .before .before .before in
-    (ap (rising 0) (part-front (start .args .count) _)
-    ∙ held (start .args .arities .now) (start .args .objects .now) (start .args .schema) (start .args .state .now) (start .args .count) (start .pre)
-      (c .before .before .before .load .last .1 .1 .0) (c .before .before .before .load .ensures) .ascends,
-    preconditions-bound (start .args .arities .now) (start .args .objects .now) (start .args .schema) (start .args .state .now) (start .args .count) (start .pre))
+    let start = c .before .before .before .before .before .before .before .before .before in (
+      ap (rising 0) (part-front (start .args .count) _)
+          ∙ held (start .args .arities .now) (start .args .objects .now) (start .args .schema) (start .args .state .now) (start .args .count) (start .pre)
+          (c .before .before .before .load .last .1 .1 .0) (c .before .before .before .load .ensures) .ascends,
+      preconditions-bound (start .args .arities .now) (start .args .objects .now) (start .args .schema) (start .args .state .now) (start .args .count) (start .pre),
+    )
 
 -- the test of the preconditions was passed
 tested : (c : tie.After-applicable) → c .applicable .result ≡ true
@@ -101,7 +102,7 @@ store-requires c κs =
     let formed = state-formed (start .args .arities .now) (start .pre .known-objects) (start .args .state .now) (start .args .count) (start .pre .state) in
     let room = formed .room in
     let size = next-length (start .args .arities .now) (start .args .objects .now) (start .args .schema) (start .args .state .now) (start .args .count) (start .pre)
-        (c .before .before .before .before .before .before .before .before .before .before .before .before .load .last .1 .1 .0) (c .before .before .before .before .before .before .before .before .before .before .before .before .load .ensures) _ _ (c .before .before .before .before .before .next-numbers .ensures) in
+    (c .before .before .before .before .before .before .before .before .before .before .before .before .load .last .1 .1 .0) (c .before .before .before .before .before .before .before .before .before .before .before .before .load .ensures) _ _ (c .before .before .before .before .before .next-numbers .ensures) in
     let few = c .before .before .before .if2 .left in
     (omega (arith, size, few), room)
 

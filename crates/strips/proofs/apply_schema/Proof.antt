@@ -46,7 +46,7 @@ apply-bound-requires c κs =
       state = start .pre .0;
       schema-kept = start .pre .1;
       one-for-each = c .before .before .before .before .before .if1 .left;
-      objects-known = sym (c .before .before .before .before .all-known .ensures) ∙ not-false _ (c .before .before .before .if2 .left)
+      objects-known = sym (c .before .before .before .before .all-known .ensures) ∙ not-false _ (c .before .before .before .if2 .left);
     }
 
 same-length : tie.Need-same-length

@@ -56,11 +56,12 @@ part-apply-schema-end c = let start = c .before .before .before .before .before 
 
 apply-schema-requires : tie.Need-apply-schema-requires
 apply-schema-requires c κs =
-    let start = c .before .before .before .before .before .before .before .before .before .before .before .before .before .before .before in
-    (state-kept (start .args .task) (start .pre) (start .args .state .now) (start .args .count) (record { schema = start .args .schema; objects = start .args .objects .now })
-    _ (c .before .before .before .before .before .before .before .well-formed .ensures) (not-false _ (c .before .before .before .before .before .before .if1 .left)),
-    schema-kept (start .args .task) (start .pre) (start .args .state .now) (start .args .count) (record { schema = start .args .schema; objects = start .args .objects .now })
-    _ (c .before .before .before .before .before .before .before .well-formed .ensures) (not-false _ (c .before .before .before .before .before .before .if1 .left)) _ (c .before .before .before .before .if2 .left))
+    let start = c .before .before .before .before .before .before .before .before .before .before .before .before .before .before .before in (
+      state-kept (start .args .task) (start .pre) (start .args .state .now) (start .args .count) (record { schema = start .args .schema; objects = start .args .objects .now })
+          _ (c .before .before .before .before .before .before .before .well-formed .ensures) (not-false _ (c .before .before .before .before .before .before .if1 .left)),
+      schema-kept (start .args .task) (start .pre) (start .args .state .now) (start .args .count) (record { schema = start .args .schema; objects = start .args .objects .now })
+          _ (c .before .before .before .before .before .before .before .well-formed .ensures) (not-false _ (c .before .before .before .before .before .before .if1 .left)) _ (c .before .before .before .before .if2 .left),
+    )
 
 same-length-3 : tie.Need-same-length-3
 same-length-3 c = search needs

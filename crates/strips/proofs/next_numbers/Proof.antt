@@ -74,15 +74,16 @@ insert-all-requires c κs =
     let few = few-in (start .args .arities .now) (start .args .objects .now) (start .args .schema) (start .pre .adds) in
     let new = come (c .before .before .before .before) in
     let fewer = between-few (start .args .arities .now) (start .args .objects .now) (start .args .schema) (start .args .numbers .now) (start .args .count)
-        (start .pre) _ _ left in
+    (start .pre) _ _ left in
     let same = between-length (start .args .arities .now) (start .args .objects .now) (start .args .schema) (start .args .numbers .now) (start .args .count)
-        (start .pre) _ _ left in
+    (start .pre) _ _ left in
     let size = ap length new in
     let count = length-map (putIn (schemaOf (start .args .arities .now) (start .args .schema)) (start .args .objects .now)) factNumber in
-    let room = start .pre .room in
-    (omega arith,
-    between-holds (start .args .arities .now) (start .args .objects .now) (start .args .schema) (start .args .numbers .now) (start .args .count)
-    (start .pre) _ _ left)
+    let room = start .pre .room in (
+      omega arith,
+      between-holds (start .args .arities .now) (start .args .objects .now) (start .args .schema) (start .args .numbers .now) (start .args .count)
+          (start .pre) _ _ left,
+    )
 
 same-length : tie.Need-same-length
 same-length c = search needs
