@@ -1,0 +1,2 @@
+pub mod GroundRows
+pub mod Passing

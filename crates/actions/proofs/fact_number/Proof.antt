@@ -1,0 +1,34 @@
+-- The row of a fact.
+use mathlib.Core.Path.{sym, _∙_}
+use Rattle.actions.proofs.GroundRows.{fact-row}
+use borrow.Author.Needs.{needs}
+use Rattle.actions.proofs.fact_number.Statement.{statement}
+use Rattle.actions.proofs.fact_number.Tie as tie
+
+cast-arity : tie.Need-cast-arity
+cast-arity c = search needs
+
+shared-slice-read-arity : tie.Need-shared-slice-read-arity
+shared-slice-read-arity c = search needs
+
+up-to-requires : tie.Need-up-to-requires
+up-to-requires c κs = search needs
+
+up-to-requires-2 : tie.Need-up-to-requires-2
+up-to-requires-2 c κs = search needs
+
+up-to-requires-3 : tie.Need-up-to-requires-3
+up-to-requires-3 c κs = search needs
+
+row-number-requires : tie.Need-row-number-requires
+row-number-requires c κs = search needs
+
+returns : tie.Need-returns
+returns c =
+    let start = c .before .before .before .before .before .before in
+    cc (fact-row (start .args .arities .now) (start .args .f) (start .pre .0) (start .pre .1))
+
+pub fact-number-spec : {M : Type 1} → statement M
+fact-number-spec =
+    tie.close
+    (tie.spec cast-arity shared-slice-read-arity up-to-requires up-to-requires-2 up-to-requires-3 row-number-requires returns)

@@ -1,0 +1,179 @@
+// An action's ground facts as the numbers of their rows, and what is asked of its objects.
+use card::Atom;
+use card::AtomList;
+use card::FactList;
+use card::Schema;
+use sets::Found;
+use sets::find;
+use state::row_number;
+ghost use Prim.Native.Nat.{ℕ, _≤_, _<_};
+ghost use mathlib.Core.Bool.{true};
+ghost use mathlib.Core.Path.{_≡_};
+ghost use mathlib.Core.List.{map, _++_};
+ghost use lib.Dec.{ltb};
+ghost use lib.ListN.{length, getD, drop};
+ghost use Rattle.laws.specs.Lists.{all, member, distinct};
+ghost use Rattle.model.specs.Strips.{ground, takenOut, putIn};
+ghost use Rattle.model.specs.Writer.{known};
+ghost use Rattle.card.specs.Represents.{atomOf, atomsOf, factsOf, schemaOf};
+ghost use Rattle.sets.specs.Numbers.{rising};
+ghost use Rattle.state.specs.Rows.{factNumber, inRange};
+ghost use Rattle.actions.specs.Grounds.{upTo, factsKept, Bound, FactsRight};
+
+// Facts as the numbers of their rows; entries past the count are 0.
+pub struct Facts {
+    pub count: usize,
+    pub numbers: [u32; 8],
+}
+
+// What stands at place k of a row, 1 to 3: the byte up to the arity, filler after it.
+fn up_to(arity: u8, k: u8, byte: u8) -> u8
+    ensures { λ r. ⌜ r ≡ upTo arity k byte ⌝ }
+{
+    if k <= arity { byte } else { 255 }
+}
+
+// The number of a fact's row.
+fn fact_number(f: Atom, arities: &[u8]) -> u32
+    requires { ⌜ (inRange (now arities) ≡ true) × (f .predicate < length (now arities)) ⌝ }
+    ensures { λ r. ⌜ r ≡ factNumber (atomOf (now (arities .entry)) f) ⌝ }
+{
+    let predicate = f.predicate;
+    let arity = arities[predicate as usize];
+    let first = up_to(arity, 1, f.first);
+    let second = up_to(arity, 2, f.second);
+    let third = up_to(arity, 3, f.third);
+    row_number(predicate, first, second, third)
+}
+
+// The object for the parameter at place k of an atom, filler past the arity.
+fn object(objects: &[u8], arity: u8, k: u8, parameter: u8) -> u8
+    requires { ⌜ (k ≤ arity → parameter < length (now objects)) ⌝ }
+    ensures { λ r. ⌜ r ≡ upTo arity k (getD (now (objects .entry)) parameter 0) ⌝ }
+{
+    if k <= arity {
+        objects[parameter as usize]
+    } else {
+        255
+    }
+}
+
+// The number of the fact that an atom becomes with an action's objects.
+fn ground(a: Atom, arities: &[u8], objects: &[u8]) -> u32
+    requires { ⌜ (inRange (now arities) ≡ true) × (known (now arities) (length (now objects)) (atomOf (now arities) a) ≡ true) ⌝ }
+    ensures { λ r. ⌜ r ≡ factNumber (ground (now (objects .entry)) (atomOf (now (arities .entry)) a)) ⌝ }
+{
+    let predicate = a.predicate;
+    let arity = arities[predicate as usize];
+    let first = object(objects, arity, 1, a.first);
+    let second = object(objects, arity, 2, a.second);
+    let third = object(objects, arity, 3, a.third);
+    row_number(predicate, first, second, third)
+}
+
+// The facts that a list of atoms becomes.
+pub fn grounded(list: AtomList, arities: &[u8], objects: &[u8]) -> Facts
+    requires { ⌜ Bound (now arities) (now objects) list ⌝ }
+    ensures { λ r. ⌜ r ≡ factsKept (map (ground (now (objects .entry))) (atomsOf (now (arities .entry)) list)) ⌝ }
+{
+    let count = list.count;
+    let mut numbers = [0u32; 8];
+    let mut i = 0;
+    while i < count {
+        let a = list.atoms[i];
+        numbers[i] = ground(a, arities, objects);
+        i = i + 1;
+    }
+    Facts { count, numbers }
+}
+
+// What an action takes out.
+pub fn taken_out(schema: Schema, arities: &[u8], objects: &[u8]) -> Facts
+    requires { ⌜ Bound (now arities) (now objects) (schema .deletes) ⌝ }
+    ensures { λ r. ⌜ r ≡ factsKept (takenOut (schemaOf (now (arities .entry)) schema) (now (objects .entry))) ⌝ }
+{
+    let deletes = schema.deletes;
+    grounded(deletes, arities, objects)
+}
+
+// What an action puts in.
+pub fn put_in(schema: Schema, arities: &[u8], objects: &[u8]) -> Facts
+    requires { ⌜ Bound (now arities) (now objects) (schema .adds) ⌝ }
+    ensures { λ r. ⌜ r ≡ factsKept (putIn (schemaOf (now (arities .entry)) schema) (now (objects .entry))) ⌝ }
+{
+    let adds = schema.adds;
+    grounded(adds, arities, objects)
+}
+
+// Every number is on the ascending list.
+pub fn all_in(numbers: &[u32], facts: &[u32]) -> bool
+    requires { ⌜ rising 0 (now numbers) ≡ true ⌝ }
+    ensures { λ r. ⌜ r ≡ all (λ n. member n (now (numbers .entry))) (now (facts .entry)) ⌝ }
+{
+    let mut i = 0;
+    while i < facts.len() {
+        let there = find(numbers, facts[i]);
+        let Found::At(_) = there else {
+            return false;
+        };
+        i = i + 1;
+    }
+    true
+}
+
+// Every object is below the bound.
+pub fn all_known(objects: &[u8], bound: usize) -> bool
+    ensures { λ r. ⌜ r ≡ all (λ o. ltb o bound) (now (objects .entry)) ⌝ }
+{
+    let mut i = 0;
+    while i < objects.len() {
+        if bound <= objects[i] as usize {
+            return false;
+        }
+        i = i + 1;
+    }
+    true
+}
+
+// The object is among the objects from a place on.
+fn stands_from(objects: &[u8], at: usize, o: u8) -> bool
+    requires { ⌜ at ≤ length (now objects) ⌝ }
+    ensures { λ r. ⌜ r ≡ member o (drop at (now (objects .entry))) ⌝ }
+{
+    let mut i = at;
+    while i < objects.len() {
+        if objects[i] == o {
+            return true;
+        }
+        i = i + 1;
+    }
+    false
+}
+
+// No object stands twice.
+pub fn all_different(objects: &[u8]) -> bool
+    ensures { λ r. ⌜ r ≡ distinct (now (objects .entry)) ⌝ }
+{
+    let mut i = 0;
+    while i < objects.len() {
+        if stands_from(objects, i + 1, objects[i]) {
+            return false;
+        }
+        i = i + 1;
+    }
+    true
+}
+
+// The numbers of a task's facts, at the front of an array.
+pub fn fact_numbers(facts: FactList, arities: &[u8], numbers: &mut [u32])
+    requires { ⌜ FactsRight (now arities) facts (now numbers) ⌝ }
+    ensures { λ r. ⌜ now (numbers .exit) ≡ map factNumber (factsOf (now (arities .entry)) facts) ++ drop (facts .count) (now (numbers .entry)) ⌝ }
+{
+    let count = facts.count;
+    let mut i = 0;
+    while i < count {
+        let f = facts.facts[i];
+        numbers[i] = fact_number(f, arities);
+        i = i + 1;
+    }
+}

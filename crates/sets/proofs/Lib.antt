@@ -1,0 +1,3 @@
+pub mod Ascending
+pub mod Shifting
+pub mod Changing

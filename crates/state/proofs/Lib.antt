@@ -1,0 +1,4 @@
+pub mod RowBytes
+pub mod RightRows
+pub mod Writing
+pub mod FactNumbers

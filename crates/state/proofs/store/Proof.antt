@@ -1,0 +1,27 @@
+-- Rows, then 0 up to byte 4,096.
+use mathlib.Core.Path.{_≡_, refl, sym, ap, _∙_}
+use native.Mathlib.Omega.{arith}
+use Rattle.state.proofs.Writing.{rows-stored}
+use Rattle.state.proofs.store.Statement.{statement}
+use Rattle.state.proofs.store.Tie as tie
+
+write-rows-requires : tie.Need-write-rows-requires
+write-rows-requires c κs = omega arith
+
+mul-clear : tie.Need-mul-clear
+mul-clear c = omega arith
+
+clear-requires : tie.Need-clear-requires
+clear-requires c κs = (omega arith, omega arith)
+
+same-length : tie.Need-same-length
+same-length c = omega arith
+
+returns : tie.Need-returns
+returns c =
+    let start = c .before .before .before .before .before .before .before .before .before .before in
+    rows-stored (start .args .numbers .now) (start .args .state .now) _ _ (c .before .before .before .before .before .before .write-rows .ensures) (start .pre .0)
+    (c .before .before .clear .ensures)
+
+pub store-spec : {M : Type 1} → statement M
+store-spec = tie.close (tie.spec write-rows-requires mul-clear clear-requires same-length returns)

@@ -1,0 +1,59 @@
+-- A state's rows as numbers: the four bytes of a fact, the first of them highest. Facts stand in the order of these numbers.
+use Prim.Native.Nat.{ℕ, zero, suc, _+_, _-_, _*_, _/_, _%_, _≤_}
+use mathlib.Core.Path.{_≡_}
+use mathlib.Core.Bool.{Bool, true, false, cond, _&&_}
+use mathlib.Core.List.{List, [], _∷_, _++_, map, flatMap}
+use lib.Dec.{leb, ltb, eqb}
+use lib.ListN.{length, getD, take, drop, replicate}
+use Rattle.laws.specs.Lists.{all}
+use Rattle.model.specs.Card.{Atom, Task, between}
+use Rattle.model.specs.Strips.{filler, stateBytes, factBytes, rowRight}
+
+unfoldable pub rowNumber : List ℕ → ℕ
+rowNumber row = getD row 0 0 * 16777216 + getD row 1 0 * 65536 + getD row 2 0 * 256 + getD row 3 0
+
+-- the four bytes of a number
+unfoldable pub rowBytes : ℕ → List ℕ
+rowBytes n = n / 16777216 ∷ n / 65536 % 256 ∷ n / 256 % 256 ∷ n % 256 ∷ []
+
+unfoldable pub factNumber : Atom → ℕ
+factNumber f = rowNumber (factBytes f)
+
+-- the row of this number in a buffer
+unfoldable pub rowAt : ℕ → List ℕ → List ℕ
+rowAt i buffer = take 4 (drop (4 * i) buffer)
+
+-- the numbers of a buffer's first n rows
+unfoldable pub numbersIn : ℕ → List ℕ → List ℕ
+numbersIn zero buffer = []
+numbersIn (suc n) buffer = rowNumber (take 4 buffer) ∷ numbersIn n (drop 4 buffer)
+
+-- what a task says of the shape of facts: the arities of its predicates, and the number of its objects
+unfoldable pub signature : List ℕ → ℕ → Task
+signature arities objects = record { arities = arities; objects = objects; schemas = []; facts = [] }
+
+-- every arity is 1 to 3
+unfoldable pub inRange : List ℕ → Bool
+inRange arities = all (between 1 3) arities
+
+-- What bounds the bytes of facts: arities of 1 to 3, and predicates and objects that fit a byte.
+pub record Shape (arities : List ℕ) (objects : ℕ) : Type 0 where
+  pub right : inRange arities ≡ true
+  pub few-predicates : length arities ≤ 20
+  pub few-objects : objects ≤ 64
+
+-- the byte at place k of a row is right: a known object up to the arity, filler after it
+unfoldable pub placeRight : ℕ → ℕ → ℕ → ℕ → Bool
+placeRight objects arity k byte = cond (leb k arity) (ltb byte objects) (eqb byte filler)
+
+-- the first n rows are right, and their numbers ascend from `least` on
+unfoldable pub rowsIn : Task → ℕ → ℕ → List ℕ → Bool
+rowsIn t least zero buffer = true
+rowsIn t least (suc n) buffer =
+    rowRight t (take 4 buffer) && leb least (rowNumber (take 4 buffer))
+    && rowsIn t (suc (rowNumber (take 4 buffer))) n (drop 4 buffer)
+
+-- rows written to the front of a buffer, then 0 up to byte 4,096; the bytes beyond are unchanged
+unfoldable pub stored : List ℕ → List ℕ → List ℕ
+stored numbers buffer =
+    flatMap rowBytes numbers ++ replicate (stateBytes - 4 * length numbers) 0 ++ drop stateBytes buffer

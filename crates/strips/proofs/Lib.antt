@@ -1,0 +1,6 @@
+pub mod Numbers
+pub mod Applying
+pub mod Tasks
+pub mod Refusing
+pub mod Pressing
+pub mod Calling

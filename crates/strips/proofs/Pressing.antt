@@ -1,0 +1,115 @@
+-- Pressing and opening, for a task as the code keeps it: what its parts say of the definition.
+use Prim.Native.Nat.{ℕ, zero, suc, _+_, _-_, _≤_, _<_}
+use native.Mathlib.Nat.{sub-zero}
+use native.Mathlib.Omega.{arith}
+use mathlib.Core.Path.{_≡_, refl, sym, ap, _∙_, subst}
+use mathlib.Core.Bool.{Bool, true, false}
+use mathlib.Core.List.{List, [], _∷_, _++_, map}
+use lib.ListN.{length, getD, take, drop, length-map}
+use lib.Seq.{take-at}
+use Rattle.model.specs.Card as model
+use Rattle.model.specs.Strips.{State, Action, factsIn, wellFormed, schemaAt, written}
+use Rattle.model.specs.Calls.{Call}
+use Rattle.card.specs.Represents.{schemaOf, aritiesOf, factsOf, taskOf, blankSchema}
+use Rattle.card.specs.declared.Schema.{Schema}
+use Rattle.card.specs.declared.Task.{Task}
+use Rattle.state.specs.Rows.{factNumber, signature, inRange, stored, Shape}
+use Rattle.state.proofs.FactNumbers.{stored-written}
+use Rattle.actions.specs.Grounds.{FactsRight}
+use Rattle.strips.specs.Stages.{Does, leaving, bound, pressTask, initialTask, SchemaKept, StateKept, TaskKept}
+use Rattle.strips.specs.declared.Applied.{Applied}
+use Rattle.strips.specs.declared.Applied.the-variants.{Count, StateMalformed, SchemaUnknown}
+use Rattle.strips.proofs.Tasks.{modelTask, arities, task-shape, arities-part, formed-shaped, schema-count, few-schemas, chosen-is, chosen-kept, getD-default, fact-count, few-facts, facts-kept, facts-known}
+use Rattle.strips.proofs.Refusing.{state-malformed, schema-unknown, schema-named, task-opened}
+
+module _ (task : Task) (kept : TaskKept task) where
+  -- the arities as they are lent
+  abbrev pub part : List ℕ
+  part = take (task .predicates .count - 0) (task .predicates .arities)
+
+  same : part ≡ arities task kept
+  same = arities-part task kept
+
+  pub part-right : inRange part ≡ true
+  part-right = ap inRange same ∙ task-shape task kept .right
+
+  pub facts-right : (numbers : List ℕ) → task .facts .count ≤ length numbers → FactsRight part (task .facts) numbers
+  facts-right numbers room = subst (λ (l : List ℕ). FactsRight l (task .facts) numbers) (sym same) (facts-kept task kept numbers room)
+
+  module _ (buffer : List ℕ) (count : ℕ) (action : Action) where
+    -- what 15 says
+    pub formed : (r : Bool) → r ≡ wellFormed (signature part (task .objects)) buffer count → r ≡ wellFormed (modelTask task kept) buffer count
+    unfolding taskOf
+    formed r e =
+        e ∙ ap (λ (l : List ℕ). wellFormed (signature l (task .objects)) buffer count) same
+        ∙ sym (formed-shaped (modelTask task kept) buffer count)
+
+    pub refused-malformed :
+        (r : Bool) → r ≡ wellFormed (signature part (task .objects)) buffer count → r ≡ false
+        → Does (pressTask (modelTask task kept) buffer count action) buffer StateMalformed
+    refused-malformed r e f = state-malformed (modelTask task kept) buffer count action (sym (formed r e) ∙ f)
+
+    module _ (r : Bool) (says : r ≡ wellFormed (signature part (task .objects)) buffer count) (passed : r ≡ true) where
+      well : wellFormed (modelTask task kept) buffer count ≡ true
+      well = sym (formed r says) ∙ passed
+
+      pub state-kept : StateKept part (task .objects) buffer count
+      state-kept = record {
+        shape = subst (λ (l : List ℕ). Shape l (task .objects)) (sym same) (task-shape task kept);
+        well = sym says ∙ passed;
+      }
+
+      pub refused-unknown : task .schemas .count ≤ action .schema → Does (pressTask (modelTask task kept) buffer count action) buffer SchemaUnknown
+      refused-unknown h =
+          schema-unknown (modelTask task kept) buffer count action well (subst (λ (n : ℕ). n ≤ action .schema) (schema-count task kept) h)
+
+      module _ (blank : Schema) (within : action .schema < task .schemas .count) where
+        abbrev chosen : Schema
+        chosen = getD (task .schemas .schemas) (action .schema) blank
+
+        usual : chosen ≡ getD (task .schemas .schemas) (action .schema) blankSchema
+        usual =
+            getD-default (task .schemas .schemas) (action .schema) blank blankSchema (few-schemas task kept (action .schema) within)
+
+        pub schema-kept : SchemaKept part chosen
+        schema-kept =
+            subst (λ (l : List ℕ). SchemaKept l chosen) (sym same)
+            (subst (SchemaKept (arities task kept)) (sym usual) (chosen-kept task kept (action .schema) within))
+
+        pub pressed :
+            (after : List ℕ) (answer : Applied)
+            → Does (leaving buffer (bound (task .objects) (schemaOf part chosen) (action .objects) (factsIn part count buffer))) after answer
+            → Does (pressTask (modelTask task kept) buffer count action) after answer
+        unfolding taskOf
+        pressed after answer d =
+            subst (λ (c : Call). Does c after answer)
+            (ap (λ (l : List ℕ). leaving buffer (bound (task .objects) (schemaOf l chosen) (action .objects) (factsIn l count buffer))) same
+            ∙ ap (λ (s : model.Schema). leaving buffer (bound (task .objects) s (action .objects) (factsIn (arities task kept) count buffer)))
+            (ap (schemaOf (arities task kept)) usual ∙ chosen-is task kept (action .schema) within)
+            ∙ sym (schema-named (modelTask task kept) buffer count action well (subst (λ (n : ℕ). action .schema < n) (schema-count task kept) within)))
+            d
+
+  -- the opening call: the numbers of the facts, at the front of an array, stored
+  module _ (buffer numbers was : List ℕ) (loaded : numbers ≡ map factNumber (factsOf part (task .facts)) ++ drop (task .facts .count) was) where
+    numbers-of-facts : take (task .facts .count - 0) numbers ≡ map factNumber (modelTask task kept .facts)
+    unfolding taskOf
+    numbers-of-facts =
+        ap (λ (k : ℕ). take k numbers) (sub-zero (task .facts .count))
+        ∙ ap (take (task .facts .count)) (loaded ∙ ap (λ (l : List ℕ). map factNumber (factsOf l (task .facts)) ++ drop (task .facts .count) was) same)
+        ∙ take-at (map factNumber (modelTask task kept .facts)) _ (task .facts .count)
+        (length-map (modelTask task kept .facts) factNumber ∙ sym (fact-count task kept))
+
+    pub facts-few : length (take (task .facts .count - 0) numbers) ≤ 1024
+    facts-few =
+        let size = ap length numbers-of-facts ∙ length-map (modelTask task kept .facts) factNumber in
+        let count = fact-count task kept in
+        let few = few-facts task kept in
+        omega arith
+
+    pub opened :
+        (after : List ℕ) → 4096 ≤ length buffer → after ≡ stored (take (task .facts .count - 0) numbers) buffer
+        → Does (initialTask (modelTask task kept) buffer) after (Count (task .facts .count))
+    opened after large e =
+        task-opened (modelTask task kept) buffer after (task .facts .count) large (fact-count task kept)
+        (e ∙ ap (λ (l : List ℕ). stored l buffer) numbers-of-facts
+        ∙ stored-written (arities task kept) (task .objects) (task-shape task kept) (modelTask task kept .facts) buffer (facts-known task kept))

@@ -1,0 +1,173 @@
+-- A checked task as the code keeps it: its shape, its schemas and its facts.
+use Prim.Native.Nat.{ℕ, zero, suc, _+_, _-_, _≤_, _<_}
+use native.Mathlib.Nat.{sub-zero}
+use native.Mathlib.Omega.{arith}
+use mathlib.Core.Path.{_≡_, refl, sym, ap, _∙_, subst}
+use mathlib.Core.Bool.{Bool, true, false, cond, _&&_}
+use mathlib.Core.Option.{none}
+use mathlib.Core.List.{List, [], _∷_, _++_, map}
+use lib.Dec.{leb, ltb, eqb}
+use lib.ListN.{length, getD, take, drop, replicate, length-map, length-append, length-replicate, List·getD-append, List·getD-map}
+use lib.Seq.{getD-take, length-take-le}
+use Rattle.laws.specs.Lists.{all}
+use Rattle.laws.proofs.Lists.{all-at, all-intro, mem-getD}
+use Rattle.model.specs.Answer.{Answer, refused, accepted, _>>=_, _>>_, need}
+use Rattle.model.specs.Card as model
+use Rattle.model.specs.Writer.{known, each, checkSchema, checkTask}
+use Rattle.model.specs.Strips.{State, factsIn, rowRight, rowsRight, ascending, wellFormed, schemaAt}
+use Rattle.model.proofs.Order.{known-predicate}
+use Rattle.model.proofs.Answers.{first-passed, need-then}
+use Rattle.model.proofs.Checked.{Checked, checked, CheckedSchema, schemaAt-right, each-passed}
+use Rattle.card.specs.Represents.{atomOf, atomsOf, schemaOf, aritiesOf, schemasOf, factsOf, taskOf, padded, atomFor, blankAtom, atomsFor, schemaFor, blankSchema, aritiesFor, schemasFor, factsFor, taskFor}
+use Rattle.card.specs.declared.Atom.{Atom as Kept}
+use Rattle.card.specs.declared.AtomList.{AtomList}
+use Rattle.card.specs.declared.Schema.{Schema}
+use Rattle.card.specs.declared.Task.{Task}
+use Rattle.state.specs.Rows.{signature, inRange, Shape}
+use Rattle.actions.specs.Grounds.{FactsRight}
+use Rattle.strips.specs.Stages.{ListKept, SchemaKept, StateKept, TaskKept}
+
+-- 15 looks at a task's arities and objects alone
+rows-shaped : (t : model.Task) (n : ℕ) (buffer : List ℕ) → rowsRight t n buffer ≡ rowsRight (signature (t .arities) (t .objects)) n buffer
+unfolding rowsRight rowRight signature
+rows-shaped t zero buffer = refl
+rows-shaped t (suc n) buffer = ap (λ (b : Bool). rowRight t (take 4 buffer) && b) (rows-shaped t n (drop 4 buffer))
+
+pub formed-shaped : (t : model.Task) (buffer : List ℕ) (count : ℕ) → wellFormed t buffer count ≡ wellFormed (signature (t .arities) (t .objects)) buffer count
+unfolding wellFormed signature
+formed-shaped t buffer count =
+    ap (λ (b : Bool). leb 4096 (length buffer) && leb count 1024 && b && ascending none (factsIn (t .arities) count buffer)) (rows-shaped t count buffer)
+
+-- a list filled up to a length that it does not exceed
+length-padded : {A : Type 0} (size : ℕ) (blank : A) (xs : List A) → length xs ≤ size → length (padded size blank xs) ≡ size
+unfolding padded
+length-padded size blank xs h =
+    length-append xs (replicate (size - length xs) blank) ∙ (let z = length-replicate (size - length xs) blank in omega arith)
+
+-- the default does not matter in range
+pub getD-default : {A : Type 0} (xs : List A) (i : ℕ) (d e : A) → i < length xs → getD xs i d ≡ getD xs i e
+getD-default [] i d e h = absurd (omega arith)
+getD-default (x ∷ xs) zero d e h = refl
+getD-default (x ∷ xs) (suc i) d e h = getD-default xs i d e (omega arith)
+
+list-kept : (atoms : List model.Atom) → length atoms ≤ 8 → ListKept (atomsFor atoms)
+unfolding atomsFor
+list-kept atoms h = record {
+  few = h;
+  size = length-padded 8 blankAtom (map atomFor atoms) (let n = length-map atoms atomFor in omega arith);
+}
+
+module _ (task : Task) (kept : TaskKept task) where
+  abbrev pub modelTask : model.Task
+  modelTask = taskOf task
+
+  abbrev pub arities : List ℕ
+  arities = aritiesOf (task .predicates)
+
+  right : Checked modelTask
+  right = checked modelTask (kept .checks)
+
+  pub task-shape : Shape arities (task .objects)
+  unfolding taskOf inRange
+  task-shape = record { right = right .arities-right; few-predicates = right .few-predicates; few-objects = right .few-objects }
+
+  -- the counts are those of the lists
+  pub predicates-within : task .predicates .count ≤ length (task .predicates .arities)
+  unfolding taskOf taskFor aritiesFor
+  predicates-within =
+      let count : task .predicates .count ≡ length arities = ap (λ (t : Task). t .predicates .count) (kept .kept) in
+      let size : length (task .predicates .arities) ≡ 20 =
+      (ap (λ (t : Task). length (t .predicates .arities)) (kept .kept) ∙ length-padded 20 0 arities (right .few-predicates)) in
+      let few = right .few-predicates in
+      omega arith
+
+  pub arities-part : take (task .predicates .count - 0) (task .predicates .arities) ≡ arities
+  unfolding aritiesOf
+  arities-part = ap (λ (k : ℕ). take k (task .predicates .arities)) (sub-zero (task .predicates .count))
+
+  pub schema-count : task .schemas .count ≡ length (modelTask .schemas)
+  unfolding taskOf taskFor schemasFor
+  schema-count = ap (λ (t : Task). t .schemas .count) (kept .kept)
+
+  pub schema-size : length (task .schemas .schemas) ≡ 32
+  unfolding taskOf taskFor schemasFor
+  schema-size =
+      ap (λ (t : Task). length (t .schemas .schemas)) (kept .kept)
+      ∙ length-padded 32 blankSchema (map schemaFor (modelTask .schemas)) (let n = length-map (modelTask .schemas) schemaFor in let few = right .few-schemas in omega arith)
+
+  pub few-schemas : (n : ℕ) → n < task .schemas .count → n < length (task .schemas .schemas)
+  few-schemas n h = let size = schema-size in let count = schema-count in let few = right .few-schemas in omega arith
+
+  pub schema-below : (n : ℕ) → n < task .schemas .count → n < 32
+  schema-below n h = let count = schema-count in let few = right .few-schemas in omega arith
+
+  -- the schema of a number in range, as the code has it
+  module _ (n : ℕ) (within : n < task .schemas .count) where
+    abbrev chosen : Schema
+    chosen = getD (task .schemas .schemas) n blankSchema
+
+    inside : n < length (modelTask .schemas)
+    inside = let c = schema-count in omega arith
+
+    pub chosen-is : schemaOf arities chosen ≡ schemaAt modelTask n
+    unfolding taskOf schemasOf schemaAt
+    chosen-is =
+        ap (schemaOf arities) (sym (getD-take (task .schemas .count) (task .schemas .schemas) n blankSchema within))
+        ∙ sym (List·getD-map (schemaOf arities) (take (task .schemas .count) (task .schemas .schemas)) n blankSchema)
+        ∙ getD-default (modelTask .schemas) n _ _ inside
+
+    chosen-for : chosen ≡ schemaFor (schemaAt modelTask n)
+    unfolding taskFor schemasFor padded schemaAt
+    chosen-for =
+        let schemas : List model.Schema = modelTask .schemas in
+        let within-kept : n < length (map schemaFor schemas) = (let l = length-map schemas schemaFor in let i = inside in omega arith) in
+        ap (λ (t : Task). getD (t .schemas .schemas) n blankSchema) (kept .kept)
+        ∙ List·getD-append (map schemaFor schemas) _ blankSchema n within-kept
+        ∙ getD-default (map schemaFor schemas) n blankSchema (schemaFor _) within-kept
+        ∙ List·getD-map schemaFor schemas n (record { parameters = 0; preconditions = []; deletes = []; adds = [] })
+
+    passes : checkSchema arities (schemaAt modelTask n) ≡ accepted tt
+    unfolding checkTask taskOf schemaAt
+    passes =
+        let e₂ = need-then _ 2 _ tt (kept .checks) in
+        let e₃ = need-then _ 2 _ tt e₂ in
+        let e₄ = need-then _ 3 _ tt e₃ in
+        let e₅ = need-then _ 4 _ tt e₄ in
+        each-passed (checkSchema arities) none (modelTask .schemas) (first-passed _ _ tt e₅) (schemaAt modelTask n) (mem-getD (modelTask .schemas) n _ inside)
+
+    pub chosen-kept : SchemaKept arities chosen
+    unfolding schemaFor taskOf
+    chosen-kept =
+        let schema-right : CheckedSchema arities (schemaAt modelTask n) = schemaAt-right modelTask right n inside in
+        record {
+          checks = ap (checkSchema arities) chosen-is ∙ passes;
+          preconditions = subst ListKept (sym (ap (λ (s : Schema). s .preconditions) chosen-for)) (list-kept _ (schema-right .preconditions-right .few));
+          deletes = subst ListKept (sym (ap (λ (s : Schema). s .deletes) chosen-for)) (list-kept _ (schema-right .deletes-right .few));
+          adds = subst ListKept (sym (ap (λ (s : Schema). s .adds) chosen-for)) (list-kept _ (schema-right .adds-right .few));
+        }
+
+  -- the facts, and room for their numbers
+  pub fact-count : task .facts .count ≡ length (modelTask .facts)
+  unfolding taskOf taskFor factsFor
+  fact-count = ap (λ (t : Task). t .facts .count) (kept .kept)
+
+  pub few-facts : task .facts .count ≤ 512
+  few-facts = let n = fact-count in let few = right .few-facts in omega arith
+
+  pub facts-kept : (numbers : List ℕ) → task .facts .count ≤ length numbers → FactsRight arities (task .facts) numbers
+  unfolding taskOf taskFor factsFor
+  facts-kept numbers room = record {
+    right = task-shape .right;
+    few = few-facts;
+    size =
+        ap (λ (t : Task). length (t .facts .facts)) (kept .kept)
+        ∙ length-padded 512 blankAtom (map atomFor (modelTask .facts)) (let n = length-map (modelTask .facts) atomFor in let few = right .few-facts in omega arith);
+    predicates-known =
+        all-intro _ (modelTask .facts) (λ f m. known-predicate arities (task .objects) f
+        (all-at (known arities (task .objects)) (modelTask .facts) (right .facts-right .facts-known) f m));
+    room = room;
+  }
+
+  pub facts-known : all (known arities (task .objects)) (modelTask .facts) ≡ true
+  unfolding taskOf
+  facts-known = right .facts-right .facts-known

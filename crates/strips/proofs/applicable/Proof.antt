@@ -1,0 +1,47 @@
+-- The preconditions, with the action's objects, are looked for.
+use borrow.Author.Needs.{needs}
+use Prim.Native.Nat.{ℕ, _≤_}
+use mathlib.Core.Path.{_≡_, refl, sym, ap, _∙_}
+use mathlib.Core.List.{List, map}
+use native.Mathlib.Omega.{arith}
+use lib.ListN.{length}
+use Rattle.laws.specs.Lists.{all, member}
+use Rattle.model.specs.Strips.{ground}
+use Rattle.card.specs.Represents.{atomsOf, schemaOf}
+use Rattle.strips.specs.Stages.{allHeld}
+use Rattle.strips.proofs.Numbers.{length-grounds, kept-within, kept-numbers}
+use Rattle.strips.proofs.applicable.Statement.{statement}
+use Rattle.strips.proofs.applicable.Tie as tie
+
+-- at most eight facts
+few : (c : tie.Start) → length (map (ground (c .args .objects .now)) (atomsOf (c .args .arities .now) (c .args .schema .preconditions))) ≤ 8
+few c =
+    let size = length-grounds (c .args .arities .now) (c .args .objects .now) (c .args .schema .preconditions) (c .pre .1) in
+    let some = c .pre .1 .few in
+    omega arith
+
+grounded-requires : tie.Need-grounded-requires
+grounded-requires c κs = search needs
+
+sub-all-in : tie.Need-sub-all-in
+sub-all-in c = search needs
+
+part-all-in-start : tie.Need-part-all-in-start
+part-all-in-start c = search needs
+
+part-all-in-end : tie.Need-part-all-in-end
+part-all-in-end c = kept-within _ _ (c .before .before .grounded .ensures) (few (c .before .before .before .before .before .before .before))
+
+all-in-requires : tie.Need-all-in-requires
+all-in-requires c κs = search needs
+
+returns : tie.Need-returns
+unfolding allHeld schemaOf
+returns c =
+    let start = c .before .before .before .before .before .before .before .before .before in
+    c .all-in .ensures ∙ ap (all (λ n. member n (start .args .numbers .now))) (kept-numbers _ _ (c .before .before .before .before .grounded .ensures) (few start))
+
+pub applicable-spec : {M : Type 1} → statement M
+applicable-spec =
+    tie.close
+    (tie.spec grounded-requires sub-all-in part-all-in-start part-all-in-end all-in-requires returns)

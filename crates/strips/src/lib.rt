@@ -1,0 +1,197 @@
+// The initial state and applying an action, on a state in a lent buffer.
+use actions::all_different;
+use actions::all_in;
+use actions::all_known;
+use actions::fact_numbers;
+use actions::grounded;
+use actions::put_in;
+use actions::taken_out;
+use card::Refusal;
+use card::Schema;
+use card::Task;
+use card::Verdict;
+use reader::decode;
+use sets::insert_all;
+use sets::remove_all;
+use state::load;
+use state::store;
+use state::well_formed;
+ghost use Prim.Native.Nat.{ℕ, _≤_, _<_};
+ghost use mathlib.Core.Bool.{true};
+ghost use mathlib.Core.Path.{_≡_};
+ghost use mathlib.Core.List.{map, _++_};
+ghost use lib.ListN.{length, getD, take, drop};
+ghost use Rattle.model.specs.Strips.{factsIn};
+ghost use Rattle.card.specs.Represents.{schemaOf, taskOf};
+ghost use Rattle.sets.specs.Numbers.{rising, Becomes};
+ghost use Rattle.strips.specs.Answers.{Opens, Applies};
+ghost use Rattle.strips.specs.Stages.{Does, leaving, changed, bound, pressTask, initialTask, allHeld, nextNumbers};
+ghost use Rattle.strips.specs.Stages.{Ready, NextReady, StateKept, SchemaKept, TaskKept};
+ghost use Rattle.actions.specs.Grounds.{Bound};
+
+// What the opening call and applying an action answer: the number of facts, or why not. A refusal of the card is handed through.
+pub enum Applied {
+    Count(usize),
+    CardRefused(Refusal),
+    StateMalformed,
+    SchemaUnknown,
+    ObjectsWrong,
+    ObjectsRepeated,
+    PreconditionMissing,
+    StateFull,
+}
+
+// The numbers of the next state, from those of the state: what the action takes out goes, then what it puts in comes.
+fn next_numbers(
+    numbers: &mut [u32],
+    count: usize,
+    schema: Schema,
+    arities: &[u8],
+    objects: &[u8],
+) -> usize
+    requires { ⌜ NextReady (now arities) (now objects) schema (now numbers) count ⌝ }
+    ensures { λ r. ⌜ Becomes (nextNumbers (schemaOf (now (arities .entry)) schema) (now (objects .entry)) (take count (now (numbers .entry)))) (now (numbers .entry)) (now (numbers .exit)) r ⌝ }
+{
+    let out = taken_out(schema, arities, objects);
+    let out_count = out.count;
+    let out_numbers = out.numbers;
+    let left = remove_all(numbers, count, &out_numbers[0..out_count]);
+    let new = put_in(schema, arities, objects);
+    let new_count = new.count;
+    let new_numbers = new.numbers;
+    insert_all(numbers, left, &new_numbers[0..new_count])
+}
+
+// Every precondition is in the state.
+fn applicable(numbers: &[u32], schema: Schema, arities: &[u8], objects: &[u8]) -> bool
+    requires { ⌜ (rising 0 (now numbers) ≡ true) × Bound (now arities) (now objects) (schema .preconditions) ⌝ }
+    ensures { λ r. ⌜ r ≡ allHeld (schemaOf (now (arities .entry)) schema) (now (objects .entry)) (now (numbers .entry)) ⌝ }
+{
+    let preconditions = schema.preconditions;
+    let needed = grounded(preconditions, arities, objects);
+    let needed_count = needed.count;
+    let needed_numbers = needed.numbers;
+    all_in(numbers, &needed_numbers[0..needed_count])
+}
+
+// 19 and 20. Nothing is written before the last check.
+fn apply_bound(
+    schema: Schema,
+    arities: &[u8],
+    state: &mut [u8],
+    count: usize,
+    objects: &[u8],
+) -> Applied
+    requires { ⌜ Ready (now arities) (now objects) schema (now state) count ⌝ }
+    ensures { λ r. ⌜ Does (leaving (now (state .entry)) (changed (schemaOf (now (arities .entry)) schema) (now (objects .entry)) (factsIn (now (arities .entry)) count (now (state .entry))))) (now (state .exit)) r ⌝ }
+{
+    let mut numbers = [0u32; 1032];
+    load(state, count, &mut numbers);
+    if !applicable(&numbers[0..count], schema, arities, objects) {
+        return Applied::PreconditionMissing;
+    }
+    let next = next_numbers(&mut numbers, count, schema, arities, objects);
+    if 1024 < next {
+        return Applied::StateFull;
+    }
+    store(state, &numbers[0..next]);
+    Applied::Count(next)
+}
+
+// 17 to 20: the objects first.
+fn apply_schema(
+    schema: Schema,
+    arities: &[u8],
+    known: usize,
+    state: &mut [u8],
+    count: usize,
+    objects: &[u8],
+) -> Applied
+    requires { ⌜ (StateKept (now arities) known (now state) count) × (SchemaKept (now arities) schema) ⌝ }
+    ensures { λ r. ⌜ Does (leaving (now (state .entry)) (bound known (schemaOf (now (arities .entry)) schema) (now (objects .entry)) (factsIn (now (arities .entry)) count (now (state .entry))))) (now (state .exit)) r ⌝ }
+{
+    let parameters = schema.parameters;
+    if objects.len() != parameters {
+        return Applied::ObjectsWrong;
+    }
+    if !all_known(objects, known) {
+        return Applied::ObjectsWrong;
+    }
+    if !all_different(objects) {
+        return Applied::ObjectsRepeated;
+    }
+    apply_bound(schema, arities, state, count, objects)
+}
+
+// 15 to 20, for a task: the state first, then the schema.
+fn apply_task(task: Task, state: &mut [u8], count: usize, schema: usize, objects: &[u8]) -> Applied
+    requires { ⌜ TaskKept task ⌝ }
+    ensures { λ r. ⌜ Does (pressTask (taskOf task) (now (state .entry)) count (record { schema = schema; objects = now (objects .entry) })) (now (state .exit)) r ⌝ }
+{
+    let predicates = task.predicates;
+    let predicate_count = predicates.count;
+    let arities = predicates.arities;
+    let known = task.objects;
+    if !well_formed(state, count, &arities[0..predicate_count], known) {
+        return Applied::StateMalformed;
+    }
+    let schemas = task.schemas;
+    let schema_count = schemas.count;
+    if schema_count <= schema {
+        return Applied::SchemaUnknown;
+    }
+    let chosen = schemas.schemas[schema];
+    apply_schema(
+        chosen,
+        &arities[0..predicate_count],
+        known,
+        state,
+        count,
+        objects,
+    )
+}
+
+// The opening call for a task: its facts are stored.
+fn open_task(task: Task, state: &mut [u8]) -> Applied
+    requires { ⌜ TaskKept task ⌝ }
+    ensures { λ r. ⌜ Does (initialTask (taskOf task) (now (state .entry))) (now (state .exit)) r ⌝ }
+{
+    if state.len() < 4096 {
+        return Applied::StateMalformed;
+    }
+    let predicates = task.predicates;
+    let predicate_count = predicates.count;
+    let arities = predicates.arities;
+    let facts = task.facts;
+    let count = facts.count;
+    let mut numbers = [0u32; 512];
+    fact_numbers(facts, &arities[0..predicate_count], &mut numbers);
+    store(state, &numbers[0..count]);
+    Applied::Count(count)
+}
+
+// The opening call: the initial state of a card's task is written to the buffer, and its count is answered.
+pub fn initial(card: &[u8], state: &mut [u8]) -> Applied
+    ensures { λ r. ⌜ Opens (now (card .entry)) (now (state .entry)) (now (state .exit)) r ⌝ }
+{
+    let decoded = decode(card);
+    let verdict = decoded.verdict;
+    let task = decoded.task;
+    match verdict {
+        Verdict::Refused(refusal) => Applied::CardRefused(refusal),
+        Verdict::Accepted => open_task(task, state),
+    }
+}
+
+// An action is applied to the state in the buffer, and the next state's count is answered. A refusal alters no byte.
+pub fn apply(card: &[u8], state: &mut [u8], count: usize, schema: usize, objects: &[u8]) -> Applied
+    ensures { λ r. ⌜ Applies (now (card .entry)) (now (state .entry)) count (record { schema = schema; objects = now (objects .entry) }) (now (state .exit)) r ⌝ }
+{
+    let decoded = decode(card);
+    let verdict = decoded.verdict;
+    let task = decoded.task;
+    match verdict {
+        Verdict::Refused(refusal) => Applied::CardRefused(refusal),
+        Verdict::Accepted => apply_task(task, state, count, schema, objects),
+    }
+}
