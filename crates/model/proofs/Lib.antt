@@ -12,6 +12,7 @@ pub mod Putting
 pub mod Binding
 pub mod Checked
 pub mod Effect
+pub mod RuleCount
 pub mod Choices
 pub mod OwnLists
 pub mod Chain
