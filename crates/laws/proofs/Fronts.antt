@@ -1,10 +1,10 @@
 -- Front parts of lists, as a loop passes over a list: what one more element adds to a front part, to its sum, and to an array filled from the front.
-use Prim.Native.Nat.{ℕ, zero, suc, _+_, _-_, _*_, _≤_, _<_}
-use native.Mathlib.Nat.{zero-add, suc-add, not-suc-le-zero, le-of-suc-le-suc}
+use Prim.Native.Nat.{ℕ, zero, suc, _+_, _-_, _<_}
+use native.Mathlib.Nat.{zero-add}
 use native.Mathlib.Omega.{arith}
-use mathlib.Core.Path.{_≡_, refl, sym, ap, _∙_, subst}
+use mathlib.Core.Path.{_≡_, refl, sym, ap, _∙_}
 use mathlib.Core.List.{List, [], _∷_, _++_, map, append-assoc}
-use lib.ListN.{length, getD, take, drop, set, replicate, length-map, length-append, length-replicate}
+use lib.ListN.{length, getD, take, set, replicate, length-map}
 use lib.Seq.{take-suc, set-at}
 use Rattle.laws.specs.Lists.{from, upTo, sum}
 use Rattle.laws.proofs.Lists.{length-upTo}

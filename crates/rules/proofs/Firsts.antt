@@ -1,18 +1,16 @@
 -- Where the properties of each predicate begin, as a loop over the arities finds it.
-use Prim.Native.Nat.{ℕ, zero, suc, _+_, _-_, _≤_, _<_}
+use Prim.Native.Nat.{ℕ, suc, _+_, _-_, _≤_, _<_}
 use native.Mathlib.Omega.{arith}
-use mathlib.Core.Path.{_≡_, refl, sym, ap, _∙_, subst}
-use mathlib.Core.List.{List, [], _∷_, _++_, map}
+use mathlib.Core.Path.{_≡_, refl, sym, ap, _∙_}
+use mathlib.Core.List.{List, _++_, map}
 use lib.ListN.{length, getD, take, set, replicate, length-map}
 use lib.Seq.{take-take, length-take-le}
 use Rattle.laws.specs.Lists.{from, upTo, sum}
 use Rattle.laws.proofs.Lists.{length-upTo, upTo-at}
 use Rattle.laws.proofs.Counting.{map-ext}
 use Rattle.laws.proofs.Fronts.{fill-next, sum-take-next}
-use Rattle.model.specs.Transitions.{propertiesFrom}
 use Rattle.model.proofs.RuleCount.{length-properties}
 use Rattle.card.specs.Represents.{padded}
-use Rattle.rules.specs.declared.Numbering.{Numbering}
 use Rattle.rules.specs.Represented.{firstProperties, Numbers}
 
 -- what the loop has after n predicates: the number of their properties, and where those of each begin

@@ -1,7 +1,6 @@
 -- A task as the code has it: the struct of an accepted task of the model, and what that says of its parts.
-use Prim.Native.Nat.{ℕ, _≤_}
+use Prim.Native.Nat.{ℕ}
 use mathlib.Core.Path.{_≡_}
-use mathlib.Core.Bool.{true}
 use mathlib.Core.List.{List, map}
 use lib.ListN.{length, take}
 use Rattle.laws.specs.Lists.{sum, upTo}
