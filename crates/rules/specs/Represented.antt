@@ -1,15 +1,20 @@
 -- A task as the code has it: the struct of an accepted task of the model, and what that says of its parts.
-use Prim.Native.Nat.{ℕ}
+use Prim.Native.Nat.{ℕ, _≤_}
 use mathlib.Core.Path.{_≡_}
+use mathlib.Core.Bool.{true}
 use mathlib.Core.List.{List, map}
+use lib.Dec.{ltb}
 use lib.ListN.{length, take}
-use Rattle.laws.specs.Lists.{sum, upTo}
+use Rattle.laws.specs.Lists.{all, sum, upTo}
 use Rattle.model.specs.Answer.{accepted}
 use Rattle.model.specs.Card as model
+use Rattle.model.specs.Card.{between}
 use Rattle.model.specs.Writer.{checkTask}
 use Rattle.model.specs.Transitions.{propertiesFrom}
+use Rattle.card.specs.declared.ArityList.{ArityList}
+use Rattle.card.specs.declared.AtomList.{AtomList}
 use Rattle.card.specs.declared.Task.{Task}
-use Rattle.card.specs.Represents.{taskFor, padded}
+use Rattle.card.specs.Represents.{taskFor, padded, aritiesOf, atomsOf}
 use Rattle.rules.specs.declared.Numbering.{Numbering}
 
 -- the struct stands for the task, and a card can carry the task
@@ -25,3 +30,14 @@ firstProperties arities = map (λ p. sum (take p arities)) (upTo (length arities
 pub record Numbers (arities : List ℕ) (r : Numbering) : Type 0 where
   pub counted : r .count ≡ length (propertiesFrom 0 arities)
   pub firsts : r .firsts ≡ padded 20 0 (firstProperties arities)
+
+-- What the parts of such a task are, as far as a function that is handed one of them asks it.
+-- the arities of a task's predicates
+pub record AritiesRight (l : ArityList) : Type 0 where
+  pub few : l .count ≤ 20
+  pub in-range : all (between 1 3) (aritiesOf l) ≡ true
+
+-- a list of atoms of such predicates
+pub record AtomsRight (arities : List ℕ) (l : AtomList) : Type 0 where
+  pub few : l .count ≤ 8
+  pub predicates-known : all (λ a. ltb (a .predicate) (length arities)) (atomsOf arities l) ≡ true

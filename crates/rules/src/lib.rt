@@ -1,10 +1,17 @@
 // Properties, the bags of parameters and objects, and the transition rules of a task, in tables of rows.
 
 use card::ArityList;
+use card::Atom;
+use card::AtomList;
+ghost use mathlib.Core.List.{[], _∷_};
 ghost use mathlib.Core.Path.{_≡_};
-ghost use Prim.Native.Nat.{_≤_};
-ghost use Rattle.card.specs.Represents.{aritiesOf};
-ghost use Rattle.rules.specs.Represented.{Numbers};
+ghost use Prim.Native.Nat.{ℕ, _+_, _≤_, _<_};
+ghost use lib.ListN.{length, getD, take};
+ghost use Rattle.model.specs.Transitions.{propertiesFrom, bagOf};
+ghost use Rattle.card.specs.Represents.{aritiesOf, atomsOf, padded};
+ghost use Rattle.rules.specs.Represented.{Numbers, AritiesRight, AtomsRight, firstProperties};
+ghost use Rattle.rules.specs.Tables.{row};
+ghost use Rattle.rules.specs.Tallies.{marked, tallied};
 
 // How properties are numbered: how many there are, and the number of each predicate's first one.
 pub struct Numbering {
@@ -33,4 +40,52 @@ pub fn numbered(predicates: ArityList) -> Numbering
         p = p + 1;
     }
     Numbering { count, firsts }
+}
+
+// Counts one argument: the property at `place` is x's if the argument is x.
+fn count_argument(bag: &mut [u8], place: usize, argument: u8, x: u8)
+    requires { ⌜ place < length (now bag) ⌝ }
+    requires { ⌜ getD (now bag) place 0 < 255 ⌝ }
+    ensures { λ _. ⌜ now (bag .exit) ≡ marked x argument place (now (bag .entry)) ⌝ }
+{
+    if x == argument {
+        bag[place] = bag[place] + 1;
+    }
+}
+
+// Counts an atom: the properties of its predicate begin at `first`, and it has `arity` arguments.
+fn count_atom(bag: &mut [u8], first: usize, a: Atom, arity: usize, x: u8)
+    requires { ⌜ (1 ≤ arity) × (arity ≤ 3) × (first + arity ≤ length (now bag)) ⌝ }
+    requires { ⌜ ((i : ℕ) → getD (now bag) i 0 < 255) ⌝ }
+    ensures { λ _. ⌜ now (bag .exit) ≡ tallied x first (take arity (a .first ∷ a .second ∷ a .third ∷ [])) (now (bag .entry)) ⌝ }
+{
+    count_argument(bag, first, a.first, x);
+    if arity < 2 {
+        return;
+    }
+    count_argument(bag, first + 1, a.second, x);
+    if arity < 3 {
+        return;
+    }
+    count_argument(bag, first + 2, a.third, x);
+}
+
+// The bag of a parameter over a list of atoms, as a row.
+fn bag_of_parameter(atoms: AtomList, predicates: ArityList, firsts: [usize; 20], k: u8) -> [u8; 60]
+    requires { ⌜ AritiesRight predicates ⌝ }
+    requires { ⌜ AtomsRight (aritiesOf predicates) atoms ⌝ }
+    requires { ⌜ firsts ≡ padded 20 0 (firstProperties (aritiesOf predicates)) ⌝ }
+    ensures { λ r. ⌜ r ≡ row (bagOf (propertiesFrom 0 (aritiesOf predicates)) (atomsOf (aritiesOf predicates) atoms) k) ⌝ }
+{
+    let n = atoms.count;
+    let mut bag = [0u8; 60];
+    let mut i: usize = 0;
+    while i < n {
+        let a = atoms.atoms[i];
+        let p = wide(a.predicate);
+        let arity = wide(predicates.arities[p]);
+        count_atom(&mut bag, firsts[p], a, arity, k);
+        i = i + 1;
+    }
+    bag
 }

@@ -1,0 +1,25 @@
+-- What one pass over an atom's arguments does to the counts of a bag, and to a table of the bags of all objects.
+use Prim.Native.Nat.{ℕ, suc, _+_, _*_}
+use mathlib.Core.Bool.{cond}
+use mathlib.Core.List.{List, [], _∷_}
+use lib.Dec.{eqb}
+use lib.ListN.{getD, set}
+use Rattle.rules.specs.Tables.{stride}
+
+-- one more at a place
+unfoldable pub raised : List ℕ → ℕ → List ℕ
+raised counts place = set counts place (getD counts place 0 + 1)
+
+-- one more at a place if the argument there is x
+unfoldable pub marked : ℕ → ℕ → ℕ → List ℕ → List ℕ
+marked x argument place counts = cond (eqb x argument) (raised counts place) counts
+
+-- the bag of x after an atom with these arguments, the number of whose first property is `first`
+unfoldable pub tallied : ℕ → ℕ → List ℕ → List ℕ → List ℕ
+tallied x first [] bag = bag
+tallied x first (argument ∷ arguments) bag = tallied x (suc first) arguments (marked x argument first bag)
+
+-- the table of all objects' bags after such an atom: the object in each argument counts it in its own row
+unfoldable pub entered : ℕ → List ℕ → List ℕ → List ℕ
+entered first [] table = table
+entered first (object ∷ objects) table = entered (suc first) objects (raised table (stride * object + first))
