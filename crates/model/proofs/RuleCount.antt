@@ -41,7 +41,7 @@ length-properties p (arity ∷ arities) =
     ∙ omega (arith, length-block p arity, length-properties (suc p) arities)
 
 -- a sum of small numbers
-sum-all : (n : ℕ) (xs : List ℕ) → all (between 1 n) xs ≡ true → sum xs ≤ n * length xs
+pub sum-all : (n : ℕ) (xs : List ℕ) → all (between 1 n) xs ≡ true → sum xs ≤ n * length xs
 sum-all n xs h = subst (λ (l : List ℕ). sum l ≤ n * length xs) (map-same xs) (sum-at-most (λ x. x) n xs (λ x m. between-high 1 n x (all-at (between 1 n) xs h x m)))
   where
     map-same : (xs : List ℕ) → map (λ x. x) xs ≡ xs

@@ -1,3 +1,5 @@
 pub mod Firsts
 pub mod Rows
 pub mod Tally
+pub mod Predicates
+pub mod ParameterBag

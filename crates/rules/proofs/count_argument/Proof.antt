@@ -3,12 +3,9 @@ use mathlib.Core.Path.{sym}
 use borrow.Author.Tests.{eq-eqb, ne-eqb}
 use Rattle.laws.proofs.Tests.{cond-true, cond-false}
 use Rattle.rules.specs.Tallies.{marked, raised}
-use native.Mathlib.Omega.{arith}
 use borrow.Author.Needs.{needs}
 use Rattle.rules.proofs.count_argument.Statement.{statement}
 use Rattle.rules.proofs.count_argument.Tie as tie
-use Rattle.rules.proofs.count_argument.Reads as reads
-use Rattle.rules.proofs.count_argument.Lts as lts
 
 slice-read-bag : tie.Need-slice-read-bag
 slice-read-bag c = search needs

@@ -6,9 +6,6 @@ use native.Mathlib.Omega.{arith}
 use borrow.Author.Needs.{needs}
 use Rattle.rules.proofs.count_atom.Statement.{statement}
 use Rattle.rules.proofs.count_atom.Tie as tie
-use Rattle.rules.proofs.count_atom.Reads as reads
-use Rattle.rules.proofs.count_atom.Lts as lts
-use Rattle.rules.proofs.count_argument.Reads as count-argument-reads
 
 count-argument-requires : tie.Need-count-argument-requires
 count-argument-requires c κs = (omega arith, c .before .before .pre .1 (c .before .before .args .first))
@@ -50,7 +47,7 @@ count-argument-requires-3 c κs =
     let one = c .before .before .before .before .before .before .before .before .before .count-argument in
     let two = c .before .before .before .before .count-argument2 in
     let r = room-next (s .args .x) (s .args .a .first) (s .args .first) (s .args .first + 2) (now (s .args .bag)) (one .last .0)
-        (one .ensures) (omega arith) (omega arith) (s .pre .1 (s .args .first + 2)) in
+    (one .ensures) (omega arith) (omega arith) (s .pre .1 (s .args .first + 2)) in
     room-next (s .args .x) (s .args .a .second) (s .args .first + 1) (s .args .first + 2) (one .last .0) (two .last .0)
     (two .ensures) (omega arith) (r .0) (r .1)
 
