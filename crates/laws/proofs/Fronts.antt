@@ -1,13 +1,13 @@
 -- Front parts of lists, as a loop passes over a list: what one more element adds to a front part, to its sum, and to an array filled from the front.
 use Prim.Native.Nat.{ℕ, zero, suc, _+_, _-_, _≤_, _<_, zero-le, suc-le-suc}
-use native.Mathlib.Nat.{zero-add, not-suc-le-zero, le-of-suc-le-suc}
+use native.Mathlib.Nat.{zero-add, not-suc-le-zero, le-of-suc-le-suc, le-refl}
 use native.Mathlib.Omega.{arith}
-use mathlib.Core.Path.{_≡_, refl, sym, ap, _∙_}
+use mathlib.Core.Path.{_≡_, refl, sym, ap, _∙_, subst}
 use mathlib.Core.List.{List, [], _∷_, _++_, map, append-assoc}
-use lib.Dec.{ltb}
-use lib.ListN.{length, getD, take, set, replicate, length-map}
-use lib.Seq.{take-suc, set-at}
-use borrow.Author.Tests.{ltb-true, ltb-false}
+use lib.Dec.{ltb, eqb}
+use lib.ListN.{length, getD, take, set, replicate, length-map, length-set}
+use lib.Seq.{take-suc, set-at, getD-set-same, getD-set-other, ext-getD}
+use borrow.Author.Tests.{ltb-true, ltb-false, eqb-true, eqb-false}
 use Rattle.laws.specs.Lists.{from, upTo, sum}
 use Rattle.laws.proofs.Tests.{by-test}
 use Rattle.laws.proofs.Lists.{length-upTo}
@@ -95,3 +95,42 @@ located (size ∷ sizes) c h =
     by-test (ltb c size)
     (λ e. record { block = 0; position = c; block-there = omega arith; inside = ltb-true c size e; place = sym (zero-add c) })
     (λ e. let k = ltb-false c size e in behind size sizes c k (located sizes (c - size) (omega arith)))
+
+-- An array that a loop works over from the front, place by place: new numbers in the places passed, old ones in those ahead.
+pub record Reworked (new old : ℕ → ℕ) (size i : ℕ) (l : List ℕ) : Type 0 where
+  pub sized : length l ≡ size
+  pub done : (j : ℕ) → j < i → getD l j 0 ≡ new j
+  pub ahead : (j : ℕ) → i ≤ j → getD l j 0 ≡ old j
+
+module _ (new old : ℕ → ℕ) (size : ℕ) where
+  -- before the first place
+  pub rework-start : (l : List ℕ) → length l ≡ size → ((j : ℕ) → getD l j 0 ≡ old j) → Reworked new old size 0 l
+  rework-start l e h = record { sized = e; done = λ j k. absurd (not-suc-le-zero k); ahead = λ j k. h j }
+
+  -- a place is set, or stays where the old number is the new one
+  pub rework-set : (i v : ℕ) (l : List ℕ) → i < size → v ≡ new i → Reworked new old size i l → Reworked new old size (i + 1) (set l i v)
+  rework-set i v l h e r = record {
+    sized = length-set l i v ∙ r .sized;
+    done =
+        λ j k. by-test (eqb j i)
+            (λ t. let p = eqb-true j i t in
+            subst (λ (m : ℕ). getD (set l i v) m 0 ≡ new m) (sym p)
+            (getD-set-same l i v 0 (subst (λ (n : ℕ). i < n) (sym (r .sized)) h) ∙ e))
+            (λ t. let p = eqb-false j i t in getD-set-other l i j v 0 p ∙ r .done j (omega arith));
+    ahead = λ j k. getD-set-other l i j v 0 (λ p. omega arith) ∙ r .ahead j (omega arith);
+  }
+
+  pub rework-keep : (i : ℕ) (l : List ℕ) → old i ≡ new i → Reworked new old size i l → Reworked new old size (i + 1) l
+  rework-keep i l e r = record {
+    sized = r .sized;
+    done =
+        λ j k. by-test (eqb j i)
+            (λ t. let p = eqb-true j i t in subst (λ (m : ℕ). getD l m 0 ≡ new m) (sym p) (r .ahead i (le-refl i) ∙ e))
+            (λ t. let p = eqb-false j i t in r .done j (omega arith));
+    ahead = λ j k. r .ahead j (omega arith);
+  }
+
+  -- after the last place
+  pub rework-end : (i : ℕ) (l m : List ℕ) → size ≤ i → length m ≡ size → ((j : ℕ) → getD m j 0 ≡ new j) → Reworked new old size i l → l ≡ m
+  rework-end i l m h e same r =
+      ext-getD 0 l m (r .sized ∙ sym e) (λ j k. r .done j (let s = r .sized in omega arith) ∙ sym (same j))

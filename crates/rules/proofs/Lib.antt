@@ -3,3 +3,4 @@ pub mod Rows
 pub mod Tally
 pub mod Predicates
 pub mod ParameterBag
+pub mod Appending

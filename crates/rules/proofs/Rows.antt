@@ -3,9 +3,14 @@ use Prim.Native.Nat.{ℕ, zero, suc, _+_, _-_, _≤_, _<_}
 use native.Mathlib.Omega.{arith}
 use mathlib.Core.Path.{_≡_, refl, sym, _∙_, subst}
 use mathlib.Core.List.{List, [], _∷_, _++_}
-use lib.ListN.{length, getD, replicate, length-append, length-replicate}
-use lib.Seq.{ext-getD}
-use Rattle.laws.specs.Bags.{Bag}
+use mathlib.Core.Bool.{false}
+use lib.Dec.{eqb}
+use lib.ListN.{length, getD, set, replicate, length-append, length-replicate, length-set}
+use lib.Seq.{ext-getD, getD-set-same, getD-set-other}
+use borrow.Author.Tests.{eqb-true, eqb-false}
+use Rattle.laws.specs.Bags.{Bag, single, isEmpty}
+use Rattle.laws.proofs.Tests.{by-test}
+use Rattle.laws.proofs.Bags.{bag-ext, length-single, single-here, single-elsewhere, isEmpty-at}
 use Rattle.rules.specs.Tables.{row}
 
 -- zeros behind a list of numbers change no number
@@ -36,3 +41,21 @@ row-ext l b e h same =
 -- the row of 60 counts is these
 pub row-whole : (b : Bag) → length b ≡ 60 → row b ≡ b
 row-whole b e = sym (row-ext b b e (omega arith) (λ i h. refl))
+
+-- one occurrence, set among zeros
+pub one-set : (c : ℕ) → c < 60 → set (replicate 60 0) c 1 ≡ single 60 c
+one-set c h =
+    bag-ext 60 (set (replicate 60 0) c 1) (single 60 c) (length-set (replicate 60 0) c 1 ∙ length-replicate {A = ℕ} 60 0) (length-single 60 c)
+    (λ i k.
+    by-test (eqb c i)
+    (λ e.
+    let p = eqb-true c i e in
+    subst (λ (j : ℕ). getD (set (replicate 60 0) c 1) j 0 ≡ getD (single 60 c) j 0) p
+    (getD-set-same (replicate 60 0) c 1 0 (omega (arith, length-replicate {A = ℕ} 60 0)) ∙ sym (single-here 60 c h)))
+    (λ e.
+    let p = eqb-false c i e in
+    getD-set-other (replicate 60 0) c i 1 0 (λ q. p (sym q)) ∙ getD-zeros 60 i ∙ sym (single-elsewhere 60 c i k p)))
+
+-- a count above 0
+pub not-empty : (b : Bag) (i : ℕ) → 0 < getD b i 0 → isEmpty b ≡ false
+not-empty b i h = by-test (isEmpty b) (λ e. absurd (omega (arith, isEmpty-at b e i))) (λ e. e)

@@ -5,12 +5,14 @@ use card::Atom;
 use card::AtomList;
 ghost use mathlib.Core.List.{[], _∷_};
 ghost use mathlib.Core.Path.{_≡_};
-ghost use Prim.Native.Nat.{ℕ, _+_, _≤_, _<_};
+ghost use Prim.Native.Nat.{ℕ, _+_, _*_, _≤_, _<_};
 ghost use lib.ListN.{length, getD, take};
+ghost use Rattle.laws.specs.Bags.{less, meet, isEmpty, single};
 ghost use Rattle.model.specs.Transitions.{propertiesFrom, bagOf};
 ghost use Rattle.card.specs.Represents.{aritiesOf, atomsOf, padded};
 ghost use Rattle.rules.specs.Represented.{Numbers, AritiesRight, AtomsRight, firstProperties};
 ghost use Rattle.rules.specs.Tables.{row};
+ghost use Rattle.rules.specs.Appended.{rowsAt};
 ghost use Rattle.rules.specs.Tallies.{marked, tallied};
 
 // How properties are numbered: how many there are, and the number of each predicate's first one.
@@ -88,4 +90,70 @@ fn bag_of_parameter(atoms: AtomList, predicates: ArityList, firsts: [usize; 20],
         i = i + 1;
     }
     bag
+}
+
+// Writes a row of counts as row number n.
+fn put_row(table: &mut [u8], n: usize, counts: [u8; 60])
+    requires { ⌜ 60 * (n + 1) ≤ length (now table) ⌝ }
+    ensures { λ _. ⌜ now (table .exit) ≡ rowsAt n (counts ∷ []) (now (table .entry)) ⌝ }
+{
+    let start = n * 60;
+    let mut i: usize = 0;
+    while i < 60 {
+        table[start + i] = counts[i];
+        i = i + 1;
+    }
+}
+
+// The counts of a less those of b.
+fn less_row(a: [u8; 60], b: [u8; 60]) -> [u8; 60]
+    ensures { λ r. ⌜ r ≡ less a b ⌝ }
+{
+    let mut left = [0u8; 60];
+    let mut i: usize = 0;
+    while i < 60 {
+        if b[i] < a[i] {
+            left[i] = a[i] - b[i];
+        }
+        i = i + 1;
+    }
+    left
+}
+
+// What two bags have in common.
+fn meet_row(a: [u8; 60], b: [u8; 60]) -> [u8; 60]
+    ensures { λ r. ⌜ r ≡ meet a b ⌝ }
+{
+    let mut common = b;
+    let mut i: usize = 0;
+    while i < 60 {
+        if a[i] < b[i] {
+            common[i] = a[i];
+        }
+        i = i + 1;
+    }
+    common
+}
+
+// The bag of one occurrence of property c.
+fn single_row(c: usize) -> [u8; 60]
+    requires { ⌜ c < 60 ⌝ }
+    ensures { λ r. ⌜ r ≡ single 60 c ⌝ }
+{
+    let mut one = [0u8; 60];
+    one[c] = 1;
+    one
+}
+
+fn is_empty(counts: [u8; 60]) -> bool
+    ensures { λ r. ⌜ r ≡ isEmpty counts ⌝ }
+{
+    let mut i: usize = 0;
+    while i < 60 {
+        if counts[i] > 0 {
+            return false;
+        }
+        i = i + 1;
+    }
+    true
 }

@@ -1,0 +1,25 @@
+-- Tables with rows put in behind those already there.
+use Prim.Native.Nat.{ℕ, _+_, _*_, _≤_}
+use mathlib.Core.Path.{_≡_}
+use mathlib.Core.List.{List, _++_, map}
+use lib.ListN.{length, take, drop}
+use Rattle.laws.specs.Bags.{Bag}
+use Rattle.model.specs.Transitions.{Transition}
+use Rattle.rules.specs.Tables.{stride, rows}
+
+-- a table with rows written from row number n on, and what stood before and behind them
+unfoldable pub rowsAt : ℕ → List Bag → List ℕ → List ℕ
+rowsAt n bags before = take (stride * n) before ++ (rows bags ++ drop (stride * (n + length bags)) before)
+
+-- the three tables have room for so many rows
+pub record Room (count : ℕ) (enablers starts finishes : List ℕ) : Type 0 where
+  pub enablers-room : stride * count ≤ length enablers
+  pub starts-room : stride * count ≤ length starts
+  pub finishes-room : stride * count ≤ length finishes
+
+-- rules written behind the first n rows of the three tables, and the number of rows then
+pub record Appended (rules : List Transition) (n count : ℕ) (enablers starts finishes : List ℕ) (e s f : List ℕ) : Type 0 where
+  pub counted : count ≡ n + length rules
+  pub enablers-are : e ≡ rowsAt n (map (λ r. r .enablers) rules) enablers
+  pub starts-are : s ≡ rowsAt n (map (λ r. r .start) rules) starts
+  pub finishes-are : f ≡ rowsAt n (map (λ r. r .finish) rules) finishes
