@@ -4,3 +4,5 @@ pub mod Tally
 pub mod Predicates
 pub mod ParameterBag
 pub mod Appending
+pub mod EachProperty
+pub mod RuleSizes

@@ -3,13 +3,21 @@ use Prim.Native.Nat.{ℕ, _+_, _*_, _≤_}
 use mathlib.Core.Path.{_≡_}
 use mathlib.Core.List.{List, _++_, map}
 use lib.ListN.{length, take, drop}
-use Rattle.laws.specs.Bags.{Bag}
+use Rattle.laws.specs.Bags.{Bag, less, single, support}
 use Rattle.model.specs.Transitions.{Transition}
 use Rattle.rules.specs.Tables.{stride, rows}
 
 -- a table with rows written from row number n on, and what stood before and behind them
 unfoldable pub rowsAt : ℕ → List Bag → List ℕ → List ℕ
 rowsAt n bags before = take (stride * n) before ++ (rows bags ++ drop (stride * (n + length bags)) before)
+
+-- the rule from start to finish of a parameter with the preconditions p
+unfoldable pub ruleFrom : Bag → Bag → Bag → Transition
+ruleFrom p start finish = record { enablers = less p start; start = start; finish = finish }
+
+-- one rule for each property of finish
+unfoldable pub increasing : Bag → Bag → Bag → List Transition
+increasing p start finish = map (λ c. ruleFrom p start (single (length p) c)) (support finish)
 
 -- the three tables have room for so many rows
 pub record Room (count : ℕ) (enablers starts finishes : List ℕ) : Type 0 where

@@ -8,11 +8,11 @@ ghost use mathlib.Core.Path.{_≡_};
 ghost use Prim.Native.Nat.{ℕ, _+_, _*_, _≤_, _<_};
 ghost use lib.ListN.{length, getD, take};
 ghost use Rattle.laws.specs.Bags.{less, meet, isEmpty, single};
-ghost use Rattle.model.specs.Transitions.{propertiesFrom, bagOf};
+ghost use Rattle.model.specs.Transitions.{propertiesFrom, bagOf, exchanges, remaining, rulesOf};
 ghost use Rattle.card.specs.Represents.{aritiesOf, atomsOf, padded};
 ghost use Rattle.rules.specs.Represented.{Numbers, AritiesRight, AtomsRight, firstProperties};
 ghost use Rattle.rules.specs.Tables.{row};
-ghost use Rattle.rules.specs.Appended.{rowsAt};
+ghost use Rattle.rules.specs.Appended.{rowsAt, ruleFrom, increasing, Room, Appended};
 ghost use Rattle.rules.specs.Tallies.{marked, tallied};
 
 // How properties are numbered: how many there are, and the number of each predicate's first one.
@@ -156,4 +156,68 @@ fn is_empty(counts: [u8; 60]) -> bool
         i = i + 1;
     }
     true
+}
+
+// Writes the rule from start to finish as row number n of the three tables.
+fn put_rule(enablers: &mut [u8], starts: &mut [u8], finishes: &mut [u8], n: usize, p: [u8; 60], start: [u8; 60], finish: [u8; 60]) -> usize
+    requires { ⌜ Room (n + 1) (now enablers) (now starts) (now finishes) ⌝ }
+    ensures { λ r. ⌜ Appended (ruleFrom p start finish ∷ []) n r (now (enablers .entry)) (now (starts .entry)) (now (finishes .entry)) (now (enablers .exit)) (now (starts .exit)) (now (finishes .exit)) ⌝ }
+{
+    put_row(enablers, n, less_row(p, start));
+    put_row(starts, n, start);
+    put_row(finishes, n, finish);
+    n + 1
+}
+
+// A rule for each property of x: it is exchanged for itself.
+fn put_exchanges(enablers: &mut [u8], starts: &mut [u8], finishes: &mut [u8], n: usize, p: [u8; 60], x: [u8; 60]) -> usize
+    requires { ⌜ Room (n + length (exchanges p x)) (now enablers) (now starts) (now finishes) ⌝ }
+    ensures { λ r. ⌜ Appended (exchanges p x) n r (now (enablers .entry)) (now (starts .entry)) (now (finishes .entry)) (now (enablers .exit)) (now (starts .exit)) (now (finishes .exit)) ⌝ }
+{
+    let mut count = n;
+    for c in 0..60 {
+        if x[c] == 0 {
+            continue;
+        }
+        let one = single_row(c);
+        count = put_rule(enablers, starts, finishes, count, p, one, one);
+    }
+    count
+}
+
+// A rule for each property of finish, from an empty start.
+fn put_increasing(enablers: &mut [u8], starts: &mut [u8], finishes: &mut [u8], n: usize, p: [u8; 60], start: [u8; 60], finish: [u8; 60]) -> usize
+    requires { ⌜ Room (n + length (increasing p start finish)) (now enablers) (now starts) (now finishes) ⌝ }
+    ensures { λ r. ⌜ Appended (increasing p start finish) n r (now (enablers .entry)) (now (starts .entry)) (now (finishes .entry)) (now (enablers .exit)) (now (starts .exit)) (now (finishes .exit)) ⌝ }
+{
+    let mut count = n;
+    for c in 0..60 {
+        if finish[c] == 0 {
+            continue;
+        }
+        let one = single_row(c);
+        count = put_rule(enablers, starts, finishes, count, p, start, one);
+    }
+    count
+}
+
+// What start and finish leave beside the exchanges.
+fn put_remaining(enablers: &mut [u8], starts: &mut [u8], finishes: &mut [u8], n: usize, p: [u8; 60], start: [u8; 60], finish: [u8; 60]) -> usize
+    requires { ⌜ Room (n + length (remaining p start finish)) (now enablers) (now starts) (now finishes) ⌝ }
+    ensures { λ r. ⌜ Appended (remaining p start finish) n r (now (enablers .entry)) (now (starts .entry)) (now (finishes .entry)) (now (enablers .exit)) (now (starts .exit)) (now (finishes .exit)) ⌝ }
+{
+    if is_empty(start) {
+        return put_increasing(enablers, starts, finishes, n, p, start, finish);
+    }
+    put_rule(enablers, starts, finishes, n, p, start, finish)
+}
+
+// The rules of a parameter with the bags p, d and a.
+fn put_parameter(enablers: &mut [u8], starts: &mut [u8], finishes: &mut [u8], n: usize, p: [u8; 60], d: [u8; 60], a: [u8; 60]) -> usize
+    requires { ⌜ Room (n + length (rulesOf p d a)) (now enablers) (now starts) (now finishes) ⌝ }
+    ensures { λ r. ⌜ Appended (rulesOf p d a) n r (now (enablers .entry)) (now (starts .entry)) (now (finishes .entry)) (now (enablers .exit)) (now (starts .exit)) (now (finishes .exit)) ⌝ }
+{
+    let x = meet_row(d, a);
+    let m = put_exchanges(enablers, starts, finishes, n, p, x);
+    put_remaining(enablers, starts, finishes, m, p, less_row(d, x), less_row(a, x))
 }
