@@ -216,3 +216,14 @@ one-rule p start finish left n enablers starts finishes e s f l a b c = record {
   starts-are = b;
   finishes-are = c;
 }
+
+-- the same rules under another name
+pub as-rules : {xs ys : List Transition} → xs ≡ ys → {n count : ℕ} {enablers starts finishes e s f : List ℕ}
+    → Appended xs n count enablers starts finishes e s f → Appended ys n count enablers starts finishes e s f
+as-rules p {n} {count} {enablers} {starts} {finishes} {e} {s} {f} added =
+    subst (λ (rules : List Transition). Appended rules n count enablers starts finishes e s f) p added
+
+pub as-room : {xs ys : List Transition} → xs ≡ ys → (n : ℕ) {enablers starts finishes : List ℕ}
+    → Room (n + length xs) enablers starts finishes → Room (n + length ys) enablers starts finishes
+as-room p n {enablers} {starts} {finishes} room =
+    subst (λ (rules : List Transition). Room (n + length rules) enablers starts finishes) p room
