@@ -4,5 +4,7 @@ pub mod Tally
 pub mod Predicates
 pub mod ParameterBag
 pub mod Appending
+pub mod EachItem
 pub mod EachProperty
 pub mod RuleSizes
+pub mod Widening

@@ -26,9 +26,12 @@ pub exchange-sized : (p : Bag) → length p ≡ 60 → (c : ℕ) → c < 60 → 
 exchange-sized p e c h = rule-sized p (single 60 c) (single 60 c) e (length-single 60 c) (length-single 60 c)
 
 -- all of them are the exchanges
-pub exchanges-whole : (p x : Bag) → length p ≡ 60 → exchanges p x ≡ map (exchange p) (support x)
+pub exchanges-over : (n : ℕ) (p x : Bag) → length p ≡ n → exchanges p x ≡ map (λ c. ruleFrom p (single n c) (single n c)) (support x)
 unfolding exchanges ruleFrom
-exchanges-whole p x e = ap (λ (n : ℕ). map (λ c. record { enablers = less p (single n c); start = single n c; finish = single n c }) (support x)) e
+exchanges-over n p x e = ap (λ (k : ℕ). map (λ c. ruleFrom p (single k c) (single k c)) (support x)) e
+
+pub exchanges-whole : (p x : Bag) → length p ≡ 60 → exchanges p x ≡ map (exchange p) (support x)
+exchanges-whole p x e = exchanges-over 60 p x e
 
 -- a property that comes in
 abbrev pub increase : Bag → Bag → ℕ → Transition
@@ -37,9 +40,13 @@ increase p start c = ruleFrom p start (single 60 c)
 pub increasing-sized : (p start : Bag) → length p ≡ 60 → length start ≡ 60 → (c : ℕ) → c < 60 → Sized 60 (increase p start c)
 increasing-sized p start e f c h = rule-sized p start (single 60 c) e f (length-single 60 c)
 
-pub increasing-whole : (p start finish : Bag) → length p ≡ 60 → increasing p start finish ≡ map (increase p start) (support finish)
+pub increasing-over : (n : ℕ) (p start finish : Bag) → length p ≡ n
+    → increasing p start finish ≡ map (λ c. ruleFrom p start (single n c)) (support finish)
 unfolding increasing
-increasing-whole p start finish e = ap (λ (n : ℕ). map (λ c. ruleFrom p start (single n c)) (support finish)) e
+increasing-over n p start finish e = ap (λ (k : ℕ). map (λ c. ruleFrom p start (single k c)) (support finish)) e
+
+pub increasing-whole : (p start finish : Bag) → length p ≡ 60 → increasing p start finish ≡ map (increase p start) (support finish)
+increasing-whole p start finish e = increasing-over 60 p start finish e
 
 -- the rule that was put in, with the row that was made for its property
 pub exchange-put : (p : Bag) (c : ℕ) {one : Bag} {n count : ℕ} {enablers starts finishes e s f : List ℕ} → one ≡ single 60 c
