@@ -8,3 +8,4 @@ pub mod EachItem
 pub mod EachProperty
 pub mod RuleSizes
 pub mod Widening
+pub mod SchemaRules

@@ -13,6 +13,7 @@ use Rattle.model.specs.Writer.{checkTask}
 use Rattle.model.specs.Transitions.{propertiesFrom}
 use Rattle.card.specs.declared.ArityList.{ArityList}
 use Rattle.card.specs.declared.AtomList.{AtomList}
+use Rattle.card.specs.declared.Schema.{Schema}
 use Rattle.card.specs.declared.Task.{Task}
 use Rattle.card.specs.Represents.{taskFor, padded, aritiesOf, atomsOf}
 use Rattle.rules.specs.declared.Numbering.{Numbering}
@@ -41,3 +42,10 @@ pub record AritiesRight (l : ArityList) : Type 0 where
 pub record AtomsRight (arities : List ℕ) (l : AtomList) : Type 0 where
   pub few : l .count ≤ 8
   pub predicates-known : all (λ a. ltb (a .predicate) (length arities)) (atomsOf arities l) ≡ true
+
+-- a schema over such predicates
+pub record SchemaRight (arities : List ℕ) (s : Schema) : Type 0 where
+  pub few-parameters : s .parameters ≤ 6
+  pub preconditions-right : AtomsRight arities (s .preconditions)
+  pub deletes-right : AtomsRight arities (s .deletes)
+  pub adds-right : AtomsRight arities (s .adds)

@@ -3,16 +3,18 @@
 use card::ArityList;
 use card::Atom;
 use card::AtomList;
+use card::Schema;
+use card::Task;
 ghost use mathlib.Core.List.{[], _∷_};
 ghost use mathlib.Core.Path.{_≡_};
 ghost use Prim.Native.Nat.{ℕ, _+_, _*_, _≤_, _<_};
 ghost use lib.ListN.{length, getD, take};
 ghost use Rattle.laws.specs.Bags.{less, meet, isEmpty, single};
-ghost use Rattle.model.specs.Transitions.{propertiesFrom, bagOf, exchanges, remaining, rulesOf};
-ghost use Rattle.card.specs.Represents.{aritiesOf, atomsOf, padded};
-ghost use Rattle.rules.specs.Represented.{Numbers, AritiesRight, AtomsRight, firstProperties};
-ghost use Rattle.rules.specs.Tables.{row};
-ghost use Rattle.rules.specs.Appended.{rowsAt, ruleFrom, increasing, Room, Appended};
+ghost use Rattle.model.specs.Transitions.{propertiesFrom, bagOf, exchanges, remaining, rulesOf, transitions};
+ghost use Rattle.card.specs.Represents.{aritiesOf, atomsOf, schemaOf, taskOf, padded};
+ghost use Rattle.rules.specs.Represented.{Represented, Numbers, AritiesRight, AtomsRight, SchemaRight, firstProperties};
+ghost use Rattle.rules.specs.Tables.{row, mostRules, RuleTable};
+ghost use Rattle.rules.specs.Appended.{rowsAt, ruleFrom, increasing, parameterRulesOver, schemaRulesOver, Room, Appended};
 ghost use Rattle.rules.specs.Tallies.{marked, tallied};
 
 // How properties are numbered: how many there are, and the number of each predicate's first one.
@@ -220,4 +222,57 @@ fn put_parameter(enablers: &mut [u8], starts: &mut [u8], finishes: &mut [u8], n:
     let x = meet_row(d, a);
     let m = put_exchanges(enablers, starts, finishes, n, p, x);
     put_remaining(enablers, starts, finishes, m, p, less_row(d, x), less_row(a, x))
+}
+
+// The rules of parameter k of a schema.
+fn put_parameter_of(enablers: &mut [u8], starts: &mut [u8], finishes: &mut [u8], n: usize, schema: Schema, predicates: ArityList, firsts: [usize; 20], k: u8) -> usize
+    requires { ⌜ AritiesRight predicates ⌝ }
+    requires { ⌜ SchemaRight (aritiesOf predicates) schema ⌝ }
+    requires { ⌜ firsts ≡ padded 20 0 (firstProperties (aritiesOf predicates)) ⌝ }
+    requires { ⌜ Room (n + length (parameterRulesOver (aritiesOf predicates) (schemaOf (aritiesOf predicates) schema) k)) (now enablers) (now starts) (now finishes) ⌝ }
+    ensures { λ r. ⌜ Appended (parameterRulesOver (aritiesOf predicates) (schemaOf (aritiesOf predicates) schema) k) n r (now (enablers .entry)) (now (starts .entry)) (now (finishes .entry)) (now (enablers .exit)) (now (starts .exit)) (now (finishes .exit)) ⌝ }
+{
+    let p = bag_of_parameter(schema.preconditions, predicates, firsts, k);
+    let d = bag_of_parameter(schema.deletes, predicates, firsts, k);
+    let a = bag_of_parameter(schema.adds, predicates, firsts, k);
+    put_parameter(enablers, starts, finishes, n, p, d, a)
+}
+
+// The rules of all parameters of a schema, in parameter order.
+fn put_schema(enablers: &mut [u8], starts: &mut [u8], finishes: &mut [u8], n: usize, schema: Schema, predicates: ArityList, firsts: [usize; 20]) -> usize
+    requires { ⌜ AritiesRight predicates ⌝ }
+    requires { ⌜ SchemaRight (aritiesOf predicates) schema ⌝ }
+    requires { ⌜ firsts ≡ padded 20 0 (firstProperties (aritiesOf predicates)) ⌝ }
+    requires { ⌜ Room (n + length (schemaRulesOver (aritiesOf predicates) (schemaOf (aritiesOf predicates) schema))) (now enablers) (now starts) (now finishes) ⌝ }
+    ensures { λ r. ⌜ Appended (schemaRulesOver (aritiesOf predicates) (schemaOf (aritiesOf predicates) schema)) n r (now (enablers .entry)) (now (starts .entry)) (now (finishes .entry)) (now (enablers .exit)) (now (starts .exit)) (now (finishes .exit)) ⌝ }
+{
+    let parameters = schema.parameters;
+    let mut count = n;
+    let mut k: usize = 0;
+    while k < parameters {
+        count = put_parameter_of(enablers, starts, finishes, count, schema, predicates, firsts, k as u8);
+        k = k + 1;
+    }
+    count
+}
+
+// The rules of a task, in schema order, from the start of the three tables, and their number.
+pub fn rules(task: Task, enablers: &mut [u8], starts: &mut [u8], finishes: &mut [u8]) -> usize
+    requires { ⌜ Represented task (taskOf task) ⌝ }
+    requires { ⌜ Room mostRules (now enablers) (now starts) (now finishes) ⌝ }
+    ensures { λ r. ⌜ RuleTable (transitions (taskOf task)) r (now (enablers .entry)) (now (starts .entry)) (now (finishes .entry)) (now (enablers .exit)) (now (starts .exit)) (now (finishes .exit)) ⌝ }
+{
+    let predicates = task.predicates;
+    let schemas = task.schemas;
+    let numbers = numbered(predicates);
+    let firsts = numbers.firsts;
+    let m = schemas.count;
+    let mut count: usize = 0;
+    let mut i: usize = 0;
+    while i < m {
+        let schema = schemas.schemas[i];
+        count = put_schema(enablers, starts, finishes, count, schema, predicates, firsts);
+        i = i + 1;
+    }
+    count
 }
