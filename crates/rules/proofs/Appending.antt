@@ -9,7 +9,7 @@ use lib.Seq.{take-all, take-at, drop-at, drop-append-add, drop-drop, length-take
 use Rattle.laws.specs.Bags.{Bag, less}
 use Rattle.laws.proofs.Lists.{flatMap-append}
 use Rattle.laws.proofs.Fronts.{map-parts}
-use Rattle.rules.specs.Tables.{row, rows, rowsBefore}
+use Rattle.rules.specs.Tables.{row, rows, rowsBefore, RuleTable}
 use Rattle.model.specs.Transitions.{Transition}
 use Rattle.model.proofs.Grouping.{Sized}
 use Rattle.rules.specs.Appended.{rowsAt, ruleFrom, Room, Appended}
@@ -227,3 +227,13 @@ pub as-room : {xs ys : List Transition} → xs ≡ ys → (n : ℕ) {enablers st
     → Room (n + length xs) enablers starts finishes → Room (n + length ys) enablers starts finishes
 as-room p n {enablers} {starts} {finishes} room =
     subst (λ (rules : List Transition). Room (n + length rules) enablers starts finishes) p room
+
+-- rules written from the start are the table
+pub whole-table : {rules : List Transition} {count : ℕ} {enablers starts finishes e s f : List ℕ}
+    → Appended rules 0 count enablers starts finishes e s f → RuleTable rules count enablers starts finishes e s f
+whole-table {rules} {count} {enablers} {starts} {finishes} added = record {
+  counted = added .counted ∙ zero-add (length rules);
+  enablers-are = added .enablers-are ∙ rows-first (map (λ r. r .enablers) rules) enablers;
+  starts-are = added .starts-are ∙ rows-first (map (λ r. r .start) rules) starts;
+  finishes-are = added .finishes-are ∙ rows-first (map (λ r. r .finish) rules) finishes;
+}

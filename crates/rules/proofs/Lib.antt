@@ -9,3 +9,4 @@ pub mod EachProperty
 pub mod RuleSizes
 pub mod Widening
 pub mod SchemaRules
+pub mod TaskParts

@@ -54,3 +54,9 @@ module _ (arities : List ℕ) (few : sum arities ≤ 60) (s : Schema) where
     pub wide-put : {n count : ℕ} {enablers starts finishes e t f : List ℕ} → Appended (rulesOf p d a) n count enablers starts finishes e t f
         → Appended (parameterRulesOver arities s k) n count enablers starts finishes e t f
     wide-put added = narrowed (sum arities) few (parameterRulesOver arities s k) (parameter-sized k) (as-rules wide added)
+
+-- the rules of several schemas
+pub schemas-sized : (arities : List ℕ) → sum arities ≤ 60 → (schemas : List Schema)
+    → AllSized (sum arities) (flatMap (schemaRulesOver arities) schemas)
+schemas-sized arities few schemas r m =
+    let q = flatMap-at (schemaRulesOver arities) schemas r m in schema-sized arities few (q .0) r (q .2)
