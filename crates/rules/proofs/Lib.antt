@@ -10,3 +10,5 @@ pub mod RuleSizes
 pub mod Widening
 pub mod SchemaRules
 pub mod TaskParts
+pub mod ObjectTable
+pub mod ObjectBags

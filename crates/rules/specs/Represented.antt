@@ -6,11 +6,12 @@ use mathlib.Core.List.{List, map}
 use lib.Dec.{ltb}
 use lib.ListN.{length, take}
 use Rattle.laws.specs.Lists.{all, sum, upTo}
+use Rattle.laws.specs.Bags.{Bag}
 use Rattle.model.specs.Answer.{accepted}
 use Rattle.model.specs.Card as model
 use Rattle.model.specs.Card.{between}
 use Rattle.model.specs.Writer.{checkTask}
-use Rattle.model.specs.Transitions.{propertiesFrom}
+use Rattle.model.specs.Transitions.{propertiesFrom, properties, bagOf}
 use Rattle.card.specs.declared.ArityList.{ArityList}
 use Rattle.card.specs.declared.AtomList.{AtomList}
 use Rattle.card.specs.declared.Schema.{Schema}
@@ -22,6 +23,10 @@ use Rattle.rules.specs.declared.Numbering.{Numbering}
 pub record Represented (task : Task) (t : model.Task) : Type 0 where
   pub stands : task ≡ taskFor t
   pub checked : checkTask t ≡ accepted tt
+
+-- the bags of all objects over the task's facts, object by object
+unfoldable pub objectBags : model.Task → List Bag
+objectBags t = map (bagOf (properties t) (t .facts)) (upTo (t .objects))
 
 -- the number of each predicate's first property
 unfoldable pub firstProperties : List ℕ → List ℕ

@@ -1,9 +1,9 @@
 -- What one pass over an atom's arguments does to the counts of a bag, and to a table of the bags of all objects.
-use Prim.Native.Nat.{ℕ, suc, _+_, _*_}
+use Prim.Native.Nat.{ℕ, suc, _+_, _*_, _≤_, _<_}
 use mathlib.Core.Bool.{cond}
-use mathlib.Core.List.{List, [], _∷_}
+use mathlib.Core.List.{List, [], _∷_, List·Memᴰ}
 use lib.Dec.{eqb}
-use lib.ListN.{getD, set}
+use lib.ListN.{length, getD, set}
 use Rattle.rules.specs.Tables.{stride}
 
 -- one more at a place
@@ -23,3 +23,9 @@ tallied x first (argument ∷ arguments) bag = tallied x (suc first) arguments (
 unfoldable pub entered : ℕ → List ℕ → List ℕ → List ℕ
 entered first [] table = table
 entered first (object ∷ objects) table = entered (suc first) objects (raised table (stride * object + first))
+
+-- the arguments can be entered: their rows are in the table, and no count from the first property on is at its end
+pub record Enterable (first : ℕ) (arguments table : List ℕ) : Type 0 where
+  pub one-row : first + length arguments ≤ stride
+  pub rows-there : (o : ℕ) → List·Memᴰ o arguments → stride * o + stride ≤ length table
+  pub small : (o c : ℕ) → List·Memᴰ o arguments → first ≤ c → c < stride → getD table (stride * o + c) 0 < 65535

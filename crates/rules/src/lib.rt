@@ -5,17 +5,17 @@ use card::Atom;
 use card::AtomList;
 use card::Schema;
 use card::Task;
-ghost use mathlib.Core.List.{[], _∷_};
+ghost use mathlib.Core.List.{[], _∷_, _++_};
 ghost use mathlib.Core.Path.{_≡_};
 ghost use Prim.Native.Nat.{ℕ, _+_, _*_, _≤_, _<_};
-ghost use lib.ListN.{length, getD, take};
+ghost use lib.ListN.{length, getD, take, drop, replicate};
 ghost use Rattle.laws.specs.Bags.{less, meet, isEmpty, single};
 ghost use Rattle.model.specs.Transitions.{propertiesFrom, bagOf, exchanges, remaining, rulesOf, transitions};
 ghost use Rattle.card.specs.Represents.{aritiesOf, atomsOf, schemaOf, taskOf, padded};
-ghost use Rattle.rules.specs.Represented.{Represented, Numbers, AritiesRight, AtomsRight, SchemaRight, firstProperties};
-ghost use Rattle.rules.specs.Tables.{row, mostRules, RuleTable};
+ghost use Rattle.rules.specs.Represented.{Represented, objectBags, Numbers, AritiesRight, AtomsRight, SchemaRight, firstProperties};
+ghost use Rattle.rules.specs.Tables.{row, rowsBefore, mostRules, RuleTable};
 ghost use Rattle.rules.specs.Appended.{rowsAt, ruleFrom, increasing, parameterRulesOver, schemaRulesOver, Room, Appended};
-ghost use Rattle.rules.specs.Tallies.{marked, tallied};
+ghost use Rattle.rules.specs.Tallies.{raised, marked, tallied, entered, Enterable};
 
 // How properties are numbered: how many there are, and the number of each predicate's first one.
 pub struct Numbering {
@@ -275,4 +275,66 @@ pub fn rules(task: Task, enablers: &mut [u8], starts: &mut [u8], finishes: &mut 
         i = i + 1;
     }
     count
+}
+
+// Empties the first rows of a table of objects' bags.
+fn clear_rows(counts: &mut [u16], rows: usize)
+    requires { ⌜ 60 * rows ≤ length (now counts) ⌝ }
+    ensures { λ _. ⌜ now (counts .exit) ≡ replicate (60 * rows) 0 ++ drop (60 * rows) (now (counts .entry)) ⌝ }
+{
+    let end = rows * 60;
+    let mut i: usize = 0;
+    while i < end {
+        counts[i] = 0;
+        i = i + 1;
+    }
+}
+
+// Counts a property of an object, in the object's row.
+fn enter_argument(counts: &mut [u16], object: u8, property: usize)
+    requires { ⌜ 60 * object + property < length (now counts) ⌝ }
+    requires { ⌜ getD (now counts) (60 * object + property) 0 < 65535 ⌝ }
+    ensures { λ _. ⌜ now (counts .exit) ≡ raised (now (counts .entry)) (60 * object + property) ⌝ }
+{
+    let place = 60 * wide(object) + property;
+    counts[place] = counts[place] + 1;
+}
+
+// Counts a fact for each of its objects: the properties of its predicate begin at `first`, and it has `arity` arguments.
+fn enter_fact(counts: &mut [u16], first: usize, fact: Atom, arity: usize)
+    requires { ⌜ (1 ≤ arity) × (arity ≤ 3) ⌝ }
+    requires { ⌜ Enterable first (take arity (fact .first ∷ fact .second ∷ fact .third ∷ [])) (now counts) ⌝ }
+    ensures { λ _. ⌜ now (counts .exit) ≡ entered first (take arity (fact .first ∷ fact .second ∷ fact .third ∷ [])) (now (counts .entry)) ⌝ }
+{
+    enter_argument(counts, fact.first, first);
+    if arity < 2 {
+        return;
+    }
+    enter_argument(counts, fact.second, first + 1);
+    if arity < 3 {
+        return;
+    }
+    enter_argument(counts, fact.third, first + 2);
+}
+
+// The bags of all objects over the task's facts: one row an object.
+pub fn object_bags(task: Task, counts: &mut [u16])
+    requires { ⌜ Represented task (taskOf task) ⌝ }
+    requires { ⌜ 3840 ≤ length (now counts) ⌝ }
+    ensures { λ _. ⌜ now (counts .exit) ≡ rowsBefore (objectBags (taskOf task)) (now (counts .entry)) ⌝ }
+{
+    let predicates = task.predicates;
+    let facts = task.facts;
+    let numbers = numbered(predicates);
+    let firsts = numbers.firsts;
+    let m = facts.count;
+    clear_rows(counts, task.objects);
+    let mut i: usize = 0;
+    while i < m {
+        let fact = facts.facts[i];
+        let p = wide(fact.predicate);
+        let arity = wide(predicates.arities[p]);
+        enter_fact(counts, firsts[p], fact, arity);
+        i = i + 1;
+    }
 }
