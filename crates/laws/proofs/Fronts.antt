@@ -114,10 +114,10 @@ module _ (new old : ℕ → ℕ) (size : ℕ) where
     sized = length-set l i v ∙ r .sized;
     done =
         λ j k. by-test (eqb j i)
-            (λ t. let p = eqb-true j i t in
-            subst (λ (m : ℕ). getD (set l i v) m 0 ≡ new m) (sym p)
-            (getD-set-same l i v 0 (subst (λ (n : ℕ). i < n) (sym (r .sized)) h) ∙ e))
-            (λ t. let p = eqb-false j i t in getD-set-other l i j v 0 p ∙ r .done j (omega arith));
+        (λ t. let p = eqb-true j i t in
+        subst (λ (m : ℕ). getD (set l i v) m 0 ≡ new m) (sym p)
+        (getD-set-same l i v 0 (subst (λ (n : ℕ). i < n) (sym (r .sized)) h) ∙ e))
+        (λ t. let p = eqb-false j i t in getD-set-other l i j v 0 p ∙ r .done j (omega arith));
     ahead = λ j k. getD-set-other l i j v 0 (λ p. omega arith) ∙ r .ahead j (omega arith);
   }
 
@@ -126,8 +126,8 @@ module _ (new old : ℕ → ℕ) (size : ℕ) where
     sized = r .sized;
     done =
         λ j k. by-test (eqb j i)
-            (λ t. let p = eqb-true j i t in subst (λ (m : ℕ). getD l m 0 ≡ new m) (sym p) (r .ahead i (le-refl i) ∙ e))
-            (λ t. let p = eqb-false j i t in r .done j (omega arith));
+        (λ t. let p = eqb-true j i t in subst (λ (m : ℕ). getD l m 0 ≡ new m) (sym p) (r .ahead i (le-refl i) ∙ e))
+        (λ t. let p = eqb-false j i t in r .done j (omega arith));
     ahead = λ j k. r .ahead j (omega arith);
   }
 

@@ -1,11 +1,11 @@
 -- Rows put into tables one after the other, and rules with them.
-use Prim.Native.Nat.{ℕ, zero, suc, _+_, _-_, _*_, _≤_, _<_, zero-le}
-use native.Mathlib.Nat.{zero-add, add-zero, add-assoc, mul-suc, mul-zero, mul-add}
+use Prim.Native.Nat.{ℕ, _+_, _-_, _*_, _≤_}
+use native.Mathlib.Nat.{zero-add, add-zero, mul-suc}
 use native.Mathlib.Omega.{arith}
 use mathlib.Core.Path.{_≡_, refl, sym, ap, _∙_, subst}
 use mathlib.Core.List.{List, [], _∷_, _++_, map, flatMap, append-assoc, append-nil, List·Memᴰ, List·Memᴰ·head, List·Memᴰ·tail, Memᴰ·of-map}
-use lib.ListN.{length, getD, take, drop, length-append, length-map, length-take, length-drop, take-append-drop}
-use lib.Seq.{take-all, take-at, drop-at, drop-append-add, drop-drop, length-take-le, paste}
+use lib.ListN.{length, take, drop, length-append, length-map, length-take, length-drop, take-append-drop}
+use lib.Seq.{take-all, take-at, drop-append-add, drop-drop, paste}
 use Rattle.laws.specs.Bags.{Bag, less}
 use Rattle.laws.proofs.Lists.{flatMap-append}
 use Rattle.laws.proofs.Fronts.{map-parts}

@@ -2,13 +2,12 @@
 use Prim.Native.Nat.{ℕ, _+_, _≤_, _<_, zero-le}
 use native.Mathlib.Numerals.{add-one}
 use native.Mathlib.Omega.{arith}
-use mathlib.Core.Path.{_≡_, refl, sym, ap, _∙_, subst}
+use mathlib.Core.Path.{_≡_, sym, ap, _∙_, subst}
 use mathlib.Core.List.{List, [], _∷_, _++_, flatMap, append-nil, List·Memᴰ, Memᴰ·append-left}
 use lib.ListN.{length, getD, take, drop, length-append, take-append-drop}
 use lib.Seq.{take-suc, take-all}
-use Rattle.laws.proofs.Lists.{flatMap-append, flatMap-at, mem-take}
+use Rattle.laws.proofs.Lists.{flatMap-append}
 use Rattle.model.specs.Transitions.{Transition}
-use Rattle.model.proofs.Grouping.{Sized}
 use Rattle.rules.specs.Appended.{Room, Appended}
 use Rattle.rules.proofs.Appending.{AllSized, Kept, room-kept, room-fewer, appended-none, appended-kept, appended-then, as-rules}
 

@@ -1,10 +1,9 @@
 -- The bags of all objects, counted fact by fact.
-use Prim.Native.Nat.{ℕ, zero, suc, _+_, _*_, _≤_, _<_, zero-le}
-use native.Mathlib.Numerals.{add-one}
+use Prim.Native.Nat.{ℕ, _+_, _*_, _≤_, _<_}
 use native.Mathlib.Omega.{arith}
-use mathlib.Core.Path.{_≡_, refl, sym, ap, _∙_, subst}
-use mathlib.Core.Bool.{Bool, true, _&&_}
-use mathlib.Core.List.{List, [], _∷_, _++_, map, List·Memᴰ}
+use mathlib.Core.Path.{_≡_, sym, ap, _∙_, subst}
+use mathlib.Core.Bool.{true, _&&_}
+use mathlib.Core.List.{List, [], _∷_, _++_, List·Memᴰ}
 use lib.Dec.{ltb, eqb}
 use lib.ListN.{length, getD, take, drop, replicate, length-append, length-replicate, length-drop, length-take, List·getD-append, getD-replicate}
 use lib.Seq.{drop-at}
@@ -24,8 +23,8 @@ use Rattle.rules.specs.Tables.{row}
 use Rattle.rules.specs.Tallies.{tallied, entered, Enterable}
 use Rattle.rules.proofs.Rows.{row-ext}
 use Rattle.rules.proofs.Tally.{length-bag}
-use Rattle.rules.proofs.Predicates.{Placed, sum-arities}
-use Rattle.rules.proofs.ParameterBag.{counted-next, row-small, length-arguments}
+use Rattle.rules.proofs.Predicates.{Placed}
+use Rattle.rules.proofs.ParameterBag.{counted-next, row-small}
 use Rattle.rules.proofs.ObjectTable.{rowOf, getD-rowOf, length-rowOf, BagTable, row-entered, length-entered, beyond-entered}
 
 -- an emptied table: no fact is counted
@@ -35,8 +34,8 @@ cleared-table arities few n before h = record {
   kept = sized;
   rows-are =
       λ o k. row-ext (rowOf o table) (bagOf (propertiesFrom 0 arities) [] o) (length-rowOf o table (omega (arith, sized)))
-          (omega (arith, length-bag (propertiesFrom 0 arities) [] o, length-properties 0 arities))
-          (λ i j. getD-rowOf o table i j ∙ zero-there (60 * o + i) (omega arith) ∙ sym (nothing o i));
+      (omega (arith, length-bag (propertiesFrom 0 arities) [] o, length-properties 0 arities))
+      (λ i j. getD-rowOf o table i j ∙ zero-there (60 * o + i) (omega arith) ∙ sym (nothing o i));
   beyond = drop-at (replicate (60 * n) 0) (drop (60 * n) before) (60 * n) (length-replicate {A = ℕ} (60 * n) 0);
 }
   where
@@ -105,7 +104,7 @@ module _ (predicates : ArityList) (firsts : List ℕ) (right : AritiesRight pred
     rows-there = λ o m. let h = below o m in let k = holds .kept in omega arith;
     small =
         λ o c m h k. let count = row-small (aritiesOf predicates) facts o 512 few c in
-            omega (arith, getD-rowOf o table c k, ap (λ (l : List ℕ). getD l c 0) (holds .rows-are o (below o m)));
+        omega (arith, getD-rowOf o table c k, ap (λ (l : List ℕ). getD l c 0) (holds .rows-are o (below o m)));
   }
 
   -- and then it is counted

@@ -1,18 +1,18 @@
 -- The table of all objects' bags: a fact entered for each of its objects counts in each object's own row.
-use Prim.Native.Nat.{ℕ, zero, suc, _+_, _-_, _*_, _≤_, _<_, zero-le}
+use Prim.Native.Nat.{ℕ, zero, suc, _+_, _-_, _*_, _≤_, _<_}
 use native.Mathlib.Nat.{le-refl, mul-suc, not-suc-le-zero, le-of-suc-le-suc}
 use native.Mathlib.Numerals.{add-one, add-two}
 use native.Mathlib.Omega.{arith}
 use mathlib.Core.Path.{_≡_, refl, sym, ap, _∙_, subst}
-use mathlib.Core.Bool.{Bool, true, false, cond}
+use mathlib.Core.Bool.{Bool, cond}
 use mathlib.Core.List.{List, [], _∷_, _++_, map, flatMap, append-nil, List·Memᴰ, List·Memᴰ·head, List·Memᴰ·tail}
 use lib.Dec.{eqb}
-use lib.ListN.{length, getD, take, drop, set, replicate, length-set, length-take, length-drop, length-append, length-map, take-append-drop}
+use lib.ListN.{length, getD, take, drop, length-set, length-take, length-drop, length-map, take-append-drop}
 use lib.Seq.{getD-set-same, getD-set-other, getD-take, getD-drop, drop-set-lt, ext-getD, take-add}
-use borrow.Author.Tests.{eqb-true, eqb-false, eq-eqb, ne-eqb}
+use borrow.Author.Tests.{eqb-true, eqb-false}
 use Rattle.laws.specs.Lists.{from, upTo}
 use Rattle.laws.specs.Bags.{Bag}
-use Rattle.laws.proofs.Tests.{by-test, cond-true, cond-false}
+use Rattle.laws.proofs.Tests.{by-test}
 use Rattle.laws.proofs.Lists.{length-upTo, flatMap-append}
 use Rattle.laws.proofs.Fronts.{map-upTo-next}
 use Rattle.rules.specs.Tables.{row, rows, rowsBefore}
@@ -105,7 +105,7 @@ module _ (first y : ℕ) (ys table : List ℕ) (fits : Enterable first (y ∷ ys
         λ o m. let there = fits .rows-there o (List·Memᴰ·tail m) in omega (arith, there, length-raised table (60 * y + first));
     small =
         λ o c m h k. subst (λ (n : ℕ). n < 65535) (sym (raised-elsewhere table (60 * y + first) (60 * o + c) (other o c h k)))
-            (fits .small o c (List·Memᴰ·tail m) (omega arith) k);
+        (fits .small o c (List·Memᴰ·tail m) (omega arith) k);
   }
     where
       other : (o c : ℕ) → suc first ≤ c → c < 60 → 60 * o + c ≡ 60 * y + first → ⊥
@@ -145,6 +145,10 @@ pub record BagTable (bag : ℕ → Bag) (n : ℕ) (before table : List ℕ) : Ty
   pub rows-are : (o : ℕ) → o < n → rowOf o table ≡ row (bag o)
   pub beyond : drop (60 * n) table ≡ drop (60 * n) before
 
+-- what stood there is asked for only behind the rows
+pub from-here : (bag : ℕ → Bag) (n : ℕ) (before table : List ℕ) → BagTable bag n before table → BagTable bag n table table
+from-here bag n before table t = record { kept = refl; rows-are = t .rows-are; beyond = refl }
+
 -- the rows one after the other
 front-rows : (bag : ℕ → Bag) (table : List ℕ) (m : ℕ) → ((o : ℕ) → o < m → rowOf o table ≡ row (bag o))
     → take (60 * m) table ≡ rows (map bag (upTo m))
@@ -166,6 +170,15 @@ table-is bag n before table t =
     ∙ ap (λ (l : List ℕ). l ++ drop (60 * n) table) (front-rows bag table n (t .rows-are))
     ∙ ap (λ (l : List ℕ). rows (map bag (upTo n)) ++ l) (t .beyond)
     ∙ ap (λ (k : ℕ). rows (map bag (upTo n)) ++ drop (60 * k) before) (sym (length-map (upTo n) bag ∙ length-upTo n))
+
+-- rows before tables that agree behind them
+pub rows-behind : (bags : List Bag) (n : ℕ) (before other : List ℕ) → length bags ≡ n → drop (60 * n) before ≡ drop (60 * n) other
+    → rowsBefore bags before ≡ rowsBefore bags other
+unfolding rowsBefore
+rows-behind bags n before other e p =
+    ap (λ (k : ℕ). rows bags ++ drop (60 * k) before) e
+    ∙ ap (λ (l : List ℕ). rows bags ++ l) p
+    ∙ ap (λ (k : ℕ). rows bags ++ drop (60 * k) other) (sym e)
 
 -- one, two or three arguments entered one after the other
 module _ (first y z w : ℕ) (table : List ℕ) where

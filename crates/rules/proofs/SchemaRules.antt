@@ -1,14 +1,14 @@
 -- The rules of a schema's parameters: made from the rows of their bags, they are the rules that the tables are to hold.
-use Prim.Native.Nat.{ℕ, _+_, _≤_, _<_}
+use Prim.Native.Nat.{ℕ, _+_, _≤_}
 use native.Mathlib.Omega.{arith}
-use mathlib.Core.Path.{_≡_, refl, sym, ap, _∙_, subst}
-use mathlib.Core.List.{List, [], _∷_, map, flatMap, List·Memᴰ}
-use lib.ListN.{length, getD, length-map}
+use mathlib.Core.Path.{_≡_, sym, ap, _∙_, subst}
+use mathlib.Core.List.{List, map, flatMap}
+use lib.ListN.{length, length-map}
 use Rattle.laws.specs.Lists.{sum, upTo}
 use Rattle.laws.specs.Bags.{Bag}
 use Rattle.laws.proofs.Lists.{flatMap-at}
 use Rattle.model.specs.Card.{Schema}
-use Rattle.model.specs.Transitions.{Transition, propertiesFrom, bagOf, rulesOf}
+use Rattle.model.specs.Transitions.{propertiesFrom, bagOf, rulesOf}
 use Rattle.model.proofs.Grouping.{Sized, rulesOf-sized, length-bagOf}
 use Rattle.model.proofs.RuleCount.{length-properties}
 use Rattle.rules.specs.Tables.{row}

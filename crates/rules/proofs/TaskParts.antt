@@ -1,27 +1,29 @@
 -- What a represented task says of its parts: its arities, its schemas and its facts are those of the accepted task.
-use Prim.Native.Nat.{ℕ, zero, suc, _+_, _-_, _≤_, _<_}
+use Prim.Native.Nat.{ℕ, zero, suc, _-_, _≤_, _<_}
 use native.Mathlib.Nat.{not-suc-le-zero, le-of-suc-le-suc}
 use native.Mathlib.Omega.{arith}
-use mathlib.Core.Path.{_≡_, refl, sym, ap, _∙_, subst}
+use mathlib.Core.Path.{_≡_, refl, ap, _∙_, subst}
 use mathlib.Core.Bool.{Bool, true, _&&_}
-use mathlib.Core.List.{List, [], _∷_, _++_, map, flatMap, List·Memᴰ}
+use mathlib.Core.List.{List, [], _∷_, map, flatMap}
 use lib.Dec.{ltb, eqb}
-use lib.ListN.{length, getD, take, replicate, length-append, length-map, length-take, List·getD-append, List·getD-map}
+use lib.ListN.{length, getD, take, replicate, length-append, length-map, List·getD-append, List·getD-map}
 use lib.Seq.{getD-take}
+use borrow.Author.Tests.{ltb-true}
 use Rattle.laws.specs.Lists.{all}
 use Rattle.laws.proofs.Tests.{and-left}
 use Rattle.laws.proofs.Lists.{all-at, all-intro, mem-getD}
-use Rattle.model.specs.Answer.{accepted}
 use Rattle.model.specs.Card as model
-use Rattle.model.specs.Writer.{known, checkTask}
+use Rattle.model.specs.Writer.{known}
 use Rattle.model.specs.Transitions.{properties, parameterRules, transitions}
 use Rattle.model.proofs.Buffer.{Checked, CheckedSchema, CheckedList, checked}
+use Rattle.card.specs.declared.Atom.{Atom}
 use Rattle.card.specs.declared.Schema.{Schema}
 use Rattle.card.specs.declared.AtomList.{AtomList}
 use Rattle.card.specs.declared.Task.{Task}
-use Rattle.card.specs.Represents.{taskFor, aritiesFor, schemasFor, schemaFor, atomsFor, padded, blankSchema}
+use Rattle.card.specs.Represents.{taskFor, factsFor, atomFor, atomOf, blankAtom, aritiesFor, schemasFor, schemaFor, atomsFor, padded, blankSchema}
 use Rattle.card.specs.Represents.{taskOf, schemasOf, aritiesOf, schemaOf, atomsOf, factsOf}
-use Rattle.rules.specs.Represented.{Represented, AritiesRight, AtomsRight, SchemaRight}
+use Rattle.rules.specs.Represented.{Represented, AritiesRight, AtomsRight, SchemaRight, firstProperties}
+use Rattle.rules.proofs.Predicates.{Placed, placed, atom-at}
 use Rattle.rules.specs.Appended.{parameterRulesOver, schemaRulesOver}
 
 -- a padded list: its front, and that it is no shorter
@@ -127,6 +129,57 @@ module _ (task : Task) (r : Represented task (taskOf task)) where
           deletes-right = atoms-right arities _ _ (s .deletes) (ap (λ (x : Schema). x .deletes .count) schema-from) (passed .deletes-right);
           adds-right = atoms-right arities _ _ (s .adds) (ap (λ (x : Schema). x .adds .count) schema-from) (passed .adds-right);
         }
+
+-- the facts
+module _ (task : Task) (r : Represented task (taskOf task)) where
+  pub fact-count : task .facts .count ≡ length (taskOf task .facts)
+  unfolding taskFor factsFor
+  fact-count = ap (λ (x : Task). x .facts .count) (r .stands)
+
+  pub facts-few : task .facts .count ≤ 512
+  facts-few = let h = right task r .few-facts in omega (arith, fact-count)
+
+  pub facts-inside : task .facts .count ≤ length (task .facts .facts)
+  unfolding taskFor factsFor
+  facts-inside =
+      omega (
+        arith,
+        fact-count,
+        ap (λ (x : Task). length (x .facts .facts)) (r .stands),
+        length-padded 512 blankAtom (map atomFor (taskOf task .facts)),
+        length-map (taskOf task .facts) atomFor,
+      )
+
+  pub objects-few : task .objects ≤ 64
+  unfolding taskOf
+  objects-few = right task r .few-objects
+
+  -- each is a known atom
+  pub fact-known : (i : ℕ) (d : Atom) → i < task .facts .count
+      → known (aritiesOf (task .predicates)) (task .objects) (atomOf (aritiesOf (task .predicates)) (getD (task .facts .facts) i d)) ≡ true
+  unfolding taskOf factsOf
+  fact-known i d h =
+      let arities = aritiesOf (task .predicates) in
+      subst (λ (a : model.Atom). known arities (task .objects) a ≡ true)
+      (atom-at arities (task .facts .facts) (task .facts .count) facts-inside i d h)
+      (all-at (known arities (task .objects)) (taskOf task .facts) (right task r .facts-right .facts-known)
+      (getD (taskOf task .facts) i (atomOf arities d)) (mem-getD (taskOf task .facts) i (atomOf arities d) (omega (arith, h, fact-count))))
+
+  -- of a predicate whose properties have their places
+  pub fact-placed : (firsts : List ℕ) → firsts ≡ padded 20 0 (firstProperties (aritiesOf (task .predicates))) → length (task .predicates .arities) ≡ 20
+      → (i : ℕ) (d : Atom) → i < task .facts .count
+      → (getD (task .facts .facts) i d .predicate < length (aritiesOf (task .predicates)))
+      × Placed (task .predicates) firsts (getD (task .facts .facts) i d .predicate)
+  unfolding atomOf known
+  fact-placed firsts numbered e i d h =
+      let arities = aritiesOf (task .predicates) in
+      let a = atomOf arities (getD (task .facts .facts) i d) in
+      let p : a .predicate < length arities =
+      ltb-true (a .predicate) (length arities)
+      (and-left (ltb (a .predicate) (length arities)) (eqb (length (a .arguments)) (getD arities (a .predicate) 0))
+      (and-left (ltb (a .predicate) (length arities) && eqb (length (a .arguments)) (getD arities (a .predicate) 0))
+      (all (λ x. ltb x (task .objects)) (a .arguments)) (fact-known i d h))) in
+      (p, placed (task .predicates) firsts (arities-right task r) e numbered (a .predicate) p)
 
 -- all rules, schema by schema
 pub transitions-over : (t : model.Task) → transitions t ≡ flatMap (schemaRulesOver (t .arities)) (t .schemas)

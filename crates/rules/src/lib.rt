@@ -161,7 +161,15 @@ fn is_empty(counts: [u8; 60]) -> bool
 }
 
 // Writes the rule from start to finish as row number n of the three tables.
-fn put_rule(enablers: &mut [u8], starts: &mut [u8], finishes: &mut [u8], n: usize, p: [u8; 60], start: [u8; 60], finish: [u8; 60]) -> usize
+fn put_rule(
+    enablers: &mut [u8],
+    starts: &mut [u8],
+    finishes: &mut [u8],
+    n: usize,
+    p: [u8; 60],
+    start: [u8; 60],
+    finish: [u8; 60],
+) -> usize
     requires { ⌜ Room (n + 1) (now enablers) (now starts) (now finishes) ⌝ }
     ensures { λ r. ⌜ Appended (ruleFrom p start finish ∷ []) n r (now (enablers .entry)) (now (starts .entry)) (now (finishes .entry)) (now (enablers .exit)) (now (starts .exit)) (now (finishes .exit)) ⌝ }
 {
@@ -172,7 +180,14 @@ fn put_rule(enablers: &mut [u8], starts: &mut [u8], finishes: &mut [u8], n: usiz
 }
 
 // A rule for each property of x: it is exchanged for itself.
-fn put_exchanges(enablers: &mut [u8], starts: &mut [u8], finishes: &mut [u8], n: usize, p: [u8; 60], x: [u8; 60]) -> usize
+fn put_exchanges(
+    enablers: &mut [u8],
+    starts: &mut [u8],
+    finishes: &mut [u8],
+    n: usize,
+    p: [u8; 60],
+    x: [u8; 60],
+) -> usize
     requires { ⌜ Room (n + length (exchanges p x)) (now enablers) (now starts) (now finishes) ⌝ }
     ensures { λ r. ⌜ Appended (exchanges p x) n r (now (enablers .entry)) (now (starts .entry)) (now (finishes .entry)) (now (enablers .exit)) (now (starts .exit)) (now (finishes .exit)) ⌝ }
 {
@@ -188,7 +203,15 @@ fn put_exchanges(enablers: &mut [u8], starts: &mut [u8], finishes: &mut [u8], n:
 }
 
 // A rule for each property of finish, from an empty start.
-fn put_increasing(enablers: &mut [u8], starts: &mut [u8], finishes: &mut [u8], n: usize, p: [u8; 60], start: [u8; 60], finish: [u8; 60]) -> usize
+fn put_increasing(
+    enablers: &mut [u8],
+    starts: &mut [u8],
+    finishes: &mut [u8],
+    n: usize,
+    p: [u8; 60],
+    start: [u8; 60],
+    finish: [u8; 60],
+) -> usize
     requires { ⌜ Room (n + length (increasing p start finish)) (now enablers) (now starts) (now finishes) ⌝ }
     ensures { λ r. ⌜ Appended (increasing p start finish) n r (now (enablers .entry)) (now (starts .entry)) (now (finishes .entry)) (now (enablers .exit)) (now (starts .exit)) (now (finishes .exit)) ⌝ }
 {
@@ -204,7 +227,15 @@ fn put_increasing(enablers: &mut [u8], starts: &mut [u8], finishes: &mut [u8], n
 }
 
 // What start and finish leave beside the exchanges.
-fn put_remaining(enablers: &mut [u8], starts: &mut [u8], finishes: &mut [u8], n: usize, p: [u8; 60], start: [u8; 60], finish: [u8; 60]) -> usize
+fn put_remaining(
+    enablers: &mut [u8],
+    starts: &mut [u8],
+    finishes: &mut [u8],
+    n: usize,
+    p: [u8; 60],
+    start: [u8; 60],
+    finish: [u8; 60],
+) -> usize
     requires { ⌜ Room (n + length (remaining p start finish)) (now enablers) (now starts) (now finishes) ⌝ }
     ensures { λ r. ⌜ Appended (remaining p start finish) n r (now (enablers .entry)) (now (starts .entry)) (now (finishes .entry)) (now (enablers .exit)) (now (starts .exit)) (now (finishes .exit)) ⌝ }
 {
@@ -215,17 +246,42 @@ fn put_remaining(enablers: &mut [u8], starts: &mut [u8], finishes: &mut [u8], n:
 }
 
 // The rules of a parameter with the bags p, d and a.
-fn put_parameter(enablers: &mut [u8], starts: &mut [u8], finishes: &mut [u8], n: usize, p: [u8; 60], d: [u8; 60], a: [u8; 60]) -> usize
+fn put_parameter(
+    enablers: &mut [u8],
+    starts: &mut [u8],
+    finishes: &mut [u8],
+    n: usize,
+    p: [u8; 60],
+    d: [u8; 60],
+    a: [u8; 60],
+) -> usize
     requires { ⌜ Room (n + length (rulesOf p d a)) (now enablers) (now starts) (now finishes) ⌝ }
     ensures { λ r. ⌜ Appended (rulesOf p d a) n r (now (enablers .entry)) (now (starts .entry)) (now (finishes .entry)) (now (enablers .exit)) (now (starts .exit)) (now (finishes .exit)) ⌝ }
 {
     let x = meet_row(d, a);
     let m = put_exchanges(enablers, starts, finishes, n, p, x);
-    put_remaining(enablers, starts, finishes, m, p, less_row(d, x), less_row(a, x))
+    put_remaining(
+        enablers,
+        starts,
+        finishes,
+        m,
+        p,
+        less_row(d, x),
+        less_row(a, x),
+    )
 }
 
 // The rules of parameter k of a schema.
-fn put_parameter_of(enablers: &mut [u8], starts: &mut [u8], finishes: &mut [u8], n: usize, schema: Schema, predicates: ArityList, firsts: [usize; 20], k: u8) -> usize
+fn put_parameter_of(
+    enablers: &mut [u8],
+    starts: &mut [u8],
+    finishes: &mut [u8],
+    n: usize,
+    schema: Schema,
+    predicates: ArityList,
+    firsts: [usize; 20],
+    k: u8,
+) -> usize
     requires { ⌜ AritiesRight predicates ⌝ }
     requires { ⌜ SchemaRight (aritiesOf predicates) schema ⌝ }
     requires { ⌜ firsts ≡ padded 20 0 (firstProperties (aritiesOf predicates)) ⌝ }
@@ -239,7 +295,15 @@ fn put_parameter_of(enablers: &mut [u8], starts: &mut [u8], finishes: &mut [u8],
 }
 
 // The rules of all parameters of a schema, in parameter order.
-fn put_schema(enablers: &mut [u8], starts: &mut [u8], finishes: &mut [u8], n: usize, schema: Schema, predicates: ArityList, firsts: [usize; 20]) -> usize
+fn put_schema(
+    enablers: &mut [u8],
+    starts: &mut [u8],
+    finishes: &mut [u8],
+    n: usize,
+    schema: Schema,
+    predicates: ArityList,
+    firsts: [usize; 20],
+) -> usize
     requires { ⌜ AritiesRight predicates ⌝ }
     requires { ⌜ SchemaRight (aritiesOf predicates) schema ⌝ }
     requires { ⌜ firsts ≡ padded 20 0 (firstProperties (aritiesOf predicates)) ⌝ }
@@ -250,7 +314,16 @@ fn put_schema(enablers: &mut [u8], starts: &mut [u8], finishes: &mut [u8], n: us
     let mut count = n;
     let mut k: usize = 0;
     while k < parameters {
-        count = put_parameter_of(enablers, starts, finishes, count, schema, predicates, firsts, k as u8);
+        count = put_parameter_of(
+            enablers,
+            starts,
+            finishes,
+            count,
+            schema,
+            predicates,
+            firsts,
+            k as u8,
+        );
         k = k + 1;
     }
     count
@@ -271,7 +344,15 @@ pub fn rules(task: Task, enablers: &mut [u8], starts: &mut [u8], finishes: &mut 
     let mut i: usize = 0;
     while i < m {
         let schema = schemas.schemas[i];
-        count = put_schema(enablers, starts, finishes, count, schema, predicates, firsts);
+        count = put_schema(
+            enablers,
+            starts,
+            finishes,
+            count,
+            schema,
+            predicates,
+            firsts,
+        );
         i = i + 1;
     }
     count
@@ -328,7 +409,8 @@ pub fn object_bags(task: Task, counts: &mut [u16])
     let numbers = numbered(predicates);
     let firsts = numbers.firsts;
     let m = facts.count;
-    clear_rows(counts, task.objects);
+    let objects = task.objects;
+    clear_rows(counts, objects);
     let mut i: usize = 0;
     while i < m {
         let fact = facts.facts[i];

@@ -1,16 +1,13 @@
 -- The first rows are set to 0, count by count.
 use Prim.Native.Nat.{ℕ, _+_, _*_, _-_, _≤_}
 use denote.Ref.{now}
-use mathlib.Core.Path.{_≡_, sym, ap, _∙_}
+use mathlib.Core.Path.{_≡_, ap, _∙_}
 use mathlib.Core.List.{List, _++_}
 use lib.ListN.{length, set, drop, replicate, length-append, length-replicate, length-drop}
 use borrow.Author.Fill.{fill-none, fill-more}
 use native.Mathlib.Omega.{arith}
-use borrow.Author.Needs.{needs}
 use Rattle.rules.proofs.clear_rows.Statement.{statement}
 use Rattle.rules.proofs.clear_rows.Tie as tie
-use Rattle.rules.proofs.clear_rows.Reads as reads
-use Rattle.rules.proofs.clear_rows.Lts as lts
 
 record Cleared (before : List ℕ) (end : ℕ) (counts : List ℕ) (i : ℕ) : Type 0 where
   inside : i ≤ end

@@ -1,16 +1,13 @@
 -- The count of an object's property is raised in the object's row.
 use Prim.Native.Nat.{ℕ, _+_, _*_, _<_}
 use denote.Ref.{now}
-use mathlib.Core.Path.{_≡_, sym, ap, subst}
+use mathlib.Core.Path.{sym, ap, subst}
 use lib.ListN.{getD}
 use Rattle.rules.specs.Tallies.{raised}
 use native.Mathlib.Omega.{arith}
 use borrow.Author.Needs.{needs}
 use Rattle.rules.proofs.enter_argument.Statement.{statement}
 use Rattle.rules.proofs.enter_argument.Tie as tie
-use Rattle.rules.proofs.enter_argument.Reads as reads
-use Rattle.rules.proofs.enter_argument.Lts as lts
-use Rattle.rules.proofs.wide.Reads as wide-reads
 
 wide-requires : tie.Need-wide-requires
 wide-requires c κs = search needs
@@ -32,7 +29,7 @@ add-counts c =
     let s = c .before .before .before in
     let e = c .before .wide .ensures .0 in
     let small : getD (now (s .args .counts)) (60 * c .before .wide .result + s .args .property) 0 < 65535 =
-        subst (λ (o : ℕ). getD (now (s .args .counts)) (60 * o + s .args .property) 0 < 65535) (sym e) (s .pre .1) in
+    subst (λ (o : ℕ). getD (now (s .args .counts)) (60 * o + s .args .property) 0 < 65535) (sym e) (s .pre .1) in
     omega arith
 
 mul-counts-2 : tie.Need-mul-counts-2

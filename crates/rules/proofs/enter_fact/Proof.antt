@@ -5,9 +5,6 @@ use native.Mathlib.Omega.{arith}
 use borrow.Author.Needs.{needs}
 use Rattle.rules.proofs.enter_fact.Statement.{statement}
 use Rattle.rules.proofs.enter_fact.Tie as tie
-use Rattle.rules.proofs.enter_fact.Reads as reads
-use Rattle.rules.proofs.enter_fact.Lts as lts
-use Rattle.rules.proofs.enter_argument.Reads as enter-argument-reads
 
 enter-argument-requires : tie.Need-enter-argument-requires
 enter-argument-requires c κs =

@@ -1,18 +1,14 @@
 -- A row is empty if no count passed is above 0.
-use Prim.Native.Nat.{ℕ, _+_, _-_, _≤_, _<_}
-use mathlib.Core.Path.{_≡_, sym, _∙_}
-use mathlib.Core.Bool.{true, false}
+use Prim.Native.Nat.{ℕ, _-_, _<_}
+use mathlib.Core.Path.{_≡_, sym}
 use lib.ListN.{length, getD}
-use borrow.Author.Count.{below-none, below-more}
-use Rattle.laws.specs.Bags.{isEmpty}
-use Rattle.laws.proofs.Bags.{isEmpty-at, isEmpty-intro}
+use borrow.Author.Count.{below-more}
+use Rattle.laws.proofs.Bags.{isEmpty-intro}
 use Rattle.rules.proofs.Rows.{not-empty}
 use native.Mathlib.Omega.{arith}
 use borrow.Author.Needs.{needs}
 use Rattle.rules.proofs.is_empty.Statement.{statement}
 use Rattle.rules.proofs.is_empty.Tie as tie
-use Rattle.rules.proofs.is_empty.Reads as reads
-use Rattle.rules.proofs.is_empty.Lts as lts
 
 abbrev Inv-loop : tie.InvT-loop
 Inv-loop counts i₀ i = (j : ℕ) → j < i → getD counts j 0 ≡ 0

@@ -11,8 +11,6 @@ use native.Mathlib.Omega.{arith}
 use borrow.Author.Needs.{needs}
 use Rattle.rules.proofs.less_row.Statement.{statement}
 use Rattle.rules.proofs.less_row.Tie as tie
-use Rattle.rules.proofs.less_row.Reads as reads
-use Rattle.rules.proofs.less_row.Lts as lts
 
 abbrev Inv-loop : tie.InvT-loop
 Inv-loop a b left₀ i₀ left i = Reworked (λ j. getD a j 0 - getD b j 0) (λ j. 0) 60 i left

@@ -10,8 +10,6 @@ use native.Mathlib.Omega.{arith}
 use borrow.Author.Needs.{needs}
 use Rattle.rules.proofs.meet_row.Statement.{statement}
 use Rattle.rules.proofs.meet_row.Tie as tie
-use Rattle.rules.proofs.meet_row.Reads as reads
-use Rattle.rules.proofs.meet_row.Lts as lts
 
 abbrev Inv-loop : tie.InvT-loop
 Inv-loop a b common₀ i₀ common i = Reworked (λ j. min (getD a j 0) (getD b j 0)) (λ j. getD b j 0) 60 i common

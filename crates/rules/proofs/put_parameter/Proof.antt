@@ -1,17 +1,8 @@
 -- The exchanges of a parameter are written first, and what remains behind them.
-use mathlib.Core.Path.{_≡_}
-use lib.ListN.{length}
 use Rattle.rules.proofs.RuleSizes.{exchanges-room, remaining-room, parameter-put}
-use native.Mathlib.Omega.{arith}
 use borrow.Author.Needs.{needs}
 use Rattle.rules.proofs.put_parameter.Statement.{statement}
 use Rattle.rules.proofs.put_parameter.Tie as tie
-use Rattle.rules.proofs.put_parameter.Reads as reads
-use Rattle.rules.proofs.put_parameter.Lts as lts
-use Rattle.rules.proofs.less_row.Reads as less-row-reads
-use Rattle.rules.proofs.meet_row.Reads as meet-row-reads
-use Rattle.rules.proofs.put_exchanges.Reads as put-exchanges-reads
-use Rattle.rules.proofs.put_remaining.Reads as put-remaining-reads
 
 meet-row-requires : tie.Need-meet-row-requires
 meet-row-requires c κs = search needs

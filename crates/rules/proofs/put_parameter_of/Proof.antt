@@ -1,15 +1,10 @@
 -- The three bags of a parameter, and the rules that they give.
-use Rattle.card.specs.Represents.{aritiesOf, atomsOf, schemaOf}
+use Rattle.card.specs.Represents.{aritiesOf, schemaOf}
 use Rattle.rules.proofs.Predicates.{sum-arities}
 use Rattle.rules.proofs.SchemaRules.{wide-room, wide-put}
-use native.Mathlib.Omega.{arith}
 use borrow.Author.Needs.{needs}
 use Rattle.rules.proofs.put_parameter_of.Statement.{statement}
 use Rattle.rules.proofs.put_parameter_of.Tie as tie
-use Rattle.rules.proofs.put_parameter_of.Reads as reads
-use Rattle.rules.proofs.put_parameter_of.Lts as lts
-use Rattle.rules.proofs.bag_of_parameter.Reads as bag-of-parameter-reads
-use Rattle.rules.proofs.put_parameter.Reads as put-parameter-reads
 
 bag-of-parameter-requires : tie.Need-bag-of-parameter-requires
 bag-of-parameter-requires c κs = search needs

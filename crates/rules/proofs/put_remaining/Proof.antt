@@ -1,17 +1,10 @@
 -- An empty start leaves increasing rules, another one rule.
-use mathlib.Core.Path.{_≡_, sym, _∙_}
-use mathlib.Core.Bool.{true, false}
+use mathlib.Core.Path.{sym, _∙_}
 use Rattle.rules.proofs.Appending.{as-rules, as-room}
 use Rattle.rules.proofs.RuleSizes.{remaining-increasing, remaining-one}
-use native.Mathlib.Omega.{arith}
 use borrow.Author.Needs.{needs}
 use Rattle.rules.proofs.put_remaining.Statement.{statement}
 use Rattle.rules.proofs.put_remaining.Tie as tie
-use Rattle.rules.proofs.put_remaining.Reads as reads
-use Rattle.rules.proofs.put_remaining.Lts as lts
-use Rattle.rules.proofs.is_empty.Reads as is-empty-reads
-use Rattle.rules.proofs.put_increasing.Reads as put-increasing-reads
-use Rattle.rules.proofs.put_rule.Reads as put-rule-reads
 
 is-empty-requires : tie.Need-is-empty-requires
 is-empty-requires c κs = search needs

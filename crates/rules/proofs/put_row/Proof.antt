@@ -1,7 +1,7 @@
 -- A row is copied into its place of the table, count by count.
-use Prim.Native.Nat.{ℕ, suc, _+_, _*_, _-_, _≤_, _<_}
+use Prim.Native.Nat.{ℕ, _+_, _*_, _-_, _≤_}
 use native.Mathlib.Numerals.{add-one}
-use mathlib.Core.Path.{_≡_, refl, sym, ap, _∙_, subst}
+use mathlib.Core.Path.{_≡_, sym, ap, _∙_}
 use mathlib.Core.List.{List}
 use denote.Ref.{now}
 use lib.ListN.{length, getD, set}
@@ -11,8 +11,6 @@ use native.Mathlib.Omega.{arith}
 use borrow.Author.Needs.{needs}
 use Rattle.rules.proofs.put_row.Statement.{statement}
 use Rattle.rules.proofs.put_row.Tie as tie
-use Rattle.rules.proofs.put_row.Reads as reads
-use Rattle.rules.proofs.put_row.Lts as lts
 
 record Copied (before : List ℕ) (start : ℕ) (counts table : List ℕ) (i : ℕ) : Type 0 where
   inside : i ≤ 60

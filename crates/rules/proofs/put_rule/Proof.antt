@@ -1,14 +1,9 @@
 -- A rule's three bags are put into the three tables.
 use denote.Ref.{now}
 use Rattle.rules.proofs.Appending.{one-rule}
-use native.Mathlib.Omega.{arith}
 use borrow.Author.Needs.{needs}
 use Rattle.rules.proofs.put_rule.Statement.{statement}
 use Rattle.rules.proofs.put_rule.Tie as tie
-use Rattle.rules.proofs.put_rule.Reads as reads
-use Rattle.rules.proofs.put_rule.Lts as lts
-use Rattle.rules.proofs.less_row.Reads as less-row-reads
-use Rattle.rules.proofs.put_row.Reads as put-row-reads
 
 less-row-requires : tie.Need-less-row-requires
 less-row-requires c κs = search needs

@@ -1,7 +1,7 @@
 -- The rules of a schema, parameter by parameter.
-use Prim.Native.Nat.{ℕ, _+_, _-_, _≤_, _<_}
+use Prim.Native.Nat.{ℕ, _-_, _<_}
 use denote.Ref.{now}
-use mathlib.Core.Path.{_≡_, sym, ap, subst}
+use mathlib.Core.Path.{sym, ap}
 use mathlib.Core.List.{List}
 use lib.ListN.{length}
 use Rattle.laws.specs.Lists.{upTo}
@@ -10,18 +10,14 @@ use Rattle.card.specs.declared.Schema.{Schema}
 use Rattle.card.specs.declared.ArityList.{ArityList}
 use Rattle.card.specs.Represents.{aritiesOf, schemaOf}
 use Rattle.model.specs.Transitions.{Transition}
-use Rattle.rules.specs.Appended.{Room, parameterRulesOver, schemaRulesOver}
+use Rattle.rules.specs.Appended.{parameterRulesOver, schemaRulesOver}
 use Rattle.rules.proofs.Predicates.{sum-arities}
 use Rattle.rules.proofs.Appending.{as-rules, as-room}
 use Rattle.rules.proofs.EachItem.{ItemsPut, ItemsGiven, items-start, items-kept, room-item, put-item, items-end}
 use Rattle.rules.proofs.SchemaRules.{schema-sized}
 use native.Mathlib.Omega.{arith}
-use borrow.Author.Needs.{needs}
 use Rattle.rules.proofs.put_schema.Statement.{statement}
 use Rattle.rules.proofs.put_schema.Tie as tie
-use Rattle.rules.proofs.put_schema.Reads as reads
-use Rattle.rules.proofs.put_schema.Lts as lts
-use Rattle.rules.proofs.put_parameter_of.Reads as put-parameter-of-reads
 
 -- the rules of parameter k
 ofParameter : Schema → ArityList → ℕ → List Transition
@@ -63,10 +59,17 @@ put-parameter-of-requires c κs =
     let s = c .before .before .before .before .before .before .before .before in
     let at = c .before .before .before .before .loop in
     let h = c .before .before .before .loop-test .taken in
-    let m = s .args .schema .parameters in
-    (s .pre .0, (s .pre .1 .0, (s .pre .1 .1 .0,
-    as-room (ap (ofParameter (s .args .schema) (s .args .predicates)) (getD-upTo m (at .k) 0 h)) (at .count)
-    (room-item (given s) (at .inv) 0 (turn m (at .k) h)))))
+    let m = s .args .schema .parameters in (
+      s .pre .0,
+      (
+        s .pre .1 .0,
+        (
+          s .pre .1 .1 .0,
+          as-room (ap (ofParameter (s .args .schema) (s .args .predicates)) (getD-upTo m (at .k) 0 h)) (at .count)
+              (room-item (given s) (at .inv) 0 (turn m (at .k) h)),
+        ),
+      ),
+    )
 
 add-k : tie.Need-add-k Inv-loop μ-loop
 add-k c = let few = c .before .before .before .before .before .before .before .before .before .before .before .before .before .before .before .pre .1 .0 .few-parameters in let h = c .before .before .before .before .before .before .before .before .before .before .loop-test .taken in omega arith

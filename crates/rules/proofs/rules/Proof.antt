@@ -1,11 +1,10 @@
 -- The rules of a task, schema by schema.
-use Prim.Native.Nat.{ℕ, _+_, _-_, _≤_, _<_}
+use Prim.Native.Nat.{ℕ, _+_, _-_, _<_}
 use denote.Ref.{now}
-use mathlib.Core.Path.{_≡_, sym, ap, _∙_, subst}
-use mathlib.Core.List.{List, [], flatMap}
+use mathlib.Core.Path.{sym, ap}
+use mathlib.Core.List.{[], flatMap}
 use lib.ListN.{length}
 use Rattle.card.specs.declared.Schema.{Schema}
-use Rattle.card.specs.declared.Task.{Task}
 use Rattle.card.specs.Represents.{aritiesOf, schemaOf, schemasOf, taskOf}
 use Rattle.model.proofs.RuleCount.{rules-few}
 use Rattle.rules.specs.Appended.{schemaRulesOver}
@@ -15,13 +14,8 @@ use Rattle.rules.proofs.EachItem.{ItemsPut, ItemsGiven, items-start, it
 use Rattle.rules.proofs.SchemaRules.{schemas-sized}
 use Rattle.rules.proofs.TaskParts.{arities-right, schema-count, schemas-few, schema-at, schema-right, transitions-over}
 use native.Mathlib.Omega.{arith}
-use borrow.Author.Needs.{needs}
 use Rattle.rules.proofs.rules.Statement.{statement}
 use Rattle.rules.proofs.rules.Tie as tie
-use Rattle.rules.proofs.rules.Reads as reads
-use Rattle.rules.proofs.rules.Lts as lts
-use Rattle.rules.proofs.numbered.Reads as numbered-reads
-use Rattle.rules.proofs.put_schema.Reads as put-schema-reads
 
 abbrev Inv-loop : tie.InvT-loop
 Inv-loop enablers₀ starts₀ finishes₀ predicates schemas firsts m count₀ i₀ enablers starts finishes count i =
@@ -67,7 +61,7 @@ numbered-requires : tie.Need-numbered-requires Inv-loop μ-loop
 numbered-requires c κs = arities-right (c .before .before .before .before .before .args .task) (c .before .before .before .before .before .pre .0) .few
 
 loop-holds : tie.Need-loop-holds Inv-loop μ-loop
-loop-holds c = items-start (given (c .before .before .before .before .before .before .before ))
+loop-holds c = items-start (given (c .before .before .before .before .before .before .before))
 
 mul-schema : tie.Need-mul-schema Inv-loop μ-loop
 mul-schema c = let few = schemas-few (c .before .before .before .before .before .before .before .before .before .args .task) (c .before .before .before .before .before .before .before .before .before .pre .0) in omega arith
@@ -82,10 +76,17 @@ put-schema-requires c κs =
     let at = c .before .before .before .before .before .loop in
     let h = c .before .before .before .before .loop-test .taken in
     let task = s .args .task in
-    let arities = aritiesOf (task .predicates) in
-    (arities-right task (s .pre .0), (schema-right task (s .pre .0) (at .i) none h, (c .before .before .before .before .before .before .before .numbered .ensures .firsts,
-    as-room (ap (schemaRulesOver arities) (schema-at task (s .pre .0) (at .i) none h)) (at .count)
-    (room-item (given s) (at .inv) (schemaOf arities none) (turn s (at .i) h)))))
+    let arities = aritiesOf (task .predicates) in (
+      arities-right task (s .pre .0),
+      (
+        schema-right task (s .pre .0) (at .i) none h,
+        (
+          c .before .before .before .before .before .before .before .numbered .ensures .firsts,
+          as-room (ap (schemaRulesOver arities) (schema-at task (s .pre .0) (at .i) none h)) (at .count)
+              (room-item (given s) (at .inv) (schemaOf arities none) (turn s (at .i) h)),
+        ),
+      ),
+    )
 
 add-i : tie.Need-add-i Inv-loop μ-loop
 add-i c =
@@ -109,13 +110,13 @@ loop-again c =
     (as-rules (ap (schemaRulesOver arities) (sym (schema-at task (s .pre .0) (at .i) none h))) (c .before .before .before .before .before .before .put-schema .ensures))
 
 same-length : tie.Need-same-length Inv-loop μ-loop
-same-length c = items-kept (given (c .before .before .before .before .before .before .before .before .before )) (c .before .loop .inv) .enablers-kept
+same-length c = items-kept (given (c .before .before .before .before .before .before .before .before .before)) (c .before .loop .inv) .enablers-kept
 
 same-length-2 : tie.Need-same-length-2 Inv-loop μ-loop
-same-length-2 c = items-kept (given (c .before .before .before .before .before .before .before .before .before )) (c .before .loop .inv) .starts-kept
+same-length-2 c = items-kept (given (c .before .before .before .before .before .before .before .before .before)) (c .before .loop .inv) .starts-kept
 
 same-length-3 : tie.Need-same-length-3 Inv-loop μ-loop
-same-length-3 c = items-kept (given (c .before .before .before .before .before .before .before .before .before )) (c .before .loop .inv) .finishes-kept
+same-length-3 c = items-kept (given (c .before .before .before .before .before .before .before .before .before)) (c .before .loop .inv) .finishes-kept
 
 returns : tie.Need-returns Inv-loop μ-loop
 unfolding taskOf

@@ -1,12 +1,8 @@
 -- One occurrence of a property: a 1 in its place among zeros.
-use mathlib.Core.Path.{_≡_}
 use Rattle.rules.proofs.Rows.{one-set}
-use native.Mathlib.Omega.{arith}
 use borrow.Author.Needs.{needs}
 use Rattle.rules.proofs.single_row.Statement.{statement}
 use Rattle.rules.proofs.single_row.Tie as tie
-use Rattle.rules.proofs.single_row.Reads as reads
-use Rattle.rules.proofs.single_row.Lts as lts
 
 array-write-one : tie.Need-array-write-one
 array-write-one c = search needs
