@@ -23,12 +23,14 @@ pub struct Numbering {
     pub firsts: [usize; 20],
 }
 
+// A byte as an index.
 fn wide(b: u8) -> usize
     ensures { λ r. ⌜ (r ≡ b) × (r ≤ 255) ⌝ }
 {
     b as usize
 }
 
+// The numbers of the properties of a task's predicates.
 pub fn numbered(predicates: ArityList) -> Numbering
     requires { ⌜ predicates .count ≤ 20 ⌝ }
     ensures { λ r. ⌜ Numbers (aritiesOf predicates) r ⌝ }
@@ -147,6 +149,7 @@ fn single_row(c: usize) -> [u8; 60]
     one
 }
 
+// Whether every count is 0.
 fn is_empty(counts: [u8; 60]) -> bool
     ensures { λ r. ⌜ r ≡ isEmpty counts ⌝ }
 {

@@ -25,7 +25,8 @@ add-count-argument c = search needs
 count-argument-requires-2 : tie.Need-count-argument-requires-2
 count-argument-requires-2 c κs =
     let s = c .before .before .before .before .before .before .before in
-    room-next (s .args .x) (s .args .a .first) (s .args .first) (s .args .first + 1) (now (s .args .bag)) (c .before .before .before .before .count-argument .last .0)
+    room-next (s .args .x) (s .args .a .first) (s .args .first) (s .args .first + 1) (now (s .args .bag))
+    (c .before .before .before .before .count-argument .last .0)
     (c .before .before .before .before .count-argument .ensures) (omega arith) (omega arith) (s .pre .1 (s .args .first + 1))
 
 same-length-2 : tie.Need-same-length-2
@@ -35,7 +36,8 @@ returns-2 : tie.Need-returns-2
 returns-2 c =
     let s = c .before .before .before .before .before .before .before .before .before .before .before in
     tallied-two (s .args .x) (s .args .first) (s .args .a .first) (s .args .a .second) (s .args .a .third) (now (s .args .bag))
-    (s .args .arity) (c .before .before .before .before .before .before .before .before .count-argument .last .0) (c .before .before .before .count-argument2 .last .0) (omega arith)
+    (s .args .arity) (c .before .before .before .before .before .before .before .before .count-argument .last .0)
+    (c .before .before .before .count-argument2 .last .0) (omega arith)
     (c .before .before .before .before .before .before .before .before .count-argument .ensures) (c .before .before .before .count-argument2 .ensures)
 
 add-count-argument-2 : tie.Need-add-count-argument-2
@@ -58,8 +60,12 @@ returns-3 : tie.Need-returns-3
 returns-3 c =
     let s = c .before .before .before .before .before .before .before .before .before .before .before .before .before .before .before in
     tallied-three (s .args .x) (s .args .first) (s .args .a .first) (s .args .a .second) (s .args .a .third) (now (s .args .bag))
-    (s .args .arity) (c .before .before .before .before .before .before .before .before .before .before .before .before .count-argument .last .0) (c .before .before .before .before .before .before .before .count-argument2 .last .0) (c .before .before .count-argument3 .last .0) (omega arith)
-    (c .before .before .before .before .before .before .before .before .before .before .before .before .count-argument .ensures) (c .before .before .before .before .before .before .before .count-argument2 .ensures) (c .before .before .count-argument3 .ensures)
+    (s .args .arity)
+    (c .before .before .before .before .before .before .before .before .before .before .before .before .count-argument .last .0)
+    (c .before .before .before .before .before .before .before .count-argument2 .last .0) (c .before .before .count-argument3 .last .0)
+    (omega arith)
+    (c .before .before .before .before .before .before .before .before .before .before .before .before .count-argument .ensures)
+    (c .before .before .before .before .before .before .before .count-argument2 .ensures) (c .before .before .count-argument3 .ensures)
 
 pub count-atom-spec : {M : Type 1} → statement M
 count-atom-spec =

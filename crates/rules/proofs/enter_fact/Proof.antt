@@ -9,7 +9,8 @@ use Rattle.rules.proofs.enter_fact.Tie as tie
 enter-argument-requires : tie.Need-enter-argument-requires
 enter-argument-requires c κs =
     let s = c .before .before in
-    enter-one (s .args .first) (s .args .fact .first) (s .args .fact .second) (s .args .fact .third) (now (s .args .counts)) (s .args .arity) (s .pre .0 .0) (s .pre .1)
+    enter-one (s .args .first) (s .args .fact .first) (s .args .fact .second) (s .args .fact .third) (now (s .args .counts))
+    (s .args .arity) (s .pre .0 .0) (s .pre .1)
 
 same-length : tie.Need-same-length
 same-length c = search needs
@@ -26,7 +27,8 @@ add-enter-argument c = search needs
 enter-argument-requires-2 : tie.Need-enter-argument-requires-2
 enter-argument-requires-2 c κs =
     let s = c .before .before .before .before .before .before .before in
-    enter-two (s .args .first) (s .args .fact .first) (s .args .fact .second) (s .args .fact .third) (now (s .args .counts)) (s .args .arity) (omega arith) (s .pre .1)
+    enter-two (s .args .first) (s .args .fact .first) (s .args .fact .second) (s .args .fact .third) (now (s .args .counts))
+    (s .args .arity) (omega arith) (s .pre .1)
     (c .before .before .before .before .enter-argument .last .0) (c .before .before .before .before .enter-argument .ensures)
 
 same-length-2 : tie.Need-same-length-2
@@ -36,7 +38,8 @@ returns-2 : tie.Need-returns-2
 returns-2 c =
     let s = c .before .before .before .before .before .before .before .before .before .before .before in
     entered-two (s .args .first) (s .args .fact .first) (s .args .fact .second) (s .args .fact .third) (now (s .args .counts))
-    (s .args .arity) (c .before .before .before .before .before .before .before .before .enter-argument .last .0) (c .before .before .before .enter-argument2 .last .0) (omega arith)
+    (s .args .arity) (c .before .before .before .before .before .before .before .before .enter-argument .last .0)
+    (c .before .before .before .enter-argument2 .last .0) (omega arith)
     (c .before .before .before .before .before .before .before .before .enter-argument .ensures) (c .before .before .before .enter-argument2 .ensures)
 
 add-enter-argument-2 : tie.Need-add-enter-argument-2
@@ -45,8 +48,12 @@ add-enter-argument-2 c = search needs
 enter-argument-requires-3 : tie.Need-enter-argument-requires-3
 enter-argument-requires-3 c κs =
     let s = c .before .before .before .before .before .before .before .before .before .before .before .before in
-    enter-three (s .args .first) (s .args .fact .first) (s .args .fact .second) (s .args .fact .third) (now (s .args .counts)) (s .args .arity) (omega arith) (s .pre .1)
-    (c .before .before .before .before .before .before .before .before .before .enter-argument .last .0) (c .before .before .before .before .enter-argument2 .last .0) (c .before .before .before .before .before .before .before .before .before .enter-argument .ensures) (c .before .before .before .before .enter-argument2 .ensures)
+    enter-three (s .args .first) (s .args .fact .first) (s .args .fact .second) (s .args .fact .third) (now (s .args .counts))
+    (s .args .arity) (omega arith) (s .pre .1)
+    (c .before .before .before .before .before .before .before .before .before .enter-argument .last .0)
+    (c .before .before .before .before .enter-argument2 .last .0)
+    (c .before .before .before .before .before .before .before .before .before .enter-argument .ensures)
+    (c .before .before .before .before .enter-argument2 .ensures)
 
 same-length-3 : tie.Need-same-length-3
 same-length-3 c = search needs
@@ -55,8 +62,12 @@ returns-3 : tie.Need-returns-3
 returns-3 c =
     let s = c .before .before .before .before .before .before .before .before .before .before .before .before .before .before .before in
     entered-three (s .args .first) (s .args .fact .first) (s .args .fact .second) (s .args .fact .third) (now (s .args .counts))
-    (s .args .arity) (c .before .before .before .before .before .before .before .before .before .before .before .before .enter-argument .last .0) (c .before .before .before .before .before .before .before .enter-argument2 .last .0) (c .before .before .enter-argument3 .last .0) (omega arith)
-    (c .before .before .before .before .before .before .before .before .before .before .before .before .enter-argument .ensures) (c .before .before .before .before .before .before .before .enter-argument2 .ensures) (c .before .before .enter-argument3 .ensures)
+    (s .args .arity)
+    (c .before .before .before .before .before .before .before .before .before .before .before .before .enter-argument .last .0)
+    (c .before .before .before .before .before .before .before .enter-argument2 .last .0) (c .before .before .enter-argument3 .last .0)
+    (omega arith)
+    (c .before .before .before .before .before .before .before .before .before .before .before .before .enter-argument .ensures)
+    (c .before .before .before .before .before .before .before .enter-argument2 .ensures) (c .before .before .enter-argument3 .ensures)
 
 pub enter-fact-spec : {M : Type 1} → statement M
 enter-fact-spec =

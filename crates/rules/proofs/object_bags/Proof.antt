@@ -56,17 +56,20 @@ emptied s =
 -- the fact that a turn takes: its predicate is known
 here : (c : tie.After-fact Inv-loop μ-loop)
     → (getD (c .before .before .before .before .before .before .before .before .before .before .before .before .args .task .facts .facts) (c .before .before .loop .i) blankAtom .predicate < length (aritiesOf (c .before .before .before .before .before .before .before .before .before .before .before .before .args .task .predicates)))
-    × Placed (c .before .before .before .before .before .before .before .before .before .before .before .before .args .task .predicates) (c .before .before .before .before .before .before .before .before .numbered .result .firsts)
+    × Placed (c .before .before .before .before .before .before .before .before .before .before .before .before .args .task .predicates)
+    (c .before .before .before .before .before .before .before .before .numbered .result .firsts)
     (getD (c .before .before .before .before .before .before .before .before .before .before .before .before .args .task .facts .facts) (c .before .before .loop .i) blankAtom .predicate)
 here c =
     let s = c .before .before .before .before .before .before .before .before .before .before .before .before in
     let e : length (c .before .before .before .before .before .before .before .before .before .before .before .before .args .task .predicates .arities) ≡ 20 = search needs in
-    fact-placed (s .args .task) (s .pre .0) (c .before .before .before .before .before .before .before .before .numbered .result .firsts) (c .before .before .before .before .before .before .before .before .numbered .ensures .firsts) e
+    fact-placed (s .args .task) (s .pre .0) (c .before .before .before .before .before .before .before .before .numbered .result .firsts)
+    (c .before .before .before .before .before .before .before .before .numbered .ensures .firsts) e
     (c .before .before .loop .i) blankAtom (c .before .loop-test .taken)
 
 -- no more facts are passed than there are
 few : (c : tie.At-loop Inv-loop μ-loop)
-    → length (take (c .loop .i) (factsOf (aritiesOf (c .before .before .before .before .before .before .before .before .before .before .args .task .predicates)) (c .before .before .before .before .before .before .before .before .before .before .args .task .facts))) ≤ 512
+    → length
+    (take (c .loop .i) (factsOf (aritiesOf (c .before .before .before .before .before .before .before .before .before .before .args .task .predicates)) (c .before .before .before .before .before .before .before .before .before .before .args .task .facts))) ≤ 512
 unfolding taskOf
 few c =
     let s = c .before .before .before .before .before .before .before .before .before .before in
@@ -134,8 +137,11 @@ enter-fact-requires c κs =
     (here (c .before .before .before .before) .1) (c .before .before .before .wide .ensures .0) (c .before .wide2 .ensures .0) (omega arith) in (
       (asked .0, asked .1),
       fact-fits (task .predicates) firsts (arities-right task (s .pre .0)) (task .objects) _ (at .counts) _
-          (getD (task .facts .facts) (at .i) blankAtom) (c .before .before .before .wide .result) (c .before .wide2 .result) (at .inv .holds) (room (c .before .before .before .before .before .before))
-          (few (c .before .before .before .before .before .before)) (fact-known task (s .pre .0) (at .i) blankAtom (c .before .before .before .before .before .loop-test .taken)) (here (c .before .before .before .before))
+          (getD (task .facts .facts) (at .i) blankAtom) (c .before .before .before .wide .result) (c .before .wide2 .result)
+          (at .inv .holds) (room (c .before .before .before .before .before .before))
+          (few (c .before .before .before .before .before .before))
+          (fact-known task (s .pre .0) (at .i) blankAtom (c .before .before .before .before .before .loop-test .taken))
+          (here (c .before .before .before .before))
           (c .before .before .before .wide .ensures .0) (c .before .wide2 .ensures .0),
     )
 
@@ -160,12 +166,16 @@ loop-again c =
     record {
       inside = omega arith;
       holds =
-          subst (λ (l : List model.Atom). BagTable (bagOf (propertiesFrom 0 arities) l) (task .objects) (c .before .before .before .before .before .before .before .before .before .before .before .before .clear-rows .last .0) (c .before .before .enter-fact .last .0))
+          subst
+          (λ (l : List model.Atom). BagTable (bagOf (propertiesFrom 0 arities) l) (task .objects) (c .before .before .before .before .before .before .before .before .before .before .before .before .clear-rows .last .0) (c .before .before .enter-fact .last .0))
           (sym (atoms-next arities (task .facts .facts) (task .facts .count) (at .i) blankAtom (facts-inside task (s .pre .0)) h)
           ∙ ap (λ (k : ℕ). take k (factsOf arities (task .facts))) (sym (add-one (at .i))))
           (fact-counted (task .predicates) (c .before .before .before .before .before .before .before .before .before .before .before .before .before .before .before .numbered .result .firsts) (arities-right task (s .pre .0)) (task .objects) _ (at .counts) _ a
-          (c .before .before .before .before .before .before .wide .result) (c .before .before .before .before .wide2 .result) (at .inv .holds) (room (c .before .before .before .before .before .before .before .before .before)) (few (c .before .before .before .before .before .before .before .before .before))
-          (fact-known task (s .pre .0) (at .i) blankAtom h) (here (c .before .before .before .before .before .before .before)) (c .before .before .before .before .before .before .wide .ensures .0) (c .before .before .before .before .wide2 .ensures .0)
+          (c .before .before .before .before .before .before .wide .result) (c .before .before .before .before .wide2 .result)
+          (at .inv .holds) (room (c .before .before .before .before .before .before .before .before .before))
+          (few (c .before .before .before .before .before .before .before .before .before))
+          (fact-known task (s .pre .0) (at .i) blankAtom h) (here (c .before .before .before .before .before .before .before))
+          (c .before .before .before .before .before .before .wide .ensures .0) (c .before .before .before .before .wide2 .ensures .0)
           (c .before .before .enter-fact .last .0) (c .before .before .enter-fact .ensures));
     }
 

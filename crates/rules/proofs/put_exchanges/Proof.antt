@@ -28,7 +28,9 @@ given s =
     record {
       sized = exchange-sized (s .args .p) p;
       sixty = search needs;
-      room = subst (λ (rules : List Transition). Room (s .args .n + length rules) (now (s .args .enablers)) (now (s .args .starts)) (now (s .args .finishes))) (exchanges-whole (s .args .p) (s .args .t6) p) (s .pre);
+      room = subst
+          (λ (rules : List Transition). Room (s .args .n + length rules) (now (s .args .enablers)) (now (s .args .starts)) (now (s .args .finishes)))
+          (exchanges-whole (s .args .p) (s .args .t6) p) (s .pre);
     }
 
 loop-holds : tie.Need-loop-holds Inv-loop μ-loop
@@ -54,7 +56,9 @@ single-row-requires c κs = c .before .loop-test .taken
 put-rule-requires : tie.Need-put-rule-requires Inv-loop μ-loop
 put-rule-requires c κs =
     let has = c .before .before .before .before .if1 .left in
-    room-one (given (c .before .before .before .before .before .before .before .before .before .before)) (c .before .before .before .before .before .before .loop .inv) (c .before .before .before .before .before .loop-test .taken) (omega arith)
+    room-one (given (c .before .before .before .before .before .before .before .before .before .before))
+    (c .before .before .before .before .before .before .loop .inv) (c .before .before .before .before .before .loop-test .taken)
+    (omega arith)
 
 add-c-2 : tie.Need-add-c-2 Inv-loop μ-loop
 add-c-2 c = omega arith
@@ -66,7 +70,8 @@ loop-again-2 : tie.Need-loop-again-2 Inv-loop μ-loop
 loop-again-2 c =
     let has = c .before .before .before .before .before .before .before .before .before .before .before .if1 .left in
     let s = c .before .before .before .before .before .before .before .before .before .before .before .before .before .before .before .before .before in
-    put-one (given s) (c .before .before .before .before .before .before .before .before .before .before .before .before .before .loop .inv) (c .before .before .before .before .before .before .before .before .before .before .before .before .loop-test .taken) (omega arith)
+    put-one (given s) (c .before .before .before .before .before .before .before .before .before .before .before .before .before .loop .inv)
+    (c .before .before .before .before .before .before .before .before .before .before .before .before .loop-test .taken) (omega arith)
     (exchange-put (s .args .p) (c .before .before .before .before .before .before .before .before .before .before .before .before .before .loop .c) (c .before .before .before .before .before .before .before .before .before .before .single-row .ensures) (c .before .before .before .before .before .before .put-rule .ensures))
 
 -- the tables keep their lengths
@@ -86,7 +91,8 @@ returns c =
     let at = c .before .loop in
     subst
     (λ (rules : List Transition).
-    Appended rules (s .args .n) (at .count) (now (s .args .enablers)) (now (s .args .starts)) (now (s .args .finishes)) (at .enablers) (at .starts) (at .finishes))
+    Appended rules (s .args .n) (at .count) (now (s .args .enablers)) (now (s .args .starts)) (now (s .args .finishes)) (at .enablers)
+    (at .starts) (at .finishes))
     (sym (exchanges-whole (s .args .p) (s .args .t6) p)) (put-all (given s) (at .inv) (c .loop-test .left))
 
 pub put-exchanges-spec : {M : Type 1} → statement M

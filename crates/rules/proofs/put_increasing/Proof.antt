@@ -29,7 +29,9 @@ given s =
     record {
       sized = increasing-sized (s .args .p) (s .args .start) p q;
       sixty = search needs;
-      room = subst (λ (rules : List Transition). Room (s .args .n + length rules) (now (s .args .enablers)) (now (s .args .starts)) (now (s .args .finishes))) (increasing-whole (s .args .p) (s .args .start) (s .args .t7) p) (s .pre);
+      room = subst
+          (λ (rules : List Transition). Room (s .args .n + length rules) (now (s .args .enablers)) (now (s .args .starts)) (now (s .args .finishes)))
+          (increasing-whole (s .args .p) (s .args .start) (s .args .t7) p) (s .pre);
     }
 
 loop-holds : tie.Need-loop-holds Inv-loop μ-loop
@@ -55,7 +57,9 @@ single-row-requires c κs = c .before .loop-test .taken
 put-rule-requires : tie.Need-put-rule-requires Inv-loop μ-loop
 put-rule-requires c κs =
     let has = c .before .before .before .before .if1 .left in
-    room-one (given (c .before .before .before .before .before .before .before .before .before .before)) (c .before .before .before .before .before .before .loop .inv) (c .before .before .before .before .before .loop-test .taken) (omega arith)
+    room-one (given (c .before .before .before .before .before .before .before .before .before .before))
+    (c .before .before .before .before .before .before .loop .inv) (c .before .before .before .before .before .loop-test .taken)
+    (omega arith)
 
 add-c-2 : tie.Need-add-c-2 Inv-loop μ-loop
 add-c-2 c = omega arith
@@ -67,7 +71,8 @@ loop-again-2 : tie.Need-loop-again-2 Inv-loop μ-loop
 loop-again-2 c =
     let has = c .before .before .before .before .before .before .before .before .before .before .before .if1 .left in
     let s = c .before .before .before .before .before .before .before .before .before .before .before .before .before .before .before .before .before in
-    put-one (given s) (c .before .before .before .before .before .before .before .before .before .before .before .before .before .loop .inv) (c .before .before .before .before .before .before .before .before .before .before .before .before .loop-test .taken) (omega arith)
+    put-one (given s) (c .before .before .before .before .before .before .before .before .before .before .before .before .before .loop .inv)
+    (c .before .before .before .before .before .before .before .before .before .before .before .before .loop-test .taken) (omega arith)
     (increase-put (s .args .p) (s .args .start) (c .before .before .before .before .before .before .before .before .before .before .before .before .before .loop .c) (c .before .before .before .before .before .before .before .before .before .before .single-row .ensures) (c .before .before .before .before .before .before .put-rule .ensures))
 
 -- the tables keep their lengths
@@ -87,7 +92,8 @@ returns c =
     let at = c .before .loop in
     subst
     (λ (rules : List Transition).
-    Appended rules (s .args .n) (at .count) (now (s .args .enablers)) (now (s .args .starts)) (now (s .args .finishes)) (at .enablers) (at .starts) (at .finishes))
+    Appended rules (s .args .n) (at .count) (now (s .args .enablers)) (now (s .args .starts)) (now (s .args .finishes)) (at .enablers)
+    (at .starts) (at .finishes))
     (sym (increasing-whole (s .args .p) (s .args .start) (s .args .t7) p)) (put-all (given s) (at .inv) (c .loop-test .left))
 
 pub put-increasing-spec : {M : Type 1} → statement M

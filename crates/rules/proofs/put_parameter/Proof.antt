@@ -21,8 +21,10 @@ less-row-requires-2 c κs = search needs
 put-remaining-requires : tie.Need-put-remaining-requires
 put-remaining-requires c κs =
     let s = c .before .before .before .before .before .before .before .before .before .before .before .before .before .before .before .before .before .before .before in
-    remaining-room (s .args .p) (s .args .d) (s .args .a) (search needs) (s .args .n) (s .pre) (c .before .before .before .before .before .before .before .before .before .before .before .before .before .before .before .meet-row .ensures)
-    (c .before .before .before .before .before .before .before .before .before .before .before .put-exchanges .ensures) (c .before .less-row .ensures) (c .less-row2 .ensures)
+    remaining-room (s .args .p) (s .args .d) (s .args .a) (search needs) (s .args .n) (s .pre)
+    (c .before .before .before .before .before .before .before .before .before .before .before .before .before .before .before .meet-row .ensures)
+    (c .before .before .before .before .before .before .before .before .before .before .before .put-exchanges .ensures)
+    (c .before .less-row .ensures) (c .less-row2 .ensures)
 
 same-length : tie.Need-same-length
 same-length c = search needs
@@ -36,8 +38,12 @@ same-length-3 c = search needs
 returns : tie.Need-returns
 returns c =
     let s = c .before .before .before .before .before .before .before .before .before .before .before .before .before .before .before .before .before .before .before .before .before .before .before .before .before .before in
-    parameter-put (s .args .p) (s .args .d) (s .args .a) (search needs) (s .args .n) (s .pre) (c .before .before .before .before .before .before .before .before .before .before .before .before .before .before .before .before .before .before .before .before .before .before .meet-row .ensures)
-    (c .before .before .before .before .before .before .before .before .before .before .before .before .before .before .before .before .before .before .put-exchanges .ensures) (c .before .before .before .before .before .before .before .before .less-row .ensures) (c .before .before .before .before .before .before .before .less-row2 .ensures) (c .before .before .before .before .before .before .put-remaining .ensures)
+    parameter-put (s .args .p) (s .args .d) (s .args .a) (search needs) (s .args .n) (s .pre)
+    (c .before .before .before .before .before .before .before .before .before .before .before .before .before .before .before .before .before .before .before .before .before .before .meet-row .ensures)
+    (c .before .before .before .before .before .before .before .before .before .before .before .before .before .before .before .before .before .before .put-exchanges .ensures)
+    (c .before .before .before .before .before .before .before .before .less-row .ensures)
+    (c .before .before .before .before .before .before .before .less-row2 .ensures)
+    (c .before .before .before .before .before .before .put-remaining .ensures)
 
 pub put-parameter-spec : {M : Type 1} → statement M
 put-parameter-spec =

@@ -21,7 +21,8 @@ put-parameter-requires c κs =
     let s = c .before .before .before .before .before .before .before .before .before in
     let arities = aritiesOf (s .args .predicates) in
     wide-room arities (sum-arities (s .args .predicates) (s .pre .0)) (schemaOf arities (s .args .schema)) (s .args .k)
-    (c .before .before .before .before .before .bag-of-parameter .ensures) (c .before .before .before .before .bag-of-parameter2 .ensures) (c .before .before .before .bag-of-parameter3 .ensures)
+    (c .before .before .before .before .before .bag-of-parameter .ensures) (c .before .before .before .before .bag-of-parameter2 .ensures)
+    (c .before .before .before .bag-of-parameter3 .ensures)
     (s .args .n) (s .pre .1 .1 .1)
 
 same-length : tie.Need-same-length
@@ -39,7 +40,9 @@ returns c =
     let s = c .before .before .before .before .before .before .before .before .before .before .before .before .before .before .before .before in
     let arities = aritiesOf (s .args .predicates) in
     wide-put arities (sum-arities (s .args .predicates) (s .pre .0)) (schemaOf arities (s .args .schema)) (s .args .k)
-    (c .before .before .before .before .before .before .before .before .before .before .before .before .bag-of-parameter .ensures) (c .before .before .before .before .before .before .before .before .before .before .before .bag-of-parameter2 .ensures) (c .before .before .before .before .before .before .before .before .before .before .bag-of-parameter3 .ensures)
+    (c .before .before .before .before .before .before .before .before .before .before .before .before .bag-of-parameter .ensures)
+    (c .before .before .before .before .before .before .before .before .before .before .before .bag-of-parameter2 .ensures)
+    (c .before .before .before .before .before .before .before .before .before .before .bag-of-parameter3 .ensures)
     (c .before .before .before .before .before .before .put-parameter .ensures)
 
 pub put-parameter-of-spec : {M : Type 1} → statement M

@@ -32,10 +32,14 @@ same-length-3 c = search needs
 returns : tie.Need-returns
 returns c =
     let s = c .before .before .before .before .before .before .before .before .before .before .before .before .before .before .before .before in
-    one-rule (s .args .p) (s .args .start) (s .args .finish) (c .before .before .before .before .before .before .before .before .before .before .before .less-row .result) (s .args .n)
+    one-rule (s .args .p) (s .args .start) (s .args .finish)
+    (c .before .before .before .before .before .before .before .before .before .before .before .less-row .result) (s .args .n)
     (now (s .args .enablers)) (now (s .args .starts)) (now (s .args .finishes))
-    (c .before .before .before .before .before .before .before .before .before .before .put-row .last .0) (c .before .before .before .before .before .before .put-row2 .last .0) (c .before .before .put-row3 .last .0)
-    (c .before .before .before .before .before .before .before .before .before .before .before .less-row .ensures) (c .before .before .before .before .before .before .before .before .before .before .put-row .ensures) (c .before .before .before .before .before .before .put-row2 .ensures) (c .before .before .put-row3 .ensures)
+    (c .before .before .before .before .before .before .before .before .before .before .put-row .last .0)
+    (c .before .before .before .before .before .before .put-row2 .last .0) (c .before .before .put-row3 .last .0)
+    (c .before .before .before .before .before .before .before .before .before .before .before .less-row .ensures)
+    (c .before .before .before .before .before .before .before .before .before .before .put-row .ensures)
+    (c .before .before .before .before .before .before .put-row2 .ensures) (c .before .before .put-row3 .ensures)
 
 pub put-rule-spec : {M : Type 1} → statement M
 put-rule-spec =

@@ -32,7 +32,8 @@ abbrev μ-loop : tie.MeasureT-loop
 
 -- what the loop is given
 given : (s : tie.Start Inv-loop μ-loop)
-    → ItemsGiven (ofParameter (s .args .schema) (s .args .predicates)) (upTo (s .args .schema .parameters)) (s .args .n) (now (s .args .enablers)) (now (s .args .starts)) (now (s .args .finishes))
+    → ItemsGiven (ofParameter (s .args .schema) (s .args .predicates)) (upTo (s .args .schema .parameters)) (s .args .n)
+    (now (s .args .enablers)) (now (s .args .starts)) (now (s .args .finishes))
 unfolding ofParameter schemaRulesOver schemaOf
 given s =
     let few = sum-arities (s .args .predicates) (s .pre .0) in

@@ -28,7 +28,8 @@ abbrev μ-loop : tie.MeasureT-loop
 -- what the loop is given
 given : (s : tie.Start Inv-loop μ-loop)
     → ItemsGiven (schemaRulesOver (aritiesOf (s .args .task .predicates)))
-    (schemasOf (aritiesOf (s .args .task .predicates)) (s .args .task .schemas)) 0 (now (s .args .enablers)) (now (s .args .starts)) (now (s .args .finishes))
+    (schemasOf (aritiesOf (s .args .task .predicates)) (s .args .task .schemas)) 0 (now (s .args .enablers)) (now (s .args .starts))
+    (now (s .args .finishes))
 unfolding taskOf
 given s =
     let t = taskOf (s .args .task) in
@@ -38,7 +39,8 @@ given s =
       few = few;
       sized = schemas-sized (t .arities) few (t .schemas);
       room =
-          room-fewer (0 + length (flatMap (schemaRulesOver (t .arities)) (t .schemas))) 960 (now (s .args .enablers)) (now (s .args .starts)) (now (s .args .finishes))
+          room-fewer (0 + length (flatMap (schemaRulesOver (t .arities)) (t .schemas))) 960 (now (s .args .enablers))
+          (now (s .args .starts)) (now (s .args .finishes))
           (omega (arith, ap length (transitions-over t), rules-few t (s .pre .0 .checked))) (s .pre .1);
     }
 
