@@ -10,3 +10,5 @@ pub mod Relations
 pub mod Mapped
 pub mod Orders
 pub mod Reading
+pub mod Fronts
+pub mod Columns

@@ -266,7 +266,7 @@ pub record Sized (n : ℕ) (r : Transition) : Type 0 where
   pub start : length (r .start) ≡ n
   pub finish : length (r .finish) ≡ n
 
-exchanges-sized : (p x : Bag) (r : Transition) → List·Memᴰ r (exchanges p x) → Sized (length p) r
+pub exchanges-sized : (p x : Bag) (r : Transition) → List·Memᴰ r (exchanges p x) → Sized (length p) r
 unfolding exchanges
 exchanges-sized p x r m =
     let q = Memᴰ·of-map _ (support x) m in
@@ -277,7 +277,7 @@ exchanges-sized p x r m =
       finish = length-single (length p) (q .0);
     })
 
-remaining-sized : (p start finish : Bag) → length start ≡ length p → length finish ≡ length p
+pub remaining-sized : (p start finish : Bag) → length start ≡ length p → length finish ≡ length p
     → (r : Transition) → List·Memᴰ r (remaining p start finish) → Sized (length p) r
 unfolding remaining
 remaining-sized p start finish es ef r = go (isEmpty start)
@@ -295,7 +295,7 @@ remaining-sized p start finish es ef r = go (isEmpty start)
         subst (Sized (length p)) (sym (List·Memᴰ·eq-of-singleton m))
         (record { enablers = length-less (length p) p start refl es; start = es; finish = ef })
 
-rulesOf-sized : (p d a : Bag) → length d ≡ length p → length a ≡ length p
+pub rulesOf-sized : (p d a : Bag) → length d ≡ length p → length a ≡ length p
     → (r : Transition) → List·Memᴰ r (rulesOf p d a) → Sized (length p) r
 unfolding rulesOf
 rulesOf-sized p d a ed ea r m =
@@ -305,7 +305,7 @@ rulesOf-sized p d a ed ea r m =
     (length-less (length p) d (meet d a) ed common) (length-less (length p) a (meet d a) ea common) r)
     (List·Memᴰ·append-cases (exchanges p (meet d a)) m)
 
-length-bagOf : (cs : List Property) (atoms : List Atom) (x : ℕ) → length (bagOf cs atoms x) ≡ length cs
+pub length-bagOf : (cs : List Property) (atoms : List Atom) (x : ℕ) → length (bagOf cs atoms x) ≡ length cs
 unfolding bagOf
 length-bagOf cs atoms x = length-map cs _
 

@@ -40,7 +40,7 @@ own-at p arity i d h =
     ∙ ap {B = Property} (λ j. record { predicate = p; position = j }) (getD-upTo arity i 0 h)
 
 -- a property's number is its place
-property-at : (start p i : ℕ) (arities : List ℕ) (d : Property) → p < length arities → i < getD arities p 0
+pub property-at : (start p i : ℕ) (arities : List ℕ) (d : Property) → p < length arities → i < getD arities p 0
     → getD (propertiesFrom start arities) (sum (take p arities) + i) d ≡ record { predicate = start + p; position = i }
 unfolding propertiesFrom sum own
 property-at start p i [] d hp hi = absurd (not-suc-le-zero hp)
@@ -58,7 +58,7 @@ property-at start (suc p) i (a ∷ arities) d hp hi =
     place : length (own start a) ≡ a → a + sum (take p arities) + i ≡ length (own start a) + (sum (take p arities) + i)
     place e = omega arith
 
-property-below : (start p i : ℕ) (arities : List ℕ) → p < length arities → i < getD arities p 0
+pub property-below : (start p i : ℕ) (arities : List ℕ) → p < length arities → i < getD arities p 0
     → sum (take p arities) + i < length (propertiesFrom start arities)
 unfolding propertiesFrom sum own
 property-below start p i [] hp hi = absurd (not-suc-le-zero hp)

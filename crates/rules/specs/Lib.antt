@@ -1,1 +1,4 @@
 pub mod Tables
+pub mod Represented
+pub mod Tallies
+pub mod Appended

@@ -1,1 +1,425 @@
 // Properties, the bags of parameters and objects, and the transition rules of a task, in tables of rows.
+
+use card::ArityList;
+use card::Atom;
+use card::AtomList;
+use card::Schema;
+use card::Task;
+ghost use mathlib.Core.List.{[], _∷_, _++_};
+ghost use mathlib.Core.Path.{_≡_};
+ghost use Prim.Native.Nat.{ℕ, _+_, _*_, _≤_, _<_};
+ghost use lib.ListN.{length, getD, take, drop, replicate};
+ghost use Rattle.laws.specs.Bags.{less, meet, isEmpty, single};
+ghost use Rattle.model.specs.Transitions.{propertiesFrom, bagOf, exchanges, remaining, rulesOf, transitions};
+ghost use Rattle.card.specs.Represents.{aritiesOf, atomsOf, schemaOf, taskOf, padded};
+ghost use Rattle.rules.specs.Represented.{Represented, objectBags, Numbers, AritiesRight, AtomsRight, SchemaRight, firstProperties};
+ghost use Rattle.rules.specs.Tables.{row, rowsBefore, mostRules, RuleTable};
+ghost use Rattle.rules.specs.Appended.{rowsAt, ruleFrom, increasing, parameterRulesOver, schemaRulesOver, Room, Appended};
+ghost use Rattle.rules.specs.Tallies.{raised, marked, tallied, entered, Enterable};
+
+// How properties are numbered: how many there are, and the number of each predicate's first one.
+pub struct Numbering {
+    pub count: usize,
+    pub firsts: [usize; 20],
+}
+
+// A byte as an index.
+fn wide(b: u8) -> usize
+    ensures { λ r. ⌜ (r ≡ b) × (r ≤ 255) ⌝ }
+{
+    b as usize
+}
+
+// The numbers of the properties of a task's predicates.
+pub fn numbered(predicates: ArityList) -> Numbering
+    requires { ⌜ predicates .count ≤ 20 ⌝ }
+    ensures { λ r. ⌜ Numbers (aritiesOf predicates) r ⌝ }
+{
+    let arities = predicates.arities;
+    let n = predicates.count;
+    let mut firsts = [0usize; 20];
+    let mut count: usize = 0;
+    let mut p: usize = 0;
+    while p < n {
+        firsts[p] = count;
+        count = count + wide(arities[p]);
+        p = p + 1;
+    }
+    Numbering { count, firsts }
+}
+
+// Counts one argument: the property at `place` is x's if the argument is x.
+fn count_argument(bag: &mut [u8], place: usize, argument: u8, x: u8)
+    requires { ⌜ place < length (now bag) ⌝ }
+    requires { ⌜ getD (now bag) place 0 < 255 ⌝ }
+    ensures { λ _. ⌜ now (bag .exit) ≡ marked x argument place (now (bag .entry)) ⌝ }
+{
+    if x == argument {
+        bag[place] = bag[place] + 1;
+    }
+}
+
+// Counts an atom: the properties of its predicate begin at `first`, and it has `arity` arguments.
+fn count_atom(bag: &mut [u8], first: usize, a: Atom, arity: usize, x: u8)
+    requires { ⌜ (1 ≤ arity) × (arity ≤ 3) × (first + arity ≤ length (now bag)) ⌝ }
+    requires { ⌜ ((i : ℕ) → getD (now bag) i 0 < 255) ⌝ }
+    ensures { λ _. ⌜ now (bag .exit) ≡ tallied x first (take arity (a .first ∷ a .second ∷ a .third ∷ [])) (now (bag .entry)) ⌝ }
+{
+    count_argument(bag, first, a.first, x);
+    if arity < 2 {
+        return;
+    }
+    count_argument(bag, first + 1, a.second, x);
+    if arity < 3 {
+        return;
+    }
+    count_argument(bag, first + 2, a.third, x);
+}
+
+// The bag of a parameter over a list of atoms, as a row.
+fn bag_of_parameter(atoms: AtomList, predicates: ArityList, firsts: [usize; 20], k: u8) -> [u8; 60]
+    requires { ⌜ AritiesRight predicates ⌝ }
+    requires { ⌜ AtomsRight (aritiesOf predicates) atoms ⌝ }
+    requires { ⌜ firsts ≡ padded 20 0 (firstProperties (aritiesOf predicates)) ⌝ }
+    ensures { λ r. ⌜ r ≡ row (bagOf (propertiesFrom 0 (aritiesOf predicates)) (atomsOf (aritiesOf predicates) atoms) k) ⌝ }
+{
+    let n = atoms.count;
+    let mut bag = [0u8; 60];
+    let mut i: usize = 0;
+    while i < n {
+        let a = atoms.atoms[i];
+        let p = wide(a.predicate);
+        let arity = wide(predicates.arities[p]);
+        count_atom(&mut bag, firsts[p], a, arity, k);
+        i = i + 1;
+    }
+    bag
+}
+
+// Writes a row of counts as row number n.
+fn put_row(table: &mut [u8], n: usize, counts: [u8; 60])
+    requires { ⌜ 60 * (n + 1) ≤ length (now table) ⌝ }
+    ensures { λ _. ⌜ now (table .exit) ≡ rowsAt n (counts ∷ []) (now (table .entry)) ⌝ }
+{
+    let start = n * 60;
+    let mut i: usize = 0;
+    while i < 60 {
+        table[start + i] = counts[i];
+        i = i + 1;
+    }
+}
+
+// The counts of a less those of b.
+fn less_row(a: [u8; 60], b: [u8; 60]) -> [u8; 60]
+    ensures { λ r. ⌜ r ≡ less a b ⌝ }
+{
+    let mut left = [0u8; 60];
+    let mut i: usize = 0;
+    while i < 60 {
+        if b[i] < a[i] {
+            left[i] = a[i] - b[i];
+        }
+        i = i + 1;
+    }
+    left
+}
+
+// What two bags have in common.
+fn meet_row(a: [u8; 60], b: [u8; 60]) -> [u8; 60]
+    ensures { λ r. ⌜ r ≡ meet a b ⌝ }
+{
+    let mut common = b;
+    let mut i: usize = 0;
+    while i < 60 {
+        if a[i] < b[i] {
+            common[i] = a[i];
+        }
+        i = i + 1;
+    }
+    common
+}
+
+// The bag of one occurrence of property c.
+fn single_row(c: usize) -> [u8; 60]
+    requires { ⌜ c < 60 ⌝ }
+    ensures { λ r. ⌜ r ≡ single 60 c ⌝ }
+{
+    let mut one = [0u8; 60];
+    one[c] = 1;
+    one
+}
+
+// Whether every count is 0.
+fn is_empty(counts: [u8; 60]) -> bool
+    ensures { λ r. ⌜ r ≡ isEmpty counts ⌝ }
+{
+    let mut i: usize = 0;
+    while i < 60 {
+        if counts[i] > 0 {
+            return false;
+        }
+        i = i + 1;
+    }
+    true
+}
+
+// Writes the rule from start to finish as row number n of the three tables.
+fn put_rule(
+    enablers: &mut [u8],
+    starts: &mut [u8],
+    finishes: &mut [u8],
+    n: usize,
+    p: [u8; 60],
+    start: [u8; 60],
+    finish: [u8; 60],
+) -> usize
+    requires { ⌜ Room (n + 1) (now enablers) (now starts) (now finishes) ⌝ }
+    ensures { λ r. ⌜ Appended (ruleFrom p start finish ∷ []) n r (now (enablers .entry)) (now (starts .entry)) (now (finishes .entry)) (now (enablers .exit)) (now (starts .exit)) (now (finishes .exit)) ⌝ }
+{
+    put_row(enablers, n, less_row(p, start));
+    put_row(starts, n, start);
+    put_row(finishes, n, finish);
+    n + 1
+}
+
+// A rule for each property of x: it is exchanged for itself.
+fn put_exchanges(
+    enablers: &mut [u8],
+    starts: &mut [u8],
+    finishes: &mut [u8],
+    n: usize,
+    p: [u8; 60],
+    x: [u8; 60],
+) -> usize
+    requires { ⌜ Room (n + length (exchanges p x)) (now enablers) (now starts) (now finishes) ⌝ }
+    ensures { λ r. ⌜ Appended (exchanges p x) n r (now (enablers .entry)) (now (starts .entry)) (now (finishes .entry)) (now (enablers .exit)) (now (starts .exit)) (now (finishes .exit)) ⌝ }
+{
+    let mut count = n;
+    for c in 0..60 {
+        if x[c] == 0 {
+            continue;
+        }
+        let one = single_row(c);
+        count = put_rule(enablers, starts, finishes, count, p, one, one);
+    }
+    count
+}
+
+// A rule for each property of finish, from an empty start.
+fn put_increasing(
+    enablers: &mut [u8],
+    starts: &mut [u8],
+    finishes: &mut [u8],
+    n: usize,
+    p: [u8; 60],
+    start: [u8; 60],
+    finish: [u8; 60],
+) -> usize
+    requires { ⌜ Room (n + length (increasing p start finish)) (now enablers) (now starts) (now finishes) ⌝ }
+    ensures { λ r. ⌜ Appended (increasing p start finish) n r (now (enablers .entry)) (now (starts .entry)) (now (finishes .entry)) (now (enablers .exit)) (now (starts .exit)) (now (finishes .exit)) ⌝ }
+{
+    let mut count = n;
+    for c in 0..60 {
+        if finish[c] == 0 {
+            continue;
+        }
+        let one = single_row(c);
+        count = put_rule(enablers, starts, finishes, count, p, start, one);
+    }
+    count
+}
+
+// What start and finish leave beside the exchanges.
+fn put_remaining(
+    enablers: &mut [u8],
+    starts: &mut [u8],
+    finishes: &mut [u8],
+    n: usize,
+    p: [u8; 60],
+    start: [u8; 60],
+    finish: [u8; 60],
+) -> usize
+    requires { ⌜ Room (n + length (remaining p start finish)) (now enablers) (now starts) (now finishes) ⌝ }
+    ensures { λ r. ⌜ Appended (remaining p start finish) n r (now (enablers .entry)) (now (starts .entry)) (now (finishes .entry)) (now (enablers .exit)) (now (starts .exit)) (now (finishes .exit)) ⌝ }
+{
+    if is_empty(start) {
+        return put_increasing(enablers, starts, finishes, n, p, start, finish);
+    }
+    put_rule(enablers, starts, finishes, n, p, start, finish)
+}
+
+// The rules of a parameter with the bags p, d and a.
+fn put_parameter(
+    enablers: &mut [u8],
+    starts: &mut [u8],
+    finishes: &mut [u8],
+    n: usize,
+    p: [u8; 60],
+    d: [u8; 60],
+    a: [u8; 60],
+) -> usize
+    requires { ⌜ Room (n + length (rulesOf p d a)) (now enablers) (now starts) (now finishes) ⌝ }
+    ensures { λ r. ⌜ Appended (rulesOf p d a) n r (now (enablers .entry)) (now (starts .entry)) (now (finishes .entry)) (now (enablers .exit)) (now (starts .exit)) (now (finishes .exit)) ⌝ }
+{
+    let x = meet_row(d, a);
+    let m = put_exchanges(enablers, starts, finishes, n, p, x);
+    put_remaining(
+        enablers,
+        starts,
+        finishes,
+        m,
+        p,
+        less_row(d, x),
+        less_row(a, x),
+    )
+}
+
+// The rules of parameter k of a schema.
+fn put_parameter_of(
+    enablers: &mut [u8],
+    starts: &mut [u8],
+    finishes: &mut [u8],
+    n: usize,
+    schema: Schema,
+    predicates: ArityList,
+    firsts: [usize; 20],
+    k: u8,
+) -> usize
+    requires { ⌜ AritiesRight predicates ⌝ }
+    requires { ⌜ SchemaRight (aritiesOf predicates) schema ⌝ }
+    requires { ⌜ firsts ≡ padded 20 0 (firstProperties (aritiesOf predicates)) ⌝ }
+    requires { ⌜ Room (n + length (parameterRulesOver (aritiesOf predicates) (schemaOf (aritiesOf predicates) schema) k)) (now enablers) (now starts) (now finishes) ⌝ }
+    ensures { λ r. ⌜ Appended (parameterRulesOver (aritiesOf predicates) (schemaOf (aritiesOf predicates) schema) k) n r (now (enablers .entry)) (now (starts .entry)) (now (finishes .entry)) (now (enablers .exit)) (now (starts .exit)) (now (finishes .exit)) ⌝ }
+{
+    let p = bag_of_parameter(schema.preconditions, predicates, firsts, k);
+    let d = bag_of_parameter(schema.deletes, predicates, firsts, k);
+    let a = bag_of_parameter(schema.adds, predicates, firsts, k);
+    put_parameter(enablers, starts, finishes, n, p, d, a)
+}
+
+// The rules of all parameters of a schema, in parameter order.
+fn put_schema(
+    enablers: &mut [u8],
+    starts: &mut [u8],
+    finishes: &mut [u8],
+    n: usize,
+    schema: Schema,
+    predicates: ArityList,
+    firsts: [usize; 20],
+) -> usize
+    requires { ⌜ AritiesRight predicates ⌝ }
+    requires { ⌜ SchemaRight (aritiesOf predicates) schema ⌝ }
+    requires { ⌜ firsts ≡ padded 20 0 (firstProperties (aritiesOf predicates)) ⌝ }
+    requires { ⌜ Room (n + length (schemaRulesOver (aritiesOf predicates) (schemaOf (aritiesOf predicates) schema))) (now enablers) (now starts) (now finishes) ⌝ }
+    ensures { λ r. ⌜ Appended (schemaRulesOver (aritiesOf predicates) (schemaOf (aritiesOf predicates) schema)) n r (now (enablers .entry)) (now (starts .entry)) (now (finishes .entry)) (now (enablers .exit)) (now (starts .exit)) (now (finishes .exit)) ⌝ }
+{
+    let parameters = schema.parameters;
+    let mut count = n;
+    let mut k: usize = 0;
+    while k < parameters {
+        count = put_parameter_of(
+            enablers,
+            starts,
+            finishes,
+            count,
+            schema,
+            predicates,
+            firsts,
+            k as u8,
+        );
+        k = k + 1;
+    }
+    count
+}
+
+// The rules of a task, in schema order, from the start of the three tables, and their number.
+pub fn rules(task: Task, enablers: &mut [u8], starts: &mut [u8], finishes: &mut [u8]) -> usize
+    requires { ⌜ Represented task (taskOf task) ⌝ }
+    requires { ⌜ Room mostRules (now enablers) (now starts) (now finishes) ⌝ }
+    ensures { λ r. ⌜ RuleTable (transitions (taskOf task)) r (now (enablers .entry)) (now (starts .entry)) (now (finishes .entry)) (now (enablers .exit)) (now (starts .exit)) (now (finishes .exit)) ⌝ }
+{
+    let predicates = task.predicates;
+    let schemas = task.schemas;
+    let numbers = numbered(predicates);
+    let firsts = numbers.firsts;
+    let m = schemas.count;
+    let mut count: usize = 0;
+    let mut i: usize = 0;
+    while i < m {
+        let schema = schemas.schemas[i];
+        count = put_schema(
+            enablers,
+            starts,
+            finishes,
+            count,
+            schema,
+            predicates,
+            firsts,
+        );
+        i = i + 1;
+    }
+    count
+}
+
+// Empties the first rows of a table of objects' bags.
+fn clear_rows(counts: &mut [u16], rows: usize)
+    requires { ⌜ 60 * rows ≤ length (now counts) ⌝ }
+    ensures { λ _. ⌜ now (counts .exit) ≡ replicate (60 * rows) 0 ++ drop (60 * rows) (now (counts .entry)) ⌝ }
+{
+    let end = rows * 60;
+    let mut i: usize = 0;
+    while i < end {
+        counts[i] = 0;
+        i = i + 1;
+    }
+}
+
+// Counts a property of an object, in the object's row.
+fn enter_argument(counts: &mut [u16], object: u8, property: usize)
+    requires { ⌜ 60 * object + property < length (now counts) ⌝ }
+    requires { ⌜ getD (now counts) (60 * object + property) 0 < 65535 ⌝ }
+    ensures { λ _. ⌜ now (counts .exit) ≡ raised (now (counts .entry)) (60 * object + property) ⌝ }
+{
+    let place = 60 * wide(object) + property;
+    counts[place] = counts[place] + 1;
+}
+
+// Counts a fact for each of its objects: the properties of its predicate begin at `first`, and it has `arity` arguments.
+fn enter_fact(counts: &mut [u16], first: usize, fact: Atom, arity: usize)
+    requires { ⌜ (1 ≤ arity) × (arity ≤ 3) ⌝ }
+    requires { ⌜ Enterable first (take arity (fact .first ∷ fact .second ∷ fact .third ∷ [])) (now counts) ⌝ }
+    ensures { λ _. ⌜ now (counts .exit) ≡ entered first (take arity (fact .first ∷ fact .second ∷ fact .third ∷ [])) (now (counts .entry)) ⌝ }
+{
+    enter_argument(counts, fact.first, first);
+    if arity < 2 {
+        return;
+    }
+    enter_argument(counts, fact.second, first + 1);
+    if arity < 3 {
+        return;
+    }
+    enter_argument(counts, fact.third, first + 2);
+}
+
+// The bags of all objects over the task's facts: one row an object.
+pub fn object_bags(task: Task, counts: &mut [u16])
+    requires { ⌜ Represented task (taskOf task) ⌝ }
+    requires { ⌜ 3840 ≤ length (now counts) ⌝ }
+    ensures { λ _. ⌜ now (counts .exit) ≡ rowsBefore (objectBags (taskOf task)) (now (counts .entry)) ⌝ }
+{
+    let predicates = task.predicates;
+    let facts = task.facts;
+    let numbers = numbered(predicates);
+    let firsts = numbers.firsts;
+    let m = facts.count;
+    let objects = task.objects;
+    clear_rows(counts, objects);
+    let mut i: usize = 0;
+    while i < m {
+        let fact = facts.facts[i];
+        let p = wide(fact.predicate);
+        let arity = wide(predicates.arities[p]);
+        enter_fact(counts, firsts[p], fact, arity);
+        i = i + 1;
+    }
+}

@@ -1,0 +1,147 @@
+-- The rules of a task, schema by schema.
+use Prim.Native.Nat.{ℕ, _+_, _-_, _<_}
+use denote.Ref.{now}
+use mathlib.Core.Path.{sym, ap}
+use mathlib.Core.List.{[], flatMap}
+use lib.ListN.{length}
+use Rattle.card.specs.declared.Schema.{Schema}
+use Rattle.card.specs.Represents.{aritiesOf, schemaOf, schemasOf, taskOf}
+use Rattle.model.proofs.RuleCount.{rules-few}
+use Rattle.rules.specs.Appended.{schemaRulesOver}
+use Rattle.rules.proofs.Predicates.{sum-arities}
+use Rattle.rules.proofs.Appending.{room-fewer, as-rules, as-room, whole-table}
+use Rattle.rules.proofs.EachItem.{ItemsPut, ItemsGiven, items-start, items-kept, room-item, put-item, items-end}
+use Rattle.rules.proofs.SchemaRules.{schemas-sized}
+use Rattle.rules.proofs.TaskParts.{arities-right, schema-count, schemas-few, schema-at, schema-right, transitions-over}
+use native.Mathlib.Omega.{arith}
+use Rattle.rules.proofs.rules.Statement.{statement}
+use Rattle.rules.proofs.rules.Tie as tie
+
+abbrev Inv-loop : tie.InvT-loop
+Inv-loop enablers₀ starts₀ finishes₀ predicates schemas firsts m count₀ i₀ enablers starts finishes count i =
+    ItemsPut (schemaRulesOver (aritiesOf predicates)) (schemasOf (aritiesOf predicates) schemas) 0 i count
+    enablers₀ starts₀ finishes₀ enablers starts finishes
+
+abbrev μ-loop : tie.MeasureT-loop
+μ-loop enablers₀ starts₀ finishes₀ predicates schemas firsts m count₀ i₀ enablers starts finishes count i = m - i
+
+-- what the loop is given
+given : (s : tie.Start Inv-loop μ-loop)
+    → ItemsGiven (schemaRulesOver (aritiesOf (s .args .task .predicates)))
+    (schemasOf (aritiesOf (s .args .task .predicates)) (s .args .task .schemas)) 0 (now (s .args .enablers)) (now (s .args .starts))
+    (now (s .args .finishes))
+unfolding taskOf
+given s =
+    let t = taskOf (s .args .task) in
+    let few = sum-arities (s .args .task .predicates) (arities-right (s .args .task) (s .pre .0)) in
+    record {
+      size = _;
+      few = few;
+      sized = schemas-sized (t .arities) few (t .schemas);
+      room =
+          room-fewer (0 + length (flatMap (schemaRulesOver (t .arities)) (t .schemas))) 960 (now (s .args .enablers))
+          (now (s .args .starts)) (now (s .args .finishes))
+          (omega (arith, ap length (transitions-over t), rules-few t (s .pre .0 .checked))) (s .pre .1);
+    }
+
+-- an index of the schemas
+turn : (s : tie.Start Inv-loop μ-loop) (i : ℕ) → i < s .args .task .schemas .count
+    → i < length (schemasOf (aritiesOf (s .args .task .predicates)) (s .args .task .schemas))
+unfolding taskOf
+turn s i h = omega (arith, h, schema-count (s .args .task) (s .pre .0))
+
+-- what stands past the schemas
+none : Schema
+none = record {
+  parameters = 0;
+  preconditions = record { count = 0; atoms = [] };
+  deletes = record { count = 0; atoms = [] };
+  adds = record { count = 0; atoms = [] };
+}
+
+numbered-requires : tie.Need-numbered-requires Inv-loop μ-loop
+numbered-requires c κs = arities-right (c .before .before .before .before .before .args .task) (c .before .before .before .before .before .pre .0) .few
+
+loop-holds : tie.Need-loop-holds Inv-loop μ-loop
+loop-holds c = items-start (given (c .before .before .before .before .before .before .before))
+
+mul-schema : tie.Need-mul-schema Inv-loop μ-loop
+mul-schema c = let few = schemas-few (c .before .before .before .before .before .before .before .before .before .args .task) (c .before .before .before .before .before .before .before .before .before .pre .0) in omega arith
+
+element-copy-out-schema : tie.Need-element-copy-out-schema Inv-loop μ-loop
+element-copy-out-schema c = let few = schemas-few (c .before .before .before .before .before .before .before .before .before .args .task) (c .before .before .before .before .before .before .before .before .before .pre .0) in omega arith
+
+put-schema-requires : tie.Need-put-schema-requires Inv-loop μ-loop
+unfolding taskOf none
+put-schema-requires c κs =
+    let s = c .before .before .before .before .before .before .before .before .before .before .before .before .before in
+    let at = c .before .before .before .before .before .loop in
+    let h = c .before .before .before .before .loop-test .taken in
+    let task = s .args .task in
+    let arities = aritiesOf (task .predicates) in (
+      arities-right task (s .pre .0),
+      (
+        schema-right task (s .pre .0) (at .i) none h,
+        (
+          c .before .before .before .before .before .before .before .numbered .ensures .firsts,
+          as-room (ap (schemaRulesOver arities) (schema-at task (s .pre .0) (at .i) none h)) (at .count)
+              (room-item (given s) (at .inv) (schemaOf arities none) (turn s (at .i) h)),
+        ),
+      ),
+    )
+
+add-i : tie.Need-add-i Inv-loop μ-loop
+add-i c =
+    let s = c .before .before .before .before .before .before .before .before .before .before .before .before .before .before .before .before .before .before .before .before in
+    let few = schemas-few (s .args .task) (s .pre .0) in
+    let h = c .before .before .before .before .before .before .before .before .before .before .before .loop-test .taken in
+    omega arith
+
+loop-less : tie.Need-loop-less Inv-loop μ-loop
+loop-less c = omega arith
+
+loop-again : tie.Need-loop-again Inv-loop μ-loop
+unfolding taskOf none
+loop-again c =
+    let s = c .before .before .before .before .before .before .before .before .before .before .before .before .before .before .before .before .before .before .before .before in
+    let at = c .before .before .before .before .before .before .before .before .before .before .before .before .loop in
+    let h = c .before .before .before .before .before .before .before .before .before .before .before .loop-test .taken in
+    let task = s .args .task in
+    let arities = aritiesOf (task .predicates) in
+    put-item (given s) (at .inv) (schemaOf arities none) (turn s (at .i) h)
+    (as-rules (ap (schemaRulesOver arities) (sym (schema-at task (s .pre .0) (at .i) none h))) (c .before .before .before .before .before .before .put-schema .ensures))
+
+same-length : tie.Need-same-length Inv-loop μ-loop
+same-length c = items-kept (given (c .before .before .before .before .before .before .before .before .before)) (c .before .loop .inv) .enablers-kept
+
+same-length-2 : tie.Need-same-length-2 Inv-loop μ-loop
+same-length-2 c = items-kept (given (c .before .before .before .before .before .before .before .before .before)) (c .before .loop .inv) .starts-kept
+
+same-length-3 : tie.Need-same-length-3 Inv-loop μ-loop
+same-length-3 c = items-kept (given (c .before .before .before .before .before .before .before .before .before)) (c .before .loop .inv) .finishes-kept
+
+returns : tie.Need-returns Inv-loop μ-loop
+unfolding taskOf
+returns c =
+    let s = c .before .before .before .before .before .before .before .before .before in
+    whole-table (as-rules (sym (transitions-over (taskOf (s .args .task))))
+    (items-end (given s) (c .before .loop .inv) (omega (arith, c .loop-test .left, schema-count (s .args .task) (s .pre .0)))))
+
+pub rules-spec : {M : Type 1} → statement M
+rules-spec =
+    tie.close
+    (tie.spec
+    Inv-loop
+    μ-loop
+    numbered-requires
+    loop-holds
+    mul-schema
+    element-copy-out-schema
+    put-schema-requires
+    add-i
+    loop-less
+    loop-again
+    same-length
+    same-length-2
+    same-length-3
+    returns)
