@@ -5,11 +5,13 @@ use native.Mathlib.Numerals.{add-one}
 use native.Mathlib.Omega.{arith}
 use mathlib.Core.Path.{_≡_, refl, sym, ap, _∙_, subst}
 use mathlib.Core.Bool.{Bool, true, false, cond}
-use mathlib.Core.List.{List, [], _∷_, _++_, map, foldl}
+use mathlib.Core.List.{List, [], _∷_, _++_, map, foldl, append-nil}
 use lib.ListN.{length, getD, set, take, drop}
 use lib.Seq.{set-getD}
-use Rattle.laws.specs.Lists.{keep, from, upTo}
+use Rattle.laws.specs.Lists.{keep, count, from, upTo}
 use Rattle.laws.proofs.Tests.{cond-true, cond-false}
+use Rattle.laws.proofs.Lists.{length-keep, length-upTo}
+use Rattle.laws.proofs.Groups.{count-most}
 
 -- the numbers from i on below size
 unfoldable pub left : ℕ → ℕ → List ℕ
@@ -140,3 +142,32 @@ from-suc start (suc size) =
 pub upTo-next : (n : ℕ) → upTo (n + 1) ≡ upTo n ++ (n ∷ [])
 unfolding upTo
 upTo-next n = ap (from 0) (add-one n) ∙ from-suc 0 n ∙ ap (λ (k : ℕ). from 0 n ++ (k ∷ [])) (zero-add n)
+
+-- one more number that passes a test, or fails it
+keep-append : {A : Type 0} (test : A → Bool) (xs ys : List A) → keep test (xs ++ ys) ≡ keep test xs ++ keep test ys
+unfolding keep
+keep-append test [] ys = refl
+keep-append {A} test (x ∷ xs) ys = go (test x) (keep-append test xs ys)
+  where
+    go : (b : Bool) → keep test (xs ++ ys) ≡ keep test xs ++ keep test ys
+        → cond b (x ∷ keep test (xs ++ ys)) (keep test (xs ++ ys)) ≡ cond b (x ∷ keep test xs) (keep test xs) ++ keep test ys
+    go true e = ap (λ (l : List A). x ∷ l) e
+    go false e = e
+
+module _ (test : ℕ → Bool) (n : ℕ) where
+  more : keep test (upTo (n + 1)) ≡ keep test (upTo n) ++ keep test (n ∷ [])
+  more = ap (keep test) (upTo-next n) ∙ keep-append test (upTo n) (n ∷ [])
+
+  pub keep-one-more : test n ≡ true → keep test (upTo (n + 1)) ≡ keep test (upTo n) ++ (n ∷ [])
+  unfolding keep
+  keep-one-more e = more ∙ ap (λ (l : List ℕ). keep test (upTo n) ++ l) (cond-true (test n) (n ∷ []) [] e)
+
+  pub keep-no-more : test n ≡ false → keep test (upTo (n + 1)) ≡ keep test (upTo n)
+  unfolding keep
+  keep-no-more e = more ∙ ap (λ (l : List ℕ). keep test (upTo n) ++ l) (cond-false (test n) (n ∷ []) [] e) ∙ append-nil (keep test (upTo n))
+
+  -- no more numbers are kept than there are
+  pub keep-few : length (keep test (upTo n)) ≤ n
+  keep-few =
+      subst (λ (k : ℕ). k ≤ n) (sym (length-keep test (upTo n)))
+      (subst (λ (k : ℕ). count test (upTo n) ≤ k) (length-upTo n) (count-most test (upTo n)))

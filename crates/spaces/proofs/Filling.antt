@@ -3,9 +3,12 @@ use Prim.Native.Nat.{ℕ, suc, _-_, _+_, _≤_, _<_}
 use native.Mathlib.Nat.{add-zero}
 use native.Mathlib.Omega.{arith}
 use mathlib.Core.Path.{_≡_, refl, sym, ap, _∙_, subst}
+use mathlib.Core.Bool.{Bool, true, false}
 use mathlib.Core.List.{List, [], _∷_, _++_, append-assoc}
 use lib.ListN.{length, set, getD, replicate, length-append, length-replicate, List·getD-append, getD-replicate}
 use lib.Seq.{set-append-seam, getD-append-add}
+use Rattle.laws.specs.Lists.{keep, upTo}
+use Rattle.laws.proofs.Walks.{keep-one-more, keep-no-more, keep-few}
 use Rattle.card.specs.Represents.{padded}
 
 module _ {A : Type 0} (n : ℕ) (blank : A) where
@@ -35,3 +38,25 @@ module _ {A : Type 0} (n : ℕ) (blank : A) where
   pub padded-at : (xs : List A) (i : ℕ) (d : A) → i < length xs → getD (padded n blank xs) i d ≡ getD xs i d
   unfolding padded
   padded-at xs i d h = List·getD-append xs (replicate (n - length xs) blank) d i h
+
+-- An array that holds the numbers so far that pass a test, and how many there are.
+module _ (test : ℕ → Bool) (n : ℕ) (array : List ℕ) (count i : ℕ) (room : i < n)
+    (counted : count ≡ length (keep test (upTo i))) (filled : array ≡ padded n 0 (keep test (upTo i))) where
+  -- the next number passes and is written behind them
+  pub pick-written : test i ≡ true
+      → (count + 1 ≡ length (keep test (upTo (i + 1)))) × (set array count i ≡ padded n 0 (keep test (upTo (i + 1))))
+  pick-written e =
+      let next = keep-one-more test i e in
+      let few = keep-few test i in (
+        ap (λ (k : ℕ). k + 1) counted ∙ sym (length-append (keep test (upTo i)) (i ∷ [])) ∙ ap length (sym next),
+        ap (λ (l : List ℕ). set l count i) filled
+        ∙ ap (λ (k : ℕ). set (padded n 0 (keep test (upTo i))) k i) counted
+        ∙ padded-next n 0 (keep test (upTo i)) i (omega arith)
+        ∙ ap (padded n 0) (sym next),
+      )
+
+  -- or fails, and nothing changes
+  pub pick-skipped : test i ≡ false
+      → (count ≡ length (keep test (upTo (i + 1)))) × (array ≡ padded n 0 (keep test (upTo (i + 1))))
+  pick-skipped e =
+      let next = sym (keep-no-more test i e) in (counted ∙ ap length next, filled ∙ ap (padded n 0) next)

@@ -2,9 +2,10 @@
 use Prim.Native.Nat.{ℕ, zero, suc, _*_, _^_, _-_}
 use mathlib.Core.Bool.{Bool, cond}
 use mathlib.Core.List.{List, [], _∷_, map, foldl}
+use lib.Dec.{eqb}
 use lib.ListN.{getD, set, take, drop, replicate}
 use lib.Bits.{bitAnd, bitOr}
-use Rattle.laws.specs.Lists.{upTo}
+use Rattle.laws.specs.Lists.{keep, upTo}
 use Rattle.laws.specs.Bags.{Bag, plus, isEmpty, support}
 use Rattle.model.specs.Transitions.{Transition}
 use Rattle.model.specs.Spaces.{moved}
@@ -30,6 +31,10 @@ movedAt size starts finishes row = support (plus (bagAt size starts row) (bagAt 
 unfoldable pub firstOr : ℕ → List ℕ → ℕ
 firstOr other [] = other
 firstOr other (n ∷ ns) = n
+
+-- the properties, of the first `size`, that are their own label: the lowest property of each group
+unfoldable pub labelled : ℕ → List ℕ → List ℕ
+labelled size groups = keep (λ c. eqb (getD groups c 0) c) (upTo size)
 
 -- objects join the space of a property
 unfoldable pub joinAt : List ℕ → ℕ → List ℕ → ℕ → List ℕ

@@ -7,10 +7,9 @@ ghost use Prim.Native.Nat.{ℕ, _+_, _*_, _≤_, _<_};
 ghost use lib.Dec.{ltb, eqb};
 ghost use lib.ListN.{length};
 ghost use Rattle.laws.specs.Lists.{upTo};
-ghost use Rattle.laws.specs.Bags.{isEmpty};
 ghost use Rattle.model.specs.Spaces as model;
 ghost use Rattle.card.specs.Represents.{padded};
-ghost use Rattle.spaces.specs.Steps.{bagAt, movedAt, firstOr, rulesIn};
+ghost use Rattle.spaces.specs.Steps.{movedAt, firstOr, rulesIn, labelled};
 
 // A property with these counts in start and finish is moved.
 fn moves(start: u8, finish: u8) -> bool
@@ -111,4 +110,31 @@ pub fn grouping(starts: &[u8], finishes: &[u8], count: usize, size: usize) -> [u
         groups = next;
     }
     groups
+}
+
+// The labels of a grouping, ascending: for each space its lowest property. Places past their number are 0.
+pub struct Labels {
+    pub count: usize,
+    pub lowest: [u8; 60],
+}
+
+// A property is the lowest of its space where it is its own label.
+pub fn labels_of(groups: &[u8], size: usize) -> Labels
+    requires { ⌜ size ≤ 60 ⌝ }
+    requires { ⌜ size ≤ length (now groups) ⌝ }
+    ensures { λ r. ⌜ r .count ≡ length (labelled size (now (groups .entry))) ⌝ }
+    ensures { λ r. ⌜ r .lowest ≡ padded 60 0 (labelled size (now (groups .entry))) ⌝ }
+{
+    let mut lowest = [0u8; 60];
+    let mut count: usize = 0;
+    for c in 0..size {
+        if groups[c] as usize == c {
+            lowest[count] = groups[c];
+            count += 1;
+        }
+    }
+    Labels {
+        count,
+        lowest,
+    }
 }
