@@ -11,12 +11,16 @@ use lib.Dec.{eqb, eqb·zero-suc, eqb·suc-zero, eqb·suc-suc}
 use lib.ListN.{length}
 use lib.Bits.{bitAnd, bitOr, and-step, or-step, and-block, and-self, and-shifted, shifted-half, shifted-even}
 use lib.Count.{ones, ones-cat, trailingZeros, under}
-use lib.Pow.{pow-pos, pow-lt, pow-add, ones-lt}
+use lib.Pow.{shl-exact, pow-pos, pow-lt, pow-add, ones-lt}
 use Rattle.laws.specs.Lists.{keep, from, upTo, sum, count}
 
 -- the mask of a list of numbers: a one at the place of each
 abbrev pub mask : List ℕ → ℕ
 mask os = sum (map (λ o. 2 ^ o) os)
+
+-- the mask of one number is a one shifted to its place
+pub one-shifted : (width o : ℕ) → o < width → (1 * 2 ^ o) % 2 ^ width ≡ 2 ^ o
+one-shifted width o h = shl-exact {a = 1} 1 o width (omega arith) (omega arith) ∙ one-mul (2 ^ o)
 
 -- The numbers ascend, the first of them n or more.
 abbrev pub Ascending : ℕ → List ℕ → Type 0

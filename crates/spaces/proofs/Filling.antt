@@ -1,12 +1,12 @@
 -- Arrays filled from the front, with a blank in the places past what was written.
 use Prim.Native.Nat.{ℕ, suc, _-_, _+_, _≤_, _<_}
-use native.Mathlib.Nat.{add-zero}
+use native.Mathlib.Numerals.{add-one}
 use native.Mathlib.Omega.{arith}
 use mathlib.Core.Path.{_≡_, refl, sym, ap, _∙_, subst}
 use mathlib.Core.Bool.{Bool, true, false}
-use mathlib.Core.List.{List, [], _∷_, _++_, append-assoc}
-use lib.ListN.{length, set, getD, replicate, length-append, length-replicate, List·getD-append, getD-replicate}
-use lib.Seq.{set-append-seam, getD-append-add}
+use mathlib.Core.List.{List, [], _∷_, _++_, map, map-append, append-assoc}
+use lib.ListN.{length, take, length-map, set, getD, replicate, length-append, length-replicate, List·getD-append}
+use lib.Seq.{set-append-seam, take-suc, length-take-le}
 use Rattle.laws.specs.Lists.{keep, upTo}
 use Rattle.laws.proofs.Walks.{keep-one-more, keep-no-more, keep-few}
 use Rattle.card.specs.Represents.{padded}
@@ -60,3 +60,13 @@ module _ (test : ℕ → Bool) (n : ℕ) (array : List ℕ) (count i : ℕ) (roo
       → (count ≡ length (keep test (upTo (i + 1)))) × (array ≡ padded n 0 (keep test (upTo (i + 1))))
   pick-skipped e =
       let next = sym (keep-no-more test i e) in (counted ∙ ap length next, filled ∙ ap (padded n 0) next)
+
+-- An array that holds what a function gives of the first i elements of a list: the next is written behind them.
+pub map-written : (n : ℕ) (f : ℕ → ℕ) (xs array : List ℕ) (i : ℕ) → i < n → i < length xs → array ≡ padded n 0 (map f (take i xs))
+    → set array i (f (getD xs i 0)) ≡ padded n 0 (map f (take (i + 1) xs))
+map-written n f xs array i room h filled =
+    let size : length (map f (take i xs)) ≡ i = length-map (take i xs) f ∙ length-take-le i xs (omega arith) in
+    ap (λ (l : List ℕ). set l i (f (getD xs i 0))) filled
+    ∙ ap (λ (k : ℕ). set (padded n 0 (map f (take i xs))) k (f (getD xs i 0))) (sym size)
+    ∙ padded-next n 0 (map f (take i xs)) (f (getD xs i 0)) (omega arith)
+    ∙ ap (padded n 0) (sym (map-append f (take i xs) (getD xs i 0 ∷ [])) ∙ ap (map f) (sym (ap (λ (k : ℕ). take k xs) (add-one i) ∙ take-suc xs i 0 h)))

@@ -9,8 +9,9 @@ use lib.ListN.{length, getD, take, drop, length-take, length-drop}
 use lib.Seq.{getD-take, getD-drop, length-take-le}
 use Rattle.laws.specs.Lists.{keep, upTo}
 use Rattle.laws.specs.Bags.{Bag, plus, support, isEmpty}
+use Rattle.laws.proofs.Tests.{by-test}
 use Rattle.laws.proofs.Lists.{upTo-at, upTo-intro, keep-at, keep-intro}
-use Rattle.laws.proofs.Bags.{getD-plus, length-plus}
+use Rattle.laws.proofs.Bags.{getD-plus, length-plus, isEmpty-at, isEmpty-intro}
 use Rattle.laws.proofs.Groups.{keep-ext}
 use Rattle.laws.proofs.Walks.{left, kept-passes, kept-fails, kept-none, kept-all}
 use Rattle.spaces.specs.Steps.{bagAt, movedAt, firstOr}
@@ -38,6 +39,16 @@ module _ (size : ℕ) (narrow : size ≤ 60) (row : ℕ) where
     support-kept =
         ap (λ (n : ℕ). keep (λ c. ltb 0 (getD (bagAt size table row) c 0)) (upTo n)) length-bagAt
         ∙ keep-ext _ _ (upTo size) (λ c m. ap (ltb 0) (bagAt-at c (upTo-at size c m)))
+
+    -- the bag is empty where every count is 0, and not where one is not
+    pub row-empty : ((c : ℕ) → c < size → getD table (60 * row + c) 0 ≡ 0) → isEmpty (bagAt size table row) ≡ true
+    row-empty none =
+        isEmpty-intro (bagAt size table row)
+        (λ c h. let k = subst (λ (n : ℕ). c < n) length-bagAt h in bagAt-at c k ∙ none c k)
+
+    pub row-used : (c : ℕ) → c < size → (getD table (60 * row + c) 0 ≡ 0 → ⊥) → isEmpty (bagAt size table row) ≡ false
+    row-used c h some =
+        by-test (isEmpty (bagAt size table row)) (λ e. absurd (some (sym (bagAt-at c h) ∙ isEmpty-at (bagAt size table row) e c))) (λ e. e)
 
   module _ (starts finishes : List ℕ) (s : 60 * row + 60 ≤ length starts) (f : 60 * row + 60 ≤ length finishes) where
     same-length : length (bagAt size starts row) ≡ length (bagAt size finishes row)
