@@ -1,53 +1,80 @@
+-- No mask so far differs.
+use Prim.Native.Nat.{ℕ, _≤_, _-_, _<_, _+_, zero-le}
+use native.Mathlib.Nat.{le-trans}
+use native.Mathlib.Omega.{arith}
+use mathlib.Core.Path.{_≡_, refl, sym, ap, _∙_, subst}
+use mathlib.Core.Bool.{true, false}
+use mathlib.Core.List.{List}
+use borrow.Author.Count.{below-none, below-more}
+use lib.ListN.{length, getD}
+use lib.Seq.{ext-getD}
+use Rattle.laws.specs.Lists.{same}
+use Rattle.laws.proofs.Tests.{by-test}
+use Rattle.laws.proofs.Lists.{same-eq, same-refl}
 use Rattle.spaces.proofs.members.same_masks.Statement.{statement}
 use Rattle.spaces.proofs.members.same_masks.Tie as tie
 use Rattle.spaces.proofs.members.same_masks.Reads as reads
 use Rattle.spaces.proofs.members.same_masks.Lts as lts
 
+-- lists that differ at a place are not the same
+differ : (a b : List ℕ) (k : ℕ) → (getD a k 0 ≡ getD b k 0 → ⊥) → false ≡ same a b
+differ a b k no-match = sym (by-test (same a b) (λ e. absurd (no-match (ap (λ (l : List ℕ). getD l k 0) (same-eq a b e)))) (λ e. e))
+
 abbrev Inv-loop : tie.InvT-loop
-Inv-loop a b l₀ l = ?
+Inv-loop a b l₀ l = (l ≤ 60) × ((k : ℕ) → k < l → getD a k 0 ≡ getD b k 0)
 
 abbrev μ-loop : tie.MeasureT-loop
-μ-loop a b l₀ l = ?
+μ-loop a b l₀ l = 60 - l
 
 -- src/members.rt:163:5
 loop-holds : tie.Need-loop-holds Inv-loop μ-loop
-loop-holds c = ?
+loop-holds c = (zero-le, below-none _)
 
 -- src/members.rt:164:12
 mul-if1 : tie.Need-mul-if1 Inv-loop μ-loop
-mul-if1 c = ?
+mul-if1 c = omega arith
 
 -- src/members.rt:164:12
 shared-slice-read-if1 : tie.Need-shared-slice-read-if1 Inv-loop μ-loop
-shared-slice-read-if1 c = ?
+shared-slice-read-if1 c = omega arith
 
 -- src/members.rt:164:20
 mul-if1-2 : tie.Need-mul-if1-2 Inv-loop μ-loop
-mul-if1-2 c = ?
+mul-if1-2 c = omega arith
 
 -- src/members.rt:164:20
 shared-slice-read-if1-2 : tie.Need-shared-slice-read-if1-2 Inv-loop μ-loop
-shared-slice-read-if1-2 c = ?
+shared-slice-read-if1-2 c = omega arith
 
 -- src/members.rt:165:13
 returns : tie.Need-returns Inv-loop μ-loop
-returns c = ?
+returns c =
+    let head = c .before .before .before .before in
+    differ (head .before .args .a .now) (head .before .args .b .now) (head .loop .l) (c .if1 .taken)
 
 -- src/members.rt:163:9
 add-l : tie.Need-add-l Inv-loop μ-loop
-add-l c = ?
+add-l c = omega arith
 
 -- src/members.rt:163:5
 loop-less : tie.Need-loop-less Inv-loop μ-loop
-loop-less c = ?
+loop-less c = omega arith
 
 -- src/members.rt:163:5
 loop-again : tie.Need-loop-again Inv-loop μ-loop
-loop-again c = ?
+loop-again c = (omega arith, below-more _ _ (c .before .before .before .before .loop .inv .1) (c .if1 .left))
 
 -- src/members.rt:159:1
 returns-2 : tie.Need-returns-2 Inv-loop μ-loop
-returns-2 c = ?
+returns-2 c =
+    let head = c .before in
+    let start = head .before in
+    let a = start .args .a .now in
+    let b = start .args .b .now in
+    let equal : a ≡ b =
+    ext-getD 0 a b (start .pre .0 ∙ sym (start .pre .1))
+    (λ k h. head .loop .inv .1 k (le-trans (subst (λ (n : ℕ). k < n) (start .pre .0) h) (c .loop-test .left))) in
+    sym (ap (same a) (sym equal) ∙ same-refl a)
 
 pub same-masks-spec : {M : Type 1} → statement M
 same-masks-spec =

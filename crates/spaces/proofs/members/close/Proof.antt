@@ -1,0 +1,104 @@
+-- The rounds left, done with the members so far, give the whole; a round that adds nothing is the last.
+use Prim.Native.Nat.{ℕ, _≤_, _-_, _<_, _+_, _*_, zero-le}
+use native.Mathlib.Omega.{arith}
+use mathlib.Core.Path.{_≡_, refl, sym, ap, _∙_}
+use borrow.Author.Needs.{needs}
+use lib.ListN.{length}
+use Rattle.laws.proofs.Lists.{same-eq}
+use Rattle.spaces.specs.Steps.{rulesIn, roundsOf}
+use Rattle.spaces.proofs.Gaining.{rounds-start, rounds-next, rounds-end, rounds-stop}
+use Rattle.spaces.proofs.members.close.Statement.{statement}
+use Rattle.spaces.proofs.members.close.Tie as tie
+use Rattle.spaces.proofs.members.close.Reads as reads
+use Rattle.spaces.proofs.members.close.Lts as lts
+use Rattle.spaces.proofs.members.round.Reads as round-reads
+use Rattle.spaces.proofs.members.same_masks.Reads as same-masks-reads
+
+abbrev Inv-loop : tie.InvT-loop
+Inv-loop groups enablers starts finishes count size objects rounds closed₀ counter₀ closed counter =
+    (counter ≤ rounds)
+    × (length closed ≡ 60)
+    × (roundsOf groups objects (rulesIn size count enablers starts finishes) (rounds - counter) closed
+    ≡ roundsOf groups objects (rulesIn size count enablers starts finishes) rounds closed₀)
+
+abbrev μ-loop : tie.MeasureT-loop
+μ-loop groups enablers starts finishes count size objects rounds closed₀ counter₀ closed counter = rounds - counter
+
+-- src/members.rt:192:5
+loop-holds : tie.Need-loop-holds Inv-loop μ-loop
+loop-holds c =
+    let a = c .before .before .before .before .args in
+    let rules = rulesIn (a .size) (a .count) (a .enablers .now) (a .starts .now) (a .finishes .now) in
+    (zero-le, search needs, rounds-start (a .groups .now) (a .objects) rules _ (a .rounds) (a .masks) refl)
+
+-- src/members.rt:193:20
+round-requires : tie.Need-round-requires Inv-loop μ-loop
+round-requires c κs = c .before .before .before .before .before .before .pre
+
+-- src/members.rt:194:23
+slice-aggregate-same-masks : tie.Need-slice-aggregate-same-masks Inv-loop μ-loop
+slice-aggregate-same-masks c = search needs
+
+-- src/members.rt:194:32
+slice-aggregate-same-masks-2 : tie.Need-slice-aggregate-same-masks-2 Inv-loop μ-loop
+slice-aggregate-same-masks-2 c = search needs
+
+-- src/members.rt:194:12
+same-masks-requires : tie.Need-same-masks-requires Inv-loop μ-loop
+same-masks-requires c κs = (search needs, search needs)
+
+-- src/members.rt:195:13
+returns : tie.Need-returns Inv-loop μ-loop
+returns c =
+    let head = c .before .before .before .before .before .before in
+    let a = head .before .before .before .before .before .args in
+    let rules = rulesIn (a .size) (a .count) (a .enablers .now) (a .starts .now) (a .finishes .now) in
+    rounds-stop (a .groups .now) (a .objects) rules _ (a .rounds) (head .loop .counter) (head .loop .closed)
+    (sym (c .before .before .before .before .round .ensures)
+    ∙ sym (same-eq (head .loop .closed) (c .before .before .before .before .round .result) (sym (c .before .same-masks .ensures) ∙ c .if1 .taken)))
+    (head .loop .inv .2)
+
+-- src/members.rt:192:9
+add-counter : tie.Need-add-counter Inv-loop μ-loop
+add-counter c = omega arith
+
+-- src/members.rt:192:5
+loop-less : tie.Need-loop-less Inv-loop μ-loop
+loop-less c = omega arith
+
+-- src/members.rt:192:5
+loop-again : tie.Need-loop-again Inv-loop μ-loop
+loop-again c =
+    let head = c .before .before .before .before .before .before in
+    let a = head .before .before .before .before .before .args in
+    let rules = rulesIn (a .size) (a .count) (a .enablers .now) (a .starts .now) (a .finishes .now) in (
+      omega arith,
+      search needs,
+      rounds-next (a .groups .now) (a .objects) rules _ (a .rounds) (head .loop .counter) (head .loop .closed) (c .before .before .before .before .round .result)
+      (c .before .before .before .before .before .loop-test .taken) (c .before .before .before .before .round .ensures) (head .loop .inv .2),
+    )
+
+-- src/members.rt:172:1
+returns-2 : tie.Need-returns-2 Inv-loop μ-loop
+returns-2 c =
+    let head = c .before in
+    let a = head .before .before .before .before .before .args in
+    let rules = rulesIn (a .size) (a .count) (a .enablers .now) (a .starts .now) (a .finishes .now) in
+    rounds-end (a .groups .now) (a .objects) rules _ (a .rounds) (head .loop .counter) (head .loop .closed) (c .loop-test .left) (head .loop .inv .2)
+
+pub close-spec : {M : Type 1} → statement M
+close-spec =
+    tie.close
+    (tie.spec
+    Inv-loop
+    μ-loop
+    loop-holds
+    round-requires
+    slice-aggregate-same-masks
+    slice-aggregate-same-masks-2
+    same-masks-requires
+    returns
+    add-counter
+    loop-less
+    loop-again
+    returns-2)
