@@ -2,3 +2,4 @@ pub mod Filling
 pub mod Rows
 pub mod Uniting
 pub mod Gaining
+pub mod Joins
