@@ -1,12 +1,12 @@
 -- Arrays filled from the front, with a blank in the places past what was written.
-use Prim.Native.Nat.{ℕ, suc, _-_, _+_, _≤_, _<_}
+use Prim.Native.Nat.{ℕ, zero, suc, _-_, _+_, _≤_, _<_}
 use native.Mathlib.Numerals.{add-one}
 use native.Mathlib.Omega.{arith}
 use mathlib.Core.Path.{_≡_, refl, sym, ap, _∙_, subst}
 use mathlib.Core.Bool.{Bool, true, false}
 use mathlib.Core.List.{List, [], _∷_, _++_, map, map-append, append-assoc}
 use lib.ListN.{length, take, length-map, set, getD, replicate, length-append, length-replicate, List·getD-append}
-use lib.Seq.{set-append-seam, take-suc, length-take-le}
+use lib.Seq.{set-append-seam, getD-append-add, take-suc, length-take-le}
 use Rattle.laws.specs.Lists.{keep, upTo}
 use Rattle.laws.proofs.Walks.{keep-one-more, keep-no-more, keep-few}
 use Rattle.card.specs.Represents.{padded}
@@ -70,3 +70,19 @@ map-written n f xs array i room h filled =
     ∙ ap (λ (k : ℕ). set (padded n 0 (map f (take i xs))) k (f (getD xs i 0))) (sym size)
     ∙ padded-next n 0 (map f (take i xs)) (f (getD xs i 0)) (omega arith)
     ∙ ap (padded n 0) (sym (map-append f (take i xs) (getD xs i 0 ∷ [])) ∙ ap (map f) (sym (ap (λ (k : ℕ). take k xs) (add-one i) ∙ take-suc xs i 0 h)))
+
+-- past the elements stands the blank, and past the array nothing
+zeros-at : (k i : ℕ) → getD {A = ℕ} (replicate k 0) i 0 ≡ 0
+zeros-at zero i = refl
+zeros-at (suc k) zero = refl
+zeros-at (suc k) (suc i) = zeros-at k i
+
+pub padded-past : (n : ℕ) (xs : List ℕ) (i : ℕ) → length xs ≤ i → getD (padded n 0 xs) i 0 ≡ 0
+unfolding padded
+padded-past n xs i h =
+    ap (λ (k : ℕ). getD (xs ++ replicate (n - length xs) 0) k 0) (beyond h)
+    ∙ getD-append-add xs (replicate (n - length xs) 0) (i - length xs) 0
+    ∙ zeros-at (n - length xs) (i - length xs)
+  where
+    beyond : {a b : ℕ} → a ≤ b → b ≡ a + (b - a)
+    beyond p = omega arith

@@ -3,3 +3,4 @@ pub mod Rows
 pub mod Uniting
 pub mod Gaining
 pub mod Joins
+pub mod TaskSpaces
