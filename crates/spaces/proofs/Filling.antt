@@ -4,10 +4,14 @@ use native.Mathlib.Numerals.{add-one}
 use native.Mathlib.Omega.{arith}
 use mathlib.Core.Path.{_≡_, refl, sym, ap, _∙_, subst}
 use mathlib.Core.Bool.{Bool, true, false}
-use mathlib.Core.List.{List, [], _∷_, _++_, map, map-append, append-assoc}
+use mathlib.Core.List.{List, [], _∷_, _++_, map, map-append, append-assoc, List·Memᴰ}
 use lib.ListN.{length, take, length-map, set, getD, replicate, length-append, length-replicate, List·getD-append}
 use lib.Seq.{set-append-seam, getD-append-add, take-suc, length-take-le}
+use lib.Dec.{ltb}
+use borrow.Author.Tests.{ltb-true, ltb-false}
 use Rattle.laws.specs.Lists.{keep, upTo}
+use Rattle.laws.proofs.Tests.{by-test}
+use Rattle.laws.proofs.Lists.{mem-getD}
 use Rattle.laws.proofs.Walks.{keep-one-more, keep-no-more, keep-few}
 use Rattle.card.specs.Represents.{padded}
 
@@ -86,3 +90,12 @@ padded-past n xs i h =
   where
     beyond : {a b : ℕ} → a ≤ b → b ≡ a + (b - a)
     beyond p = omega arith
+
+-- an array of numbers below a bound, filled up with 0, holds numbers below it
+pub padded-below : (n m : ℕ) (xs : List ℕ) → ((x : ℕ) → List·Memᴰ x xs → x < m) → 0 < m → (i : ℕ) → getD (padded n 0 xs) i 0 < m
+padded-below n m xs below positive i =
+    by-test (ltb i (length xs))
+    (λ e.
+    let h = ltb-true i (length xs) e in
+    subst (λ (x : ℕ). x < m) (sym (padded-at n 0 xs i 0 h)) (below (getD xs i 0) (mem-getD xs i 0 h)))
+    (λ e. subst (λ (x : ℕ). x < m) (sym (padded-past n xs i (ltb-false i (length xs) e))) positive)

@@ -4,3 +4,4 @@ pub mod Uniting
 pub mod Gaining
 pub mod Joins
 pub mod TaskSpaces
+pub mod Found

@@ -6,9 +6,9 @@ use mathlib.Core.Path.{_≡_, refl, sym, ap, _∙_, subst, fun-ext}
 use mathlib.Core.Bool.{Bool, true, false, cond, not, _&&_, _||_}
 use mathlib.Core.Logic.{_⊎_, ⊎-elim}
 use mathlib.Core.List.{List, [], _∷_, map, map-map, List·Memᴰ, List·Memᴰ·head}
-use lib.Dec.{eqb, ltb}
+use lib.Dec.{eqb}
 use lib.ListN.{length, getD, length-map}
-use borrow.Author.Tests.{eqb-true, eq-eqb, ltb-true, ltb-false}
+use borrow.Author.Tests.{eqb-true, eq-eqb}
 use Rattle.laws.specs.Lists.{any, all, keep, upTo, member}
 use Rattle.laws.specs.Bags.{Bag, isEmpty, support, restrict}
 use Rattle.laws.proofs.Tests.{by-test, same-test, and-left, and-right, and-intro, not-true, to-not-true}
@@ -24,7 +24,7 @@ use Rattle.model.proofs.Closing.{groups, labels, propertiesAt, rulesAt, opens, 
 use Rattle.card.specs.Represents.{padded}
 use Rattle.spaces.specs.Steps.{bagAt, labelled, opened, roundsOf}
 use Rattle.spaces.specs.SpaceTable.{maskOf}
-use Rattle.spaces.proofs.Filling.{padded-at, padded-past}
+use Rattle.spaces.proofs.Filling.{padded-at, padded-below}
 use Rattle.spaces.proofs.Joins.{Joins, firstLabel, admittedBy, brings, oneRound, manyRounds, opensBy, masks-at, mask-ext, rounds-joins, opened-joins}
 
 -- a test on the kept elements of a list
@@ -42,6 +42,16 @@ and-swap : (a b c : Bool) → (a && (b && c)) ≡ (b && (a && c))
 and-swap true b c = refl
 and-swap false true c = refl
 and-swap false false c = refl
+
+-- an array of labels, each the lowest property of its group, holds numbers below 60
+pub grouping-known : (size : ℕ) → size ≤ 60 → (labels : List ℕ) → Lowest size labels → (c : ℕ) → getD (padded 60 0 labels) c 0 < 60
+grouping-known size narrow labels low =
+    padded-below 60 60 labels
+    (λ x m.
+    let place = place-of labels x 0 m in
+    subst (λ (n : ℕ). n < 60) (place .2)
+    (lt-of-lt-of-le (label-known size labels low (place .0) (subst (λ (n : ℕ). place .0 < n) (low .sized) (place .1))) narrow))
+    (omega arith)
 
 -- the array of labels of a task's properties
 unfoldable pub groupArray : Task → List ℕ
@@ -109,13 +119,8 @@ module _ (t : Task) where
   module _ (narrow : length (properties t) ≤ 60) where
     -- every place of the array holds the label of a property, or 0
     pub labels-known : (c : ℕ) → getD (groupArray t) c 0 < 60
-    labels-known c =
-        by-test (ltb c (length (properties t)))
-        (λ e. lt-of-lt-of-le (label-below c (ltb-true c (length (properties t)) e)) narrow)
-        (λ e. subst (λ (n : ℕ). n < 60) (sym (past (ltb-false c (length (properties t)) e))) (omega arith))
-      where
-        past : length (properties t) ≤ c → getD (groupArray t) c 0 ≡ 0
-        past h = unfold groupArray in padded-past 60 (groups t) c (subst (λ (n : ℕ). n ≤ c) (sym (lowest .sized)) h)
+    unfolding groupArray
+    labels-known = grouping-known (length (properties t)) narrow (groups t) lowest
 
     module _ (n : ℕ) where
       -- a rule moves a property of a label's space if its first has that label

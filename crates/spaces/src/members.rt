@@ -32,7 +32,7 @@ fn open_object(masks: [u64; 60], groups: &[u8], counts: &[u16], object: usize, s
 }
 
 // The members that open in each space: the objects with a nonempty initial condition.
-pub fn open(groups: &[u8], counts: &[u16], objects: usize, size: usize) -> [u64; 60]
+pub fn initial_members(groups: &[u8], counts: &[u16], objects: usize, size: usize) -> [u64; 60]
     requires { ⌜ (size ≤ 60) × (objects ≤ 64) ⌝ }
     requires { ⌜ 60 * objects ≤ length (now counts) ⌝ }
     requires { ⌜ size ≤ length (now groups) ⌝ }

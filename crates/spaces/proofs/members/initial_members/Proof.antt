@@ -6,10 +6,10 @@ use mathlib.Core.List.{List, foldl}
 use lib.ListN.{replicate}
 use Rattle.laws.proofs.Walks.{left, walk-starts, walk-next, walk-ends}
 use Rattle.spaces.specs.Steps.{openAt, opened}
-use Rattle.spaces.proofs.members.open.Statement.{statement}
-use Rattle.spaces.proofs.members.open.Tie as tie
-use Rattle.spaces.proofs.members.open.Reads as reads
-use Rattle.spaces.proofs.members.open.Lts as lts
+use Rattle.spaces.proofs.members.initial_members.Statement.{statement}
+use Rattle.spaces.proofs.members.initial_members.Tie as tie
+use Rattle.spaces.proofs.members.initial_members.Reads as reads
+use Rattle.spaces.proofs.members.initial_members.Lts as lts
 use Rattle.spaces.proofs.members.open_object.Reads as open-object-reads
 
 abbrev openNext : List ℕ → ℕ → List ℕ → List ℕ → ℕ → List ℕ
@@ -63,8 +63,8 @@ returns c =
     walk-ends (openNext (a .groups .now) (a .size) (a .counts .now)) (opened (a .groups .now) (a .size) (a .counts .now) (a .objects))
     (a .objects) (head .loop .object) (head .loop .masks) (c .loop-test .left) (head .loop .inv .1)
 
-pub open-spec : {M : Type 1} → statement M
-open-spec =
+pub initial-members-spec : {M : Type 1} → statement M
+initial-members-spec =
     tie.close
     (tie.spec
     Inv-loop
