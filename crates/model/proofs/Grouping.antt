@@ -302,7 +302,7 @@ rulesOf-sized p d a ed ea r m =
     (length-less d (meet d a) (ed ∙ sym common) ∙ ed) (length-less a (meet d a) (ea ∙ sym common) ∙ ea) r)
     (List·Memᴰ·append-cases (exchanges p (meet d a)) m)
 
-length-bagOf : (cs : List Property) (atoms : List Atom) (x : ℕ) → length (bagOf cs atoms x) ≡ length cs
+pub length-bagOf : (cs : List Property) (atoms : List Atom) (x : ℕ) → length (bagOf cs atoms x) ≡ length cs
 unfolding bagOf
 length-bagOf cs atoms x = length-map cs _
 

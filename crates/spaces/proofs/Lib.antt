@@ -5,3 +5,5 @@ pub mod Gaining
 pub mod Joins
 pub mod TaskSpaces
 pub mod Found
+pub mod Held
+pub mod Walked
