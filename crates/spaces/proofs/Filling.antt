@@ -54,9 +54,9 @@ module _ (test : ℕ → Bool) (n : ℕ) (array : List ℕ) (count i : ℕ) (roo
       let few = keep-few test i in (
         ap (λ (k : ℕ). k + 1) counted ∙ sym (length-append (keep test (upTo i)) (i ∷ [])) ∙ ap length (sym next),
         ap (λ (l : List ℕ). set l count i) filled
-        ∙ ap (λ (k : ℕ). set (padded n 0 (keep test (upTo i))) k i) counted
-        ∙ padded-next n 0 (keep test (upTo i)) i (omega arith)
-        ∙ ap (padded n 0) (sym next),
+            ∙ ap (λ (k : ℕ). set (padded n 0 (keep test (upTo i))) k i) counted
+            ∙ padded-next n 0 (keep test (upTo i)) i (omega arith)
+            ∙ ap (padded n 0) (sym next),
       )
 
   -- or fails, and nothing changes

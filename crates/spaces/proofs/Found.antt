@@ -1,5 +1,5 @@
 -- The spaces that the code finds are the spaces of the task that its tables hold.
-use Prim.Native.Nat.{ℕ, _+_, _*_, _≤_, _<_}
+use Prim.Native.Nat.{ℕ, _*_, _≤_, _<_}
 use native.Mathlib.Nat.{lt-of-lt-of-le}
 use native.Mathlib.Omega.{arith}
 use mathlib.Core.Path.{_≡_, refl, sym, ap, _∙_, subst}
@@ -15,7 +15,6 @@ use Rattle.model.specs.Spaces.{moved, grouping, spaces}
 use Rattle.model.proofs.Grouping.{grouping-lowest}
 use Rattle.model.proofs.Closing.{groups, labels, spacesWith, spaceWith, belongs, spaces-alone}
 use Rattle.card.specs.Represents.{padded}
-use Rattle.spaces.specs.declared.Spaces.{Spaces}
 use Rattle.spaces.specs.SpaceTable.{maskOf, groupsOf, lowestOf, SpacesOf}
 use Rattle.spaces.specs.Steps.{bagAt, ruleAt, rulesIn, movedAt, labelled, opened, roundsOf}
 use Rattle.spaces.specs.Tabled.{TablesOf}

@@ -1,6 +1,5 @@
 -- Members as masks by label, and as a test: which object is a member at which label. What the code does to the masks, said of the test.
-use Prim.Native.Nat.{ℕ, zero, suc, _^_, _-_, _≤_, _<_}
-use native.Mathlib.Omega.{arith}
+use Prim.Native.Nat.{ℕ, zero, suc, _<_}
 use mathlib.Core.Path.{_≡_, refl, sym, ap, _∙_, subst}
 use mathlib.Core.Bool.{Bool, true, false, cond, _&&_, _||_}
 use mathlib.Core.List.{List, [], _∷_, map, foldl, List·Memᴰ, List·Memᴰ·head, List·Memᴰ·tail}

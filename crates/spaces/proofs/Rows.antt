@@ -1,19 +1,19 @@
 -- Rows of the tables: what the counts at a place of a table say of a bag and of a rule, and the first property that a rule moves.
-use Prim.Native.Nat.{ℕ, _+_, _*_, _-_, _≤_, _<_}
+use Prim.Native.Nat.{ℕ, _+_, _*_, _≤_, _<_}
 use native.Mathlib.Omega.{arith}
 use mathlib.Core.Path.{_≡_, refl, sym, ap, _∙_, subst}
 use mathlib.Core.Bool.{Bool, true, false}
 use mathlib.Core.List.{List, [], _∷_, List·Memᴰ, List·Memᴰ·head, List·Memᴰ·not-nil}
-use lib.Dec.{ltb, eqb}
-use lib.ListN.{length, getD, take, drop, length-take, length-drop}
+use lib.Dec.{ltb}
+use lib.ListN.{length, getD, drop, length-drop}
 use lib.Seq.{getD-take, getD-drop, length-take-le}
 use Rattle.laws.specs.Lists.{keep, upTo}
-use Rattle.laws.specs.Bags.{Bag, plus, support, isEmpty}
+use Rattle.laws.specs.Bags.{plus, support, isEmpty}
 use Rattle.laws.proofs.Tests.{by-test}
 use Rattle.laws.proofs.Lists.{upTo-at, upTo-intro, keep-at, keep-intro}
 use Rattle.laws.proofs.Bags.{getD-plus, length-plus, isEmpty-at, isEmpty-intro}
 use Rattle.laws.proofs.Groups.{keep-ext}
-use Rattle.laws.proofs.Walks.{left, kept-passes, kept-fails, kept-none, kept-all}
+use Rattle.laws.proofs.Walks.{left, kept-passes, kept-fails, kept-none}
 use Rattle.spaces.specs.Steps.{bagAt, movedAt, firstOr}
 
 -- a property has a count in the row of a table that begins at a place; and a rule moves it by its counts in two tables

@@ -4,7 +4,6 @@ use native.Mathlib.Nat.{lt-of-lt-of-le}
 use native.Mathlib.Omega.{arith}
 use mathlib.Core.Path.{_≡_, refl, sym, ap, _∙_, subst, fun-ext}
 use mathlib.Core.Bool.{Bool, true, false, cond, not, _&&_, _||_}
-use mathlib.Core.Logic.{_⊎_, ⊎-elim}
 use mathlib.Core.List.{List, [], _∷_, map, map-map, List·Memᴰ, List·Memᴰ·head}
 use lib.Dec.{eqb}
 use lib.ListN.{length, getD, length-map}
@@ -18,8 +17,8 @@ use Rattle.laws.proofs.Bags.{isEmpty-at, isEmpty-not, length-restrict, getD-res
 use Rattle.laws.proofs.Masks.{mask}
 use Rattle.model.specs.Card.{Task}
 use Rattle.model.specs.Transitions.{Transition, properties, bagOf, transitions}
-use Rattle.model.specs.Spaces.{Space, moved, moves, condition, spaces}
-use Rattle.model.proofs.Grouping.{length-grouping, Lowest, label-known, grouping-joins, grouping-lowest, transitions-sized, moved-known}
+use Rattle.model.specs.Spaces.{moved, moves, condition, spaces}
+use Rattle.model.proofs.Grouping.{Lowest, label-known, grouping-joins, grouping-lowest, transitions-sized, moved-known}
 use Rattle.model.proofs.Closing.{groups, labels, propertiesAt, rulesAt, opens, spaceWith, spacesWith, admitted, step, belongs, spaces-alone}
 use Rattle.card.specs.Represents.{padded}
 use Rattle.spaces.specs.Steps.{bagAt, labelled, opened, roundsOf}

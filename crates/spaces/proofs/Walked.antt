@@ -1,20 +1,16 @@
 -- Walking the members of a space by its mask: they ascend and are below 64, so that the mask's first one is the first of them.
-use Prim.Native.Nat.{ℕ, _-_, _≤_, _<_}
-use native.Mathlib.Nat.{lt-of-lt-of-le}
-use mathlib.Core.Path.{_≡_, refl, sym, ap, _∙_, subst}
-use mathlib.Core.List.{List, _∷_, map, List·Memᴰ, List·Memᴰ·head, Memᴰ·of-map}
+use Prim.Native.Nat.{ℕ, _-_, _<_}
+use mathlib.Core.Path.{_≡_, sym, ap, _∙_, subst}
+use mathlib.Core.List.{List, _∷_, map, List·Memᴰ, Memᴰ·of-map}
 use lib.Bits.{bitAnd}
 use lib.Count.{ones, trailingZeros}
 use lib.ListN.{length, getD, length-map}
-use Rattle.laws.specs.Lists.{keep, from, upTo}
-use Rattle.laws.proofs.Lists.{member-intro}
+use Rattle.laws.specs.Lists.{upTo}
 use Rattle.laws.proofs.Groups.{getD-map}
 use Rattle.laws.proofs.Masks.{Ascending, keep-ascending, trailing-mask, without-first, ones-mask, mask-some}
 use Rattle.model.specs.Card.{Task}
 use Rattle.model.specs.Spaces.{Space, spaces}
 use Rattle.model.proofs.Closing.{labels, spaceWith, spacesWith, belongs, spaces-alone}
-use Rattle.model.proofs.SpaceFacts.{members-known}
-use Rattle.card.specs.Represents.{padded}
 use Rattle.spaces.specs.declared.Spaces.{Spaces}
 use Rattle.spaces.specs.SpaceTable.{maskOf, SpacesOf}
 use Rattle.spaces.proofs.Filling.{padded-at}

@@ -67,7 +67,13 @@ fn unite(groups: [u8; 60], c: usize, d: usize) -> [u8; 60]
 }
 
 // All properties that the rule in a row moves are brought together with the first of them.
-fn unite_moved(groups: [u8; 60], starts: &[u8], finishes: &[u8], row: usize, size: usize) -> [u8; 60]
+fn unite_moved(
+    groups: [u8; 60],
+    starts: &[u8],
+    finishes: &[u8],
+    row: usize,
+    size: usize,
+) -> [u8; 60]
     requires { ⌜ size ≤ 60 ⌝ }
     requires { ⌜ 60 * row + 60 ≤ length (now starts) ⌝ }
     requires { ⌜ 60 * row + 60 ≤ length (now finishes) ⌝ }
@@ -133,8 +139,5 @@ pub fn labels_of(groups: &[u8], size: usize) -> Labels
             count += 1;
         }
     }
-    Labels {
-        count,
-        lowest,
-    }
+    Labels { count, lowest }
 }

@@ -40,7 +40,17 @@ pub fn spaces_of(
     let count = labels.count;
     let lowest = labels.lowest;
     let initial = members::initial_members(&groups, counts, objects, size);
-    let closed = members::close(initial, &groups, enablers, starts, finishes, rules, size, objects, count);
+    let closed = members::close(
+        initial,
+        &groups,
+        enablers,
+        starts,
+        finishes,
+        rules,
+        size,
+        objects,
+        count,
+    );
     let masks = members::by_number(&closed, &lowest, count);
     Spaces {
         count,

@@ -1,7 +1,6 @@
 // Which objects are members of which space (document 01, "Spaces"). Until the last step a mask stands at the label of its space:
 // the members of the space of a property c are at masks[groups[c]].
 use crate::grouping;
-
 ghost use mathlib.Core.Path.{_≡_};
 ghost use mathlib.Core.List.{map};
 ghost use Prim.Native.Nat.{ℕ, _+_, _-_, _*_, _^_, _≤_, _<_};
@@ -12,7 +11,13 @@ ghost use Rattle.card.specs.Represents.{padded};
 ghost use Rattle.spaces.specs.Steps.{bagAt, ruleAt, rulesIn, openAt, opened, enabledBy, gainBy, roundOf, roundsOf};
 
 // The object joins the space of each property that it has at first.
-fn open_object(masks: [u64; 60], groups: &[u8], counts: &[u16], object: usize, size: usize) -> [u64; 60]
+fn open_object(
+    masks: [u64; 60],
+    groups: &[u8],
+    counts: &[u16],
+    object: usize,
+    size: usize,
+) -> [u64; 60]
     requires { ⌜ (size ≤ 60) × (object < 64) ⌝ }
     requires { ⌜ 60 * object + 60 ≤ length (now counts) ⌝ }
     requires { ⌜ size ≤ length (now groups) ⌝ }
@@ -74,7 +79,14 @@ fn is_empty(table: &[u8], row: usize, size: usize) -> bool
 }
 
 // The objects that are members of the space of each enabler in a row; no enablers means every object.
-fn enabled(masks: &[u64], groups: &[u8], enablers: &[u8], row: usize, size: usize, objects: usize) -> u64
+fn enabled(
+    masks: &[u64],
+    groups: &[u8],
+    enablers: &[u8],
+    row: usize,
+    size: usize,
+    objects: usize,
+) -> u64
     requires { ⌜ (size ≤ 60) × (objects ≤ 64) ⌝ }
     requires { ⌜ 60 * row + 60 ≤ length (now enablers) ⌝ }
     requires { ⌜ size ≤ length (now groups) ⌝ }
@@ -149,7 +161,17 @@ fn round(
 {
     let mut gained = masks;
     for row in 0..count {
-        let next = gain(gained, &masks, groups, enablers, starts, finishes, row, size, objects);
+        let next = gain(
+            gained,
+            &masks,
+            groups,
+            enablers,
+            starts,
+            finishes,
+            row,
+            size,
+            objects,
+        );
         gained = next;
     }
     gained
@@ -190,7 +212,16 @@ pub fn close(
 {
     let mut closed = masks;
     for _ in 0..rounds {
-        let next = round(closed, groups, enablers, starts, finishes, count, size, objects);
+        let next = round(
+            closed,
+            groups,
+            enablers,
+            starts,
+            finishes,
+            count,
+            size,
+            objects,
+        );
         if same_masks(&closed, &next) {
             return closed;
         }

@@ -1,7 +1,7 @@
 -- The steps in turn: grouping, labels, the members at first, the closing, and the masks by the number of their space.
 use Prim.Native.Nat.{ℕ, _*_, _≤_, _<_}
 use native.Mathlib.Omega.{arith}
-use mathlib.Core.Path.{_≡_, refl, sym, ap, _∙_, subst}
+use mathlib.Core.Path.{_≡_, sym, ap, _∙_, subst}
 use mathlib.Core.List.{List, [], map}
 use lib.Dec.{eqb}
 use lib.ListN.{length, getD, take}
@@ -14,13 +14,6 @@ use Rattle.spaces.proofs.Found.{rows-known, labelled-known, spaces-foun
 use borrow.Author.Needs.{needs}
 use Rattle.spaces.proofs.spaces_of.Statement.{statement}
 use Rattle.spaces.proofs.spaces_of.Tie as tie
-use Rattle.spaces.proofs.spaces_of.Reads as reads
-use Rattle.spaces.proofs.spaces_of.Lts as lts
-use Rattle.spaces.proofs.grouping.grouping.Reads as grouping-reads
-use Rattle.spaces.proofs.grouping.labels_of.Reads as labels-of-reads
-use Rattle.spaces.proofs.members.by_number.Reads as by-number-reads
-use Rattle.spaces.proofs.members.close.Reads as close-reads
-use Rattle.spaces.proofs.members.initial_members.Reads as initial-members-reads
 
 -- the labels that the grouping gave are below 60
 known : (size count : ℕ) → size ≤ 60 → (starts finishes : List ℕ) → 60 * count ≤ length starts → 60 * count ≤ length finishes
@@ -28,23 +21,18 @@ known : (size count : ℕ) → size ≤ 60 → (starts finishes : List ℕ) → 
 known size count narrow starts finishes s f groups e c =
     subst (λ (l : List ℕ). getD l c 0 < 60) (sym e) (rows-known size count narrow [] starts finishes s f c)
 
--- src/lib.rt:38:18
 grouping-requires : tie.Need-grouping-requires
 grouping-requires c κs = search needs
 
--- src/lib.rt:39:38
 slice-aggregate-labels-of : tie.Need-slice-aggregate-labels-of
 slice-aggregate-labels-of c = search needs
 
--- src/lib.rt:39:9
 labels-of-requires : tie.Need-labels-of-requires
 labels-of-requires c κs = search needs
 
--- src/lib.rt:42:44
 slice-aggregate-initial-members : tie.Need-slice-aggregate-initial-members
 slice-aggregate-initial-members c = search needs
 
--- src/lib.rt:42:9
 initial-members-requires : tie.Need-initial-members-requires
 initial-members-requires c κs =
     let start = c .before .before .before .before .before .before .before .before .before in
@@ -56,16 +44,14 @@ initial-members-requires c κs =
         (
           search needs,
           known (a .size) (a .rules) (pre .0 .0) (a .starts .now) (a .finishes .now) (pre .1 .1 .0) (pre .1 .1 .1 .0)
-          (c .before .before .before .before .grouping .result) (c .before .before .before .before .grouping .ensures []),
+              (c .before .before .before .before .grouping .result) (c .before .before .before .before .grouping .ensures []),
         ),
       ),
     )
 
--- src/lib.rt:43:42
 slice-aggregate-close : tie.Need-slice-aggregate-close
 slice-aggregate-close c = search needs
 
--- src/lib.rt:43:18
 close-requires : tie.Need-close-requires
 close-requires c κs =
     let start = c .before .before .before .before .before .before .before .before .before .before .before in
@@ -81,22 +67,19 @@ close-requires c κs =
             (
               search needs,
               known (a .size) (a .rules) (pre .0 .0) (a .starts .now) (a .finishes .now) (pre .1 .1 .0) (pre .1 .1 .1 .0)
-              (c .before .before .before .before .before .before .grouping .result) (c .before .before .before .before .before .before .grouping .ensures []),
+                  (c .before .before .before .before .before .before .grouping .result) (c .before .before .before .before .before .before .grouping .ensures []),
             ),
           ),
         ),
       ),
     )
 
--- src/lib.rt:44:36
 slice-aggregate-by-number : tie.Need-slice-aggregate-by-number
 slice-aggregate-by-number c = search needs
 
--- src/lib.rt:44:45
 slice-aggregate-by-number-2 : tie.Need-slice-aggregate-by-number-2
 slice-aggregate-by-number-2 c = search needs
 
--- src/lib.rt:44:9
 by-number-requires : tie.Need-by-number-requires
 unfolding labelled
 by-number-requires c κs =
@@ -104,17 +87,15 @@ by-number-requires c κs =
     let a = start .args in
     let labels = c .before .before .before .before .before .before .before .labels-of .ensures in
     let few = keep-few (λ x. eqb (getD (c .before .before .before .before .before .before .before .before .before .grouping .result) x 0) x) (a .size) in
-    let size = ap length (labels .1) ∙ length-padded 60 0 (labelled (a .size) (c .before .before .before .before .before .before .before .before .before .grouping .result)) (omega arith) in
-    (
+    let size = ap length (labels .1) ∙ length-padded 60 0 (labelled (a .size) (c .before .before .before .before .before .before .before .before .before .grouping .result)) (omega arith) in (
       (omega arith, omega arith),
       (
         omega (arith, c .before .before .close .ok),
         λ k.
-        subst (λ (l : List ℕ). getD l k 0 < 60) (sym (labels .1)) (labelled-known (a .size) (start .pre .0 .0) (c .before .before .before .before .before .before .before .before .before .grouping .result) k),
+            subst (λ (l : List ℕ). getD l k 0 < 60) (sym (labels .1)) (labelled-known (a .size) (start .pre .0 .0) (c .before .before .before .before .before .before .before .before .before .grouping .result) k),
       ),
     )
 
--- src/lib.rt:22:1
 returns : tie.Need-returns
 returns c t held =
     let start = c .before .before .before .before .before .before .before .before .before .before .before .before .before .before .before in

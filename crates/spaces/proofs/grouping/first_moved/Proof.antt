@@ -1,16 +1,13 @@
-use Prim.Native.Nat.{ℕ, _≤_, _-_, _<_, _+_, _*_, zero-le}
+use Prim.Native.Nat.{ℕ, _≤_, _-_, _*_, zero-le}
 use native.Mathlib.Omega.{arith}
-use mathlib.Core.Path.{_≡_, refl, sym, ap, _∙_}
+use mathlib.Core.Path.{_≡_, sym, ap, _∙_}
 use borrow.Author.Needs.{needs}
-use Rattle.laws.specs.Lists.{keep, upTo}
+use Rattle.laws.specs.Lists.{keep}
 use Rattle.laws.proofs.Walks.{left, kept-all}
 use Rattle.spaces.specs.Steps.{movedAt, firstOr}
 use Rattle.spaces.proofs.Rows.{movedBy, moved-kept, first-here, first-later, first-none}
 use Rattle.spaces.proofs.grouping.first_moved.Statement.{statement}
 use Rattle.spaces.proofs.grouping.first_moved.Tie as tie
-use Rattle.spaces.proofs.grouping.first_moved.Reads as reads
-use Rattle.spaces.proofs.grouping.first_moved.Lts as lts
-use Rattle.spaces.proofs.grouping.moves.Reads as moves-reads
 
 abbrev Inv-loop : tie.InvT-loop
 Inv-loop starts finishes row size at c₀ c =
@@ -19,42 +16,34 @@ Inv-loop starts finishes row size at c₀ c =
 abbrev μ-loop : tie.MeasureT-loop
 μ-loop starts finishes row size at c₀ c = size - c
 
--- src/grouping.rt:31:14
 mul-at : tie.Need-mul-at Inv-loop μ-loop
 mul-at c = omega arith
 
--- src/grouping.rt:32:5
 loop-holds : tie.Need-loop-holds Inv-loop μ-loop
 loop-holds c =
     let start = c .before .before in
     let a = start .args in (
       zero-le,
       ap (firstOr (a .size))
-      (kept-all (movedBy (a .starts .now) (a .finishes .now) (60 * a .row)) (a .size)
-      ∙ sym (moved-kept (a .size) (start .pre .0) (a .row) (a .starts .now) (a .finishes .now) (start .pre .1 .0) (start .pre .1 .1))),
+          (kept-all (movedBy (a .starts .now) (a .finishes .now) (60 * a .row)) (a .size)
+          ∙ sym (moved-kept (a .size) (start .pre .0) (a .row) (a .starts .now) (a .finishes .now) (start .pre .1 .0) (start .pre .1 .1))),
     )
 
--- src/grouping.rt:33:25
 add-moves : tie.Need-add-moves Inv-loop μ-loop
 add-moves c = omega arith
 
--- src/grouping.rt:33:18
 shared-slice-read-moves : tie.Need-shared-slice-read-moves Inv-loop μ-loop
 shared-slice-read-moves c = omega arith
 
--- src/grouping.rt:33:43
 add-moves-2 : tie.Need-add-moves-2 Inv-loop μ-loop
 add-moves-2 c = omega arith
 
--- src/grouping.rt:33:34
 shared-slice-read-moves-2 : tie.Need-shared-slice-read-moves-2 Inv-loop μ-loop
 shared-slice-read-moves-2 c = omega arith
 
--- src/grouping.rt:33:12
 moves-requires : tie.Need-moves-requires Inv-loop μ-loop
 moves-requires c κs = search needs
 
--- src/grouping.rt:34:13
 returns : tie.Need-returns Inv-loop μ-loop
 unfolding movedBy
 returns c =
@@ -67,15 +56,12 @@ returns c =
     (sym (c .before .moves .ensures) ∙ c .if1 .taken))
     ∙ head .loop .inv .1
 
--- src/grouping.rt:32:9
 add-c : tie.Need-add-c Inv-loop μ-loop
 add-c c = omega arith
 
--- src/grouping.rt:32:5
 loop-less : tie.Need-loop-less Inv-loop μ-loop
 loop-less c = omega arith
 
--- src/grouping.rt:32:5
 loop-again : tie.Need-loop-again Inv-loop μ-loop
 unfolding movedBy
 loop-again c =
@@ -84,13 +70,12 @@ loop-again c =
     let at : ℕ = head .loop .c in (
       omega arith,
       sym
-      (first-later (movedBy (a .starts .now) (a .finishes .now) (60 * a .row)) (a .size) (a .size) at
-      (c .before .before .before .before .loop-test .taken)
-      (sym (c .before .moves .ensures) ∙ c .if1 .left))
-      ∙ head .loop .inv .1,
+          (first-later (movedBy (a .starts .now) (a .finishes .now) (60 * a .row)) (a .size) (a .size) at
+          (c .before .before .before .before .loop-test .taken)
+          (sym (c .before .moves .ensures) ∙ c .if1 .left))
+          ∙ head .loop .inv .1,
     )
 
--- src/grouping.rt:25:1
 returns-2 : tie.Need-returns-2 Inv-loop μ-loop
 returns-2 c =
     let head = c .before in

@@ -1,8 +1,8 @@
 -- The labels so far are written and counted.
-use Prim.Native.Nat.{ℕ, _≤_, _-_, _<_, _+_, zero-le}
+use Prim.Native.Nat.{ℕ, _≤_, _-_, _<_, zero-le}
 use native.Mathlib.Nat.{le-antisymm}
 use native.Mathlib.Omega.{arith}
-use mathlib.Core.Path.{_≡_, refl, sym, ap, _∙_}
+use mathlib.Core.Path.{_≡_, refl, ap, _∙_}
 use mathlib.Core.Bool.{Bool}
 use mathlib.Core.Logic.{⊎-elim}
 use mathlib.Core.List.{List}
@@ -16,8 +16,6 @@ use Rattle.spaces.specs.Steps.{labelled}
 use Rattle.spaces.proofs.Filling.{pick-written, pick-skipped}
 use Rattle.spaces.proofs.grouping.labels_of.Statement.{statement}
 use Rattle.spaces.proofs.grouping.labels_of.Tie as tie
-use Rattle.spaces.proofs.grouping.labels_of.Reads as reads
-use Rattle.spaces.proofs.grouping.labels_of.Lts as lts
 
 -- a property is its own label
 abbrev own : List ℕ → ℕ → Bool
@@ -30,24 +28,19 @@ Inv-loop groups size lowest₀ count₀ c₀ lowest count c =
 abbrev μ-loop : tie.MeasureT-loop
 μ-loop groups size lowest₀ count₀ c₀ lowest count c = size - c
 
--- src/grouping.rt:130:5
 loop-holds : tie.Need-loop-holds Inv-loop μ-loop
 unfolding labelled keep upTo from padded
 loop-holds c = (zero-le, refl, refl)
 
--- src/grouping.rt:131:12
 shared-slice-read-if1 : tie.Need-shared-slice-read-if1 Inv-loop μ-loop
 shared-slice-read-if1 c = omega arith
 
--- src/grouping.rt:131:12
 cast-if1 : tie.Need-cast-if1 Inv-loop μ-loop
 cast-if1 c = omega (arith, c .shared-slice-known .given (c .before .before .loop .c))
 
--- src/grouping.rt:132:29
 shared-slice-read-lowest : tie.Need-shared-slice-read-lowest Inv-loop μ-loop
 shared-slice-read-lowest c = omega arith
 
--- src/grouping.rt:132:13
 array-write-lowest : tie.Need-array-write-lowest Inv-loop μ-loop
 unfolding labelled
 array-write-lowest c =
@@ -56,7 +49,6 @@ array-write-lowest c =
     let counted : head .loop .count ≡ length (keep (own (head .before .args .groups .now)) (upTo (head .loop .c))) = head .loop .inv .1 in
     omega arith
 
--- src/grouping.rt:133:13
 add-count : tie.Need-add-count Inv-loop μ-loop
 unfolding labelled
 add-count c =
@@ -65,15 +57,12 @@ add-count c =
     let counted : head .loop .count ≡ length (keep (own (head .before .args .groups .now)) (upTo (head .loop .c))) = head .loop .inv .1 in
     omega arith
 
--- src/grouping.rt:130:9
 add-c : tie.Need-add-c Inv-loop μ-loop
 add-c c = omega arith
 
--- src/grouping.rt:130:5
 loop-less : tie.Need-loop-less Inv-loop μ-loop
 loop-less c = omega arith
 
--- src/grouping.rt:130:5
 loop-again : tie.Need-loop-again Inv-loop μ-loop
 unfolding labelled
 loop-again c =
@@ -97,7 +86,6 @@ loop-again c =
     (omega arith, w .2 ∙ next .0, w .1 ∙ next .1))
     (c .if1 .came)
 
--- src/grouping.rt:122:1
 returns : tie.Need-returns Inv-loop μ-loop
 returns c =
     let head = c .before in

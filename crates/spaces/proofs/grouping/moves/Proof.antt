@@ -1,5 +1,5 @@
 -- A property is moved where one of the two counts is more than 0, and so is their sum.
-use Prim.Native.Nat.{ℕ, _+_, _<_, _≤_}
+use Prim.Native.Nat.{ℕ, _+_, _≤_}
 use native.Mathlib.Omega.{arith}
 use mathlib.Core.Path.{_≡_, sym, ap}
 use lib.Dec.{ltb}

@@ -1,16 +1,14 @@
 -- The masks of the labels so far are written.
-use Prim.Native.Nat.{ℕ, _≤_, _-_, _<_, _+_, _*_, zero-le}
+use Prim.Native.Nat.{ℕ, _≤_, _-_, zero-le}
 use native.Mathlib.Nat.{le-antisymm, lt-of-lt-of-le}
 use native.Mathlib.Omega.{arith}
-use mathlib.Core.Path.{_≡_, refl, sym, ap, _∙_}
-use mathlib.Core.List.{List, map}
+use mathlib.Core.Path.{_≡_, refl, ap, _∙_}
+use mathlib.Core.List.{map}
 use lib.ListN.{getD, take}
 use Rattle.card.specs.Represents.{padded}
 use Rattle.spaces.proofs.Filling.{map-written}
 use Rattle.spaces.proofs.members.by_number.Statement.{statement}
 use Rattle.spaces.proofs.members.by_number.Tie as tie
-use Rattle.spaces.proofs.members.by_number.Reads as reads
-use Rattle.spaces.proofs.members.by_number.Lts as lts
 
 abbrev Inv-loop : tie.InvT-loop
 Inv-loop masks lowest count members₀ k₀ members k =
@@ -19,46 +17,36 @@ Inv-loop masks lowest count members₀ k₀ members k =
 abbrev μ-loop : tie.MeasureT-loop
 μ-loop masks lowest count members₀ k₀ members k = count - k
 
--- src/members.rt:195:5
 loop-holds : tie.Need-loop-holds Inv-loop μ-loop
 unfolding padded
 loop-holds c = (zero-le, refl)
 
--- src/members.rt:196:17
 shared-slice-read-l : tie.Need-shared-slice-read-l Inv-loop μ-loop
 shared-slice-read-l c = omega arith
 
--- src/members.rt:196:17
 cast-l : tie.Need-cast-l Inv-loop μ-loop
 cast-l c = omega (arith, c .before .before .before .pre .1 .1 (c .before .before .loop .k))
 
--- src/members.rt:197:22
 mul-members : tie.Need-mul-members Inv-loop μ-loop
 mul-members c = omega (arith, c .before .before .before .pre .1 .1 (c .before .before .loop .k))
 
--- src/members.rt:197:22
 shared-slice-read-members : tie.Need-shared-slice-read-members Inv-loop μ-loop
 shared-slice-read-members c =
     let start = c .before .before .before .before in
     lt-of-lt-of-le (start .pre .1 .1 (c .before .before .before .loop .k)) (start .pre .1 .0)
 
--- src/members.rt:197:9
 mul-members-2 : tie.Need-mul-members-2 Inv-loop μ-loop
 mul-members-2 c = omega arith
 
--- src/members.rt:197:9
 array-write-members : tie.Need-array-write-members Inv-loop μ-loop
 array-write-members c = omega arith
 
--- src/members.rt:195:9
 add-k : tie.Need-add-k Inv-loop μ-loop
 add-k c = omega arith
 
--- src/members.rt:195:5
 loop-less : tie.Need-loop-less Inv-loop μ-loop
 loop-less c = omega arith
 
--- src/members.rt:195:5
 loop-again : tie.Need-loop-again Inv-loop μ-loop
 loop-again c =
     let head = c .before .before .before in
@@ -67,7 +55,6 @@ loop-again c =
       map-written 60 (λ l. getD (a .masks .now) l 0) (a .lowest .now) (head .loop .members) (head .loop .k) (omega arith) (omega arith) (head .loop .inv .1),
     )
 
--- src/members.rt:188:1
 returns : tie.Need-returns Inv-loop μ-loop
 returns c =
     let head = c .before in

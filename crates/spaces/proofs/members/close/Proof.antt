@@ -1,7 +1,7 @@
 -- The rounds left, done with the members so far, give the whole; a round that adds nothing is the last.
-use Prim.Native.Nat.{ℕ, _≤_, _-_, _<_, _+_, _*_, zero-le}
+use Prim.Native.Nat.{_≤_, _-_, zero-le}
 use native.Mathlib.Omega.{arith}
-use mathlib.Core.Path.{_≡_, refl, sym, ap, _∙_}
+use mathlib.Core.Path.{_≡_, refl, sym, _∙_}
 use borrow.Author.Needs.{needs}
 use lib.ListN.{length}
 use Rattle.laws.proofs.Lists.{same-eq}
@@ -9,10 +9,6 @@ use Rattle.spaces.specs.Steps.{rulesIn, roundsOf}
 use Rattle.spaces.proofs.Gaining.{rounds-start, rounds-next, rounds-end, rounds-stop}
 use Rattle.spaces.proofs.members.close.Statement.{statement}
 use Rattle.spaces.proofs.members.close.Tie as tie
-use Rattle.spaces.proofs.members.close.Reads as reads
-use Rattle.spaces.proofs.members.close.Lts as lts
-use Rattle.spaces.proofs.members.round.Reads as round-reads
-use Rattle.spaces.proofs.members.same_masks.Reads as same-masks-reads
 
 abbrev Inv-loop : tie.InvT-loop
 Inv-loop groups enablers starts finishes count size objects rounds closed₀ counter₀ closed counter =
@@ -24,30 +20,24 @@ Inv-loop groups enablers starts finishes count size objects rounds closed₀ cou
 abbrev μ-loop : tie.MeasureT-loop
 μ-loop groups enablers starts finishes count size objects rounds closed₀ counter₀ closed counter = rounds - counter
 
--- src/members.rt:192:5
 loop-holds : tie.Need-loop-holds Inv-loop μ-loop
 loop-holds c =
     let a = c .before .before .before .before .args in
     let rules = rulesIn (a .size) (a .count) (a .enablers .now) (a .starts .now) (a .finishes .now) in
     (zero-le, search needs, rounds-start (a .groups .now) (a .objects) rules _ (a .rounds) (a .masks) refl)
 
--- src/members.rt:193:20
 round-requires : tie.Need-round-requires Inv-loop μ-loop
 round-requires c κs = c .before .before .before .before .before .before .pre
 
--- src/members.rt:194:23
 slice-aggregate-same-masks : tie.Need-slice-aggregate-same-masks Inv-loop μ-loop
 slice-aggregate-same-masks c = search needs
 
--- src/members.rt:194:32
 slice-aggregate-same-masks-2 : tie.Need-slice-aggregate-same-masks-2 Inv-loop μ-loop
 slice-aggregate-same-masks-2 c = search needs
 
--- src/members.rt:194:12
 same-masks-requires : tie.Need-same-masks-requires Inv-loop μ-loop
 same-masks-requires c κs = (search needs, search needs)
 
--- src/members.rt:195:13
 returns : tie.Need-returns Inv-loop μ-loop
 returns c =
     let head = c .before .before .before .before .before .before in
@@ -58,15 +48,12 @@ returns c =
     ∙ sym (same-eq (head .loop .closed) (c .before .before .before .before .round .result) (sym (c .before .same-masks .ensures) ∙ c .if1 .taken)))
     (head .loop .inv .2)
 
--- src/members.rt:192:9
 add-counter : tie.Need-add-counter Inv-loop μ-loop
 add-counter c = omega arith
 
--- src/members.rt:192:5
 loop-less : tie.Need-loop-less Inv-loop μ-loop
 loop-less c = omega arith
 
--- src/members.rt:192:5
 loop-again : tie.Need-loop-again Inv-loop μ-loop
 loop-again c =
     let head = c .before .before .before .before .before .before in
@@ -75,10 +62,9 @@ loop-again c =
       omega arith,
       search needs,
       rounds-next (a .groups .now) (a .objects) rules _ (a .rounds) (head .loop .counter) (head .loop .closed) (c .before .before .before .before .round .result)
-      (c .before .before .before .before .before .loop-test .taken) (c .before .before .before .before .round .ensures) (head .loop .inv .2),
+          (c .before .before .before .before .before .loop-test .taken) (c .before .before .before .before .round .ensures) (head .loop .inv .2),
     )
 
--- src/members.rt:172:1
 returns-2 : tie.Need-returns-2 Inv-loop μ-loop
 returns-2 c =
     let head = c .before in

@@ -1,23 +1,20 @@
 -- The members of the spaces left, met with those so far, are the members of all.
-use Prim.Native.Nat.{ℕ, _≤_, _-_, _<_, _+_, _*_, _^_, zero-le}
+use Prim.Native.Nat.{ℕ, _≤_, _-_, _+_, _*_, zero-le}
 use native.Mathlib.Nat.{lt-of-lt-of-le}
 use native.Mathlib.Omega.{arith}
-use mathlib.Core.Path.{_≡_, refl, sym, ap, _∙_, subst}
+use mathlib.Core.Path.{_≡_, sym, ap, _∙_}
 use mathlib.Core.Logic.{⊎-elim}
 use mathlib.Core.List.{List, foldl}
 use borrow.Author.Tests.{lt-ltb, le-ltb}
 use lib.Bits.{bitAnd}
-use lib.ListN.{length, getD}
-use Rattle.laws.specs.Lists.{keep, upTo}
+use lib.ListN.{getD}
+use Rattle.laws.specs.Lists.{keep}
 use Rattle.laws.specs.Bags.{support}
 use Rattle.laws.proofs.Walks.{left, pick-starts, pick-passes, pick-fails, pick-ends}
 use Rattle.spaces.specs.Steps.{bagAt, enabledBy}
 use Rattle.spaces.proofs.Rows.{used, support-kept}
 use Rattle.spaces.proofs.members.enabled.Statement.{statement}
 use Rattle.spaces.proofs.members.enabled.Tie as tie
-use Rattle.spaces.proofs.members.enabled.Reads as reads
-use Rattle.spaces.proofs.members.enabled.Lts as lts
-use Rattle.spaces.proofs.members.everyone.Reads as everyone-reads
 
 -- the members of the space of a property
 abbrev meetAt : List ℕ → List ℕ → ℕ → ℕ → ℕ
@@ -32,15 +29,12 @@ Inv-loop masks groups enablers row size objects at those₀ c₀ those c =
 abbrev μ-loop : tie.MeasureT-loop
 μ-loop masks groups enablers row size objects at those₀ c₀ those c = size - c
 
--- src/members.rt:84:14
 mul-at : tie.Need-mul-at Inv-loop μ-loop
 mul-at c = omega arith
 
--- src/members.rt:85:9
 everyone-requires : tie.Need-everyone-requires Inv-loop μ-loop
 everyone-requires c κs = c .before .before .before .pre .0 .1
 
--- src/members.rt:86:5
 loop-holds : tie.Need-loop-holds Inv-loop μ-loop
 unfolding enabledBy
 loop-holds c =
@@ -49,47 +43,38 @@ loop-holds c =
     let meet = meetAt (a .groups .now) (a .masks .now) in (
       zero-le,
       pick-starts meet (enabledBy (a .groups .now) (a .objects) (a .masks .now) (bagAt (a .size) (a .enablers .now) (a .row))) (a .size)
-      (used (a .enablers .now) (60 * a .row)) (c .everyone .result)
-      (ap (foldl meet (c .everyone .result)) (sym (support-kept (a .size) (start .pre .0 .0) (a .row) (a .enablers .now) (start .pre .1 .0)))
-      ∙ ap (λ (n : ℕ). foldl meet n (support (bagAt (a .size) (a .enablers .now) (a .row)))) (c .everyone .ensures)),
+          (used (a .enablers .now) (60 * a .row)) (c .everyone .result)
+          (ap (foldl meet (c .everyone .result)) (sym (support-kept (a .size) (start .pre .0 .0) (a .row) (a .enablers .now) (start .pre .1 .0)))
+          ∙ ap (λ (n : ℕ). foldl meet n (support (bagAt (a .size) (a .enablers .now) (a .row)))) (c .everyone .ensures)),
     )
 
--- src/members.rt:87:25
 add-if1 : tie.Need-add-if1 Inv-loop μ-loop
 add-if1 c = omega arith
 
--- src/members.rt:87:16
 shared-slice-read-if1 : tie.Need-shared-slice-read-if1 Inv-loop μ-loop
 shared-slice-read-if1 c = omega arith
 
--- src/members.rt:88:21
 shared-slice-read-l : tie.Need-shared-slice-read-l Inv-loop μ-loop
 shared-slice-read-l c = omega arith
 
--- src/members.rt:88:21
 cast-l : tie.Need-cast-l Inv-loop μ-loop
 cast-l c = omega (arith, c .before .before .before .before .before .before .before .before .before .pre .1 .1 .1 .1 (c .before .before .before .before .loop .c))
 
--- src/members.rt:89:29
 mul-those : tie.Need-mul-those Inv-loop μ-loop
 mul-those c = omega (arith, c .before .before .before .before .before .before .before .before .before .pre .1 .1 .1 .1 (c .before .before .before .before .loop .c))
 
--- src/members.rt:89:29
 shared-slice-read-those : tie.Need-shared-slice-read-those Inv-loop μ-loop
 shared-slice-read-those c =
     let head = c .before .before .before .before .before in
     let start = head .before .before .before .before .before in
     lt-of-lt-of-le (start .pre .1 .1 .1 .1 (head .loop .c)) (start .pre .1 .1 .1 .0)
 
--- src/members.rt:86:9
 add-c : tie.Need-add-c Inv-loop μ-loop
 add-c c = omega arith
 
--- src/members.rt:86:5
 loop-less : tie.Need-loop-less Inv-loop μ-loop
 loop-less c = omega arith
 
--- src/members.rt:86:5
 loop-again : tie.Need-loop-again Inv-loop μ-loop
 unfolding used
 loop-again c =
@@ -102,16 +87,15 @@ loop-again c =
     let here = c .before .before .loop-test .taken in (
       omega arith,
       ⊎-elim
-      (λ w.
-      pick-passes meet answer (a .size) test (head .loop .c) (head .loop .those) (c .if1 .those) here
-      (lt-ltb 0 (getD (a .enablers .now) (60 * a .row + head .loop .c) 0) (w .0 .taken)) (w .3) (head .loop .inv .1))
-      (λ w.
-      pick-fails meet answer (a .size) test (head .loop .c) (head .loop .those) (c .if1 .those) here
-      (le-ltb 0 (getD (a .enablers .now) (60 * a .row + head .loop .c) 0) (w .0 .left)) (w .1) (head .loop .inv .1))
-      (c .if1 .came),
+          (λ w.
+          pick-passes meet answer (a .size) test (head .loop .c) (head .loop .those) (c .if1 .those) here
+          (lt-ltb 0 (getD (a .enablers .now) (60 * a .row + head .loop .c) 0) (w .0 .taken)) (w .3) (head .loop .inv .1))
+          (λ w.
+          pick-fails meet answer (a .size) test (head .loop .c) (head .loop .those) (c .if1 .those) here
+          (le-ltb 0 (getD (a .enablers .now) (60 * a .row + head .loop .c) 0) (w .0 .left)) (w .1) (head .loop .inv .1))
+          (c .if1 .came),
     )
 
--- src/members.rt:76:1
 returns : tie.Need-returns Inv-loop μ-loop
 returns c =
     let head = c .before in

@@ -1,5 +1,5 @@
 -- The mask of n objects is 2 ^ n less 1; 64 of them fill it.
-use Prim.Native.Nat.{ℕ, _≤_, _-_, _<_, _*_, _^_, _%_}
+use Prim.Native.Nat.{ℕ, _≤_, _-_, _<_, _^_}
 use native.Mathlib.Omega.{arith}
 use mathlib.Core.Path.{_≡_, sym, ap, subst}
 use lib.Pow.{pow-pos}
@@ -7,26 +7,20 @@ use Rattle.laws.proofs.Masks.{one-shifted}
 use borrow.Author.Needs.{needs}
 use Rattle.spaces.proofs.members.everyone.Statement.{statement}
 use Rattle.spaces.proofs.members.everyone.Tie as tie
-use Rattle.spaces.proofs.members.everyone.Reads as reads
-use Rattle.spaces.proofs.members.everyone.Lts as lts
 
 fewer : {n : ℕ} → n ≤ 64 → (n ≡ 64 → ⊥) → n < 64
 fewer h e = omega arith
 
--- src/members.rt:55:9
 returns : tie.Need-returns
 returns c = ap (λ (n : ℕ). 2 ^ n - 1) (sym (c .if1 .taken))
 
--- src/members.rt:57:6
 shl-result : tie.Need-shl-result
 shl-result c = search needs
 
--- src/members.rt:57:5
 sub-result : tie.Need-sub-result
 sub-result c =
     subst (λ (n : ℕ). 1 ≤ n) (sym (one-shifted 64 (c .before .args .objects) (fewer (c .before .pre) (c .if1 .left)))) (pow-pos (c .before .args .objects))
 
--- src/members.rt:50:1
 returns-2 : tie.Need-returns-2
 returns-2 c =
     ap (λ (n : ℕ). n - 1) (one-shifted 64 (c .before .args .objects) (fewer (c .before .pre) (c .if1 .left)))

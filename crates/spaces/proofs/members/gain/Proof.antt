@@ -1,38 +1,26 @@
 -- The three ways through: a start, nothing moved, and a space that gains.
 use Prim.Native.Nat.{ℕ, _<_, _≤_}
 use native.Mathlib.Omega.{arith}
-use mathlib.Core.Path.{_≡_, refl, sym, ap, _∙_, subst}
-use mathlib.Core.Bool.{not}
-use mathlib.Core.List.{List}
+use mathlib.Core.Path.{sym, _∙_, subst}
 use borrow.Author.Tests.{not-true, not-false}
-use lib.ListN.{getD, set}
-use Rattle.spaces.specs.Steps.{joinAt, movedAt, firstOr}
+use Rattle.spaces.specs.Steps.{joinAt}
 use Rattle.spaces.proofs.Gaining.{gain-started, gain-still, gain-some}
 use borrow.Author.Needs.{needs}
 use Rattle.spaces.proofs.members.gain.Statement.{statement}
 use Rattle.spaces.proofs.members.gain.Tie as tie
-use Rattle.spaces.proofs.members.gain.Reads as reads
-use Rattle.spaces.proofs.members.gain.Lts as lts
-use Rattle.spaces.proofs.grouping.first_moved.Reads as first-moved-reads
-use Rattle.spaces.proofs.members.enabled.Reads as enabled-reads
-use Rattle.spaces.proofs.members.is_empty.Reads as is-empty-reads
 
--- src/members.rt:117:9
 is-empty-requires : tie.Need-is-empty-requires
 is-empty-requires c κs = search needs
 
--- src/members.rt:118:9
 returns : tie.Need-returns
 returns c =
     let a = c .before .before .before .before .before .before .before .args in
     gain-started (a .groups .now) (a .objects) (a .before .now) (a .masks) (a .size) (a .enablers .now) (a .starts .now) (a .finishes .now)
     (a .row) (sym (c .before .is-empty .ensures) ∙ not-true (c .before .is-empty .result) (c .if1 .taken))
 
--- src/members.rt:120:9
 first-moved-requires : tie.Need-first-moved-requires
 first-moved-requires c κs = search needs
 
--- src/members.rt:122:9
 returns-2 : tie.Need-returns-2
 returns-2 c =
     let start = c .before .before .before .before .before .before .before .before .before in
@@ -41,35 +29,27 @@ returns-2 c =
     (a .row) (sym (c .before .before .before .is-empty .ensures) ∙ not-false (c .before .before .before .is-empty .result) (c .before .before .if1 .left)) (start .pre .0 .0) (start .pre .1 .1 .0) (start .pre .1 .1 .1 .0)
     (subst (λ (n : ℕ). a .size ≤ n) (c .before .first-moved .ensures) (c .if2 .taken))
 
--- src/members.rt:124:9
 enabled-requires : tie.Need-enabled-requires
 enabled-requires c κs = search needs
 
--- src/members.rt:125:13
 shared-slice-read-l : tie.Need-shared-slice-read-l
 shared-slice-read-l c = search needs
 
--- src/members.rt:125:13
 cast-l : tie.Need-cast-l
 cast-l c = omega (arith, c .before .before .before .before .before .before .before .before .before .before .before .pre .1 .1 .1 .1 .1 .1 (c .before .before .before .first-moved .result))
 
--- src/members.rt:126:17
 mul-gained : tie.Need-mul-gained
 mul-gained c = omega (arith, c .before .before .before .before .before .before .before .before .before .before .before .pre .1 .1 .1 .1 .1 .1 (c .before .before .before .first-moved .result))
 
--- src/members.rt:126:17
 array-read-gained : tie.Need-array-read-gained
 array-read-gained c = c .before .before .before .before .before .before .before .before .before .before .before .pre .1 .1 .1 .1 .1 .1 (c .before .before .before .first-moved .result)
 
--- src/members.rt:126:5
 mul-gained-2 : tie.Need-mul-gained-2
 mul-gained-2 c = omega (arith, c .before .before .before .before .before .before .before .before .before .before .before .pre .1 .1 .1 .1 .1 .1 (c .before .before .before .first-moved .result))
 
--- src/members.rt:126:5
 array-write-gained : tie.Need-array-write-gained
 array-write-gained c = c .before .before .before .before .before .before .before .before .before .before .before .pre .1 .1 .1 .1 .1 .1 (c .before .before .before .first-moved .result)
 
--- src/members.rt:96:1
 returns-3 : tie.Need-returns-3
 unfolding joinAt
 returns-3 c =

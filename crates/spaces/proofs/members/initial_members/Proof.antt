@@ -1,16 +1,13 @@
 -- The objects left, joined with the masks so far, make the whole.
-use Prim.Native.Nat.{ℕ, _≤_, _-_, _<_, _+_, _*_, zero-le}
+use Prim.Native.Nat.{ℕ, _≤_, _-_, zero-le}
 use native.Mathlib.Omega.{arith}
-use mathlib.Core.Path.{_≡_, refl, sym, ap, _∙_}
+use mathlib.Core.Path.{_≡_, refl}
 use mathlib.Core.List.{List, foldl}
 use lib.ListN.{replicate}
 use Rattle.laws.proofs.Walks.{left, walk-starts, walk-next, walk-ends}
 use Rattle.spaces.specs.Steps.{openAt, opened}
 use Rattle.spaces.proofs.members.initial_members.Statement.{statement}
 use Rattle.spaces.proofs.members.initial_members.Tie as tie
-use Rattle.spaces.proofs.members.initial_members.Reads as reads
-use Rattle.spaces.proofs.members.initial_members.Lts as lts
-use Rattle.spaces.proofs.members.open_object.Reads as open-object-reads
 
 abbrev openNext : List ℕ → ℕ → List ℕ → List ℕ → ℕ → List ℕ
 openNext groups size counts masks o = openAt groups size counts o masks
@@ -22,7 +19,6 @@ Inv-loop groups counts objects size masks₀ object₀ masks object =
 abbrev μ-loop : tie.MeasureT-loop
 μ-loop groups counts objects size masks₀ object₀ masks object = objects - object
 
--- src/members.rt:42:5
 loop-holds : tie.Need-loop-holds Inv-loop μ-loop
 unfolding opened
 loop-holds c =
@@ -30,21 +26,17 @@ loop-holds c =
     let next = openNext (a .groups .now) (a .size) (a .counts .now) in
     (zero-le, walk-starts next (opened (a .groups .now) (a .size) (a .counts .now) (a .objects)) (a .objects) (replicate 60 0) refl)
 
--- src/members.rt:43:13
 open-object-requires : tie.Need-open-object-requires Inv-loop μ-loop
 open-object-requires c κs =
     let pre = c .before .before .before .before .pre in
     ((pre .0 .0, omega arith), (omega arith, (pre .1 .1 .0, pre .1 .1 .1)))
 
--- src/members.rt:42:9
 add-object : tie.Need-add-object Inv-loop μ-loop
 add-object c = omega arith
 
--- src/members.rt:42:5
 loop-less : tie.Need-loop-less Inv-loop μ-loop
 loop-less c = omega arith
 
--- src/members.rt:42:5
 loop-again : tie.Need-loop-again Inv-loop μ-loop
 loop-again c =
     let head = c .before .before in
@@ -52,10 +44,9 @@ loop-again c =
     let next = openNext (a .groups .now) (a .size) (a .counts .now) in (
       omega arith,
       walk-next next (opened (a .groups .now) (a .size) (a .counts .now) (a .objects)) (a .objects) (head .loop .object) (head .loop .masks)
-      (c .open-object .result) (c .before .loop-test .taken) (c .open-object .ensures) (head .loop .inv .1),
+          (c .open-object .result) (c .before .loop-test .taken) (c .open-object .ensures) (head .loop .inv .1),
     )
 
--- src/members.rt:34:1
 returns : tie.Need-returns Inv-loop μ-loop
 returns c =
     let head = c .before in

@@ -2,15 +2,12 @@
 use Prim.Native.Nat.{ℕ, _≤_, _-_, _<_, _+_, _*_, zero-le}
 use native.Mathlib.Nat.{le-trans}
 use native.Mathlib.Omega.{arith}
-use mathlib.Core.Path.{_≡_, refl, sym, ap, _∙_, subst}
+use mathlib.Core.Path.{_≡_, sym}
 use borrow.Author.Count.{below-none, below-more}
-use borrow.Author.Needs.{needs}
-use lib.ListN.{length, getD}
+use lib.ListN.{getD}
 use Rattle.spaces.proofs.Rows.{row-empty, row-used}
 use Rattle.spaces.proofs.members.is_empty.Statement.{statement}
 use Rattle.spaces.proofs.members.is_empty.Tie as tie
-use Rattle.spaces.proofs.members.is_empty.Reads as reads
-use Rattle.spaces.proofs.members.is_empty.Lts as lts
 
 abbrev Inv-loop : tie.InvT-loop
 Inv-loop table row size at c₀ c = (c ≤ size) × ((k : ℕ) → k < c → getD table (60 * row + k) 0 ≡ 0)
@@ -18,23 +15,18 @@ Inv-loop table row size at c₀ c = (c ≤ size) × ((k : ℕ) → k < c → get
 abbrev μ-loop : tie.MeasureT-loop
 μ-loop table row size at c₀ c = size - c
 
--- src/members.rt:66:14
 mul-at : tie.Need-mul-at Inv-loop μ-loop
 mul-at c = omega arith
 
--- src/members.rt:67:5
 loop-holds : tie.Need-loop-holds Inv-loop μ-loop
 loop-holds c = (zero-le, below-none _)
 
--- src/members.rt:68:18
 add-if1 : tie.Need-add-if1 Inv-loop μ-loop
 add-if1 c = omega arith
 
--- src/members.rt:68:12
 shared-slice-read-if1 : tie.Need-shared-slice-read-if1 Inv-loop μ-loop
 shared-slice-read-if1 c = omega arith
 
--- src/members.rt:69:13
 returns : tie.Need-returns Inv-loop μ-loop
 returns c =
     let head = c .before .before .before in
@@ -42,19 +34,15 @@ returns c =
     let a = start .args in
     sym (row-used (a .size) (start .pre .0) (a .row) (a .table .now) (start .pre .1) (head .loop .c) (c .before .before .loop-test .taken) (c .if1 .taken))
 
--- src/members.rt:67:9
 add-c : tie.Need-add-c Inv-loop μ-loop
 add-c c = omega arith
 
--- src/members.rt:67:5
 loop-less : tie.Need-loop-less Inv-loop μ-loop
 loop-less c = omega arith
 
--- src/members.rt:67:5
 loop-again : tie.Need-loop-again Inv-loop μ-loop
 loop-again c = (omega arith, below-more _ _ (c .before .before .before .loop .inv .1) (c .if1 .left))
 
--- src/members.rt:61:1
 returns-2 : tie.Need-returns-2 Inv-loop μ-loop
 returns-2 c =
     let head = c .before in

@@ -1,7 +1,7 @@
 -- What the rules left bring, with what the members have gained so far, is the whole round.
-use Prim.Native.Nat.{ℕ, _≤_, _-_, _<_, _+_, _*_, zero-le}
+use Prim.Native.Nat.{ℕ, _≤_, _-_, zero-le}
 use native.Mathlib.Omega.{arith}
-use mathlib.Core.Path.{_≡_, refl, sym, ap, _∙_}
+use mathlib.Core.Path.{_≡_, sym}
 use mathlib.Core.List.{List, foldl, foldl-map}
 use borrow.Author.Needs.{needs}
 use lib.ListN.{length}
@@ -10,9 +10,6 @@ use Rattle.laws.proofs.Walks.{left, walk-starts, walk-next, walk-ends}
 use Rattle.spaces.specs.Steps.{ruleAt, rulesIn, gainBy, roundOf}
 use Rattle.spaces.proofs.members.round.Statement.{statement}
 use Rattle.spaces.proofs.members.round.Tie as tie
-use Rattle.spaces.proofs.members.round.Reads as reads
-use Rattle.spaces.proofs.members.round.Lts as lts
-use Rattle.spaces.proofs.members.gain.Reads as gain-reads
 
 -- what the rule in a row brings
 abbrev gainRow : List ℕ → ℕ → List ℕ → ℕ → List ℕ → List ℕ → List ℕ → List ℕ → ℕ → List ℕ
@@ -28,7 +25,6 @@ Inv-loop groups enablers starts finishes count size objects masks gained₀ row�
 abbrev μ-loop : tie.MeasureT-loop
 μ-loop groups enablers starts finishes count size objects masks gained₀ row₀ gained row = count - row
 
--- src/members.rt:150:5
 loop-holds : tie.Need-loop-holds Inv-loop μ-loop
 unfolding roundOf rulesIn
 loop-holds c =
@@ -36,31 +32,26 @@ loop-holds c =
     let next = gainRow (a .groups .now) (a .objects) (a .t1) (a .size) (a .enablers .now) (a .starts .now) (a .finishes .now) in (
       zero-le,
       walk-starts next (roundOf (a .groups .now) (a .objects) (rulesIn (a .size) (a .count) (a .enablers .now) (a .starts .now) (a .finishes .now)) (a .t1))
-      (a .count) (a .t1)
-      (sym
-      (foldl-map (ruleAt (a .size) (a .enablers .now) (a .starts .now) (a .finishes .now)) (gainBy (a .groups .now) (a .objects) (a .t1))
-      (upTo (a .count)) (a .t1))),
+          (a .count) (a .t1)
+          (sym
+          (foldl-map (ruleAt (a .size) (a .enablers .now) (a .starts .now) (a .finishes .now)) (gainBy (a .groups .now) (a .objects) (a .t1))
+          (upTo (a .count)) (a .t1))),
     )
 
--- src/members.rt:151:33
 slice-aggregate-gain : tie.Need-slice-aggregate-gain Inv-loop μ-loop
 slice-aggregate-gain c = search needs
 
--- src/members.rt:151:13
 gain-requires : tie.Need-gain-requires Inv-loop μ-loop
 gain-requires c κs =
     let pre = c .before .before .before .before .before .before .before .pre in
     (pre .0, (omega arith, (omega arith, (omega arith, (pre .1 .1 .1 .1 .0, (let size : length (c .before .before .before .before .before .before .before .args .t1) ≡ 60 = search needs in omega arith, pre .1 .1 .1 .1 .1))))))
 
--- src/members.rt:150:9
 add-row : tie.Need-add-row Inv-loop μ-loop
 add-row c = omega arith
 
--- src/members.rt:150:5
 loop-less : tie.Need-loop-less Inv-loop μ-loop
 loop-less c = omega arith
 
--- src/members.rt:150:5
 loop-again : tie.Need-loop-again Inv-loop μ-loop
 loop-again c =
     let head = c .before .before .before in
@@ -68,10 +59,9 @@ loop-again c =
     let next = gainRow (a .groups .now) (a .objects) (a .t1) (a .size) (a .enablers .now) (a .starts .now) (a .finishes .now) in (
       omega arith,
       walk-next next (roundOf (a .groups .now) (a .objects) (rulesIn (a .size) (a .count) (a .enablers .now) (a .starts .now) (a .finishes .now)) (a .t1))
-      (a .count) (head .loop .row) (head .loop .gained) (c .gain .result) (c .before .before .loop-test .taken) (c .gain .ensures) (head .loop .inv .1),
+          (a .count) (head .loop .row) (head .loop .gained) (c .gain .result) (c .before .before .loop-test .taken) (c .gain .ensures) (head .loop .inv .1),
     )
 
--- src/members.rt:131:1
 returns : tie.Need-returns Inv-loop μ-loop
 returns c =
     let head = c .before in

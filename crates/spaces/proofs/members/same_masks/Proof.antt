@@ -1,20 +1,18 @@
 -- No mask so far differs.
-use Prim.Native.Nat.{ℕ, _≤_, _-_, _<_, _+_, zero-le}
+use Prim.Native.Nat.{ℕ, _≤_, _-_, _<_, zero-le}
 use native.Mathlib.Nat.{le-trans}
 use native.Mathlib.Omega.{arith}
-use mathlib.Core.Path.{_≡_, refl, sym, ap, _∙_, subst}
-use mathlib.Core.Bool.{true, false}
+use mathlib.Core.Path.{_≡_, sym, ap, _∙_, subst}
+use mathlib.Core.Bool.{false}
 use mathlib.Core.List.{List}
 use borrow.Author.Count.{below-none, below-more}
-use lib.ListN.{length, getD}
+use lib.ListN.{getD}
 use lib.Seq.{ext-getD}
 use Rattle.laws.specs.Lists.{same}
 use Rattle.laws.proofs.Tests.{by-test}
 use Rattle.laws.proofs.Lists.{same-eq, same-refl}
 use Rattle.spaces.proofs.members.same_masks.Statement.{statement}
 use Rattle.spaces.proofs.members.same_masks.Tie as tie
-use Rattle.spaces.proofs.members.same_masks.Reads as reads
-use Rattle.spaces.proofs.members.same_masks.Lts as lts
 
 -- lists that differ at a place are not the same
 differ : (a b : List ℕ) (k : ℕ) → (getD a k 0 ≡ getD b k 0 → ⊥) → false ≡ same a b
@@ -26,45 +24,35 @@ Inv-loop a b l₀ l = (l ≤ 60) × ((k : ℕ) → k < l → getD a k 0 ≡ getD
 abbrev μ-loop : tie.MeasureT-loop
 μ-loop a b l₀ l = 60 - l
 
--- src/members.rt:163:5
 loop-holds : tie.Need-loop-holds Inv-loop μ-loop
 loop-holds c = (zero-le, below-none _)
 
--- src/members.rt:164:12
 mul-if1 : tie.Need-mul-if1 Inv-loop μ-loop
 mul-if1 c = omega arith
 
--- src/members.rt:164:12
 shared-slice-read-if1 : tie.Need-shared-slice-read-if1 Inv-loop μ-loop
 shared-slice-read-if1 c = omega arith
 
--- src/members.rt:164:20
 mul-if1-2 : tie.Need-mul-if1-2 Inv-loop μ-loop
 mul-if1-2 c = omega arith
 
--- src/members.rt:164:20
 shared-slice-read-if1-2 : tie.Need-shared-slice-read-if1-2 Inv-loop μ-loop
 shared-slice-read-if1-2 c = omega arith
 
--- src/members.rt:165:13
 returns : tie.Need-returns Inv-loop μ-loop
 returns c =
     let head = c .before .before .before .before in
     differ (head .before .args .a .now) (head .before .args .b .now) (head .loop .l) (c .if1 .taken)
 
--- src/members.rt:163:9
 add-l : tie.Need-add-l Inv-loop μ-loop
 add-l c = omega arith
 
--- src/members.rt:163:5
 loop-less : tie.Need-loop-less Inv-loop μ-loop
 loop-less c = omega arith
 
--- src/members.rt:163:5
 loop-again : tie.Need-loop-again Inv-loop μ-loop
 loop-again c = (omega arith, below-more _ _ (c .before .before .before .before .loop .inv .1) (c .if1 .left))
 
--- src/members.rt:159:1
 returns-2 : tie.Need-returns-2 Inv-loop μ-loop
 returns-2 c =
     let head = c .before in
