@@ -7,7 +7,7 @@ ghost use Prim.Native.Nat.{_*_, _≤_};
 ghost use lib.ListN.{length};
 ghost use Rattle.model.specs.Card.{Task};
 ghost use Rattle.spaces.specs.SpaceTable.{SpacesOf};
-ghost use Rattle.spaces.specs.Tabled.{TablesOf};
+ghost use Rattle.spaces.specs.Tabled.{Room, TablesOf};
 
 // The spaces of a task: their number; for each property, by number, the lowest property of its space; for each space, in order,
 // its lowest property and its members. Places past the number of properties or spaces are 0.
@@ -29,9 +29,7 @@ pub fn spaces_of(
     objects: usize,
 ) -> Spaces
     requires { ⌜ (size ≤ 60) × (objects ≤ 64) ⌝ }
-    requires { ⌜ 60 * rules ≤ length (now enablers) ⌝ }
-    requires { ⌜ 60 * rules ≤ length (now starts) ⌝ }
-    requires { ⌜ 60 * rules ≤ length (now finishes) ⌝ }
+    requires { ⌜ Room rules (now enablers) (now starts) (now finishes) ⌝ }
     requires { ⌜ 60 * objects ≤ length (now counts) ⌝ }
     ensures { λ r. ⌜ ((t : Task) → TablesOf t size rules objects (now (enablers .entry)) (now (starts .entry)) (now (finishes .entry)) (now (counts .entry)) → SpacesOf t r) ⌝ }
 {
@@ -40,6 +38,8 @@ pub fn spaces_of(
     let count = labels.count;
     let lowest = labels.lowest;
     let initial = members::initial_members(&groups, counts, objects, size);
+    // What an object gains depends on no other object, so that as many rounds as there are spaces are enough.
+    let rounds = count;
     let closed = members::close(
         initial,
         &groups,
@@ -49,7 +49,7 @@ pub fn spaces_of(
         rules,
         size,
         objects,
-        count,
+        rounds,
     );
     let masks = members::by_number(&closed, &lowest, count);
     Spaces {

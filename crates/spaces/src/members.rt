@@ -8,6 +8,7 @@ ghost use lib.ListN.{length, getD, take};
 ghost use Rattle.laws.specs.Lists.{same};
 ghost use Rattle.laws.specs.Bags.{isEmpty};
 ghost use Rattle.card.specs.Represents.{padded};
+ghost use Rattle.spaces.specs.Tabled.{Room, Grouped};
 ghost use Rattle.spaces.specs.Steps.{bagAt, ruleAt, rulesIn, openAt, opened, enabledBy, gainBy, roundOf, roundsOf};
 
 // The object joins the space of each property that it has at first.
@@ -18,10 +19,9 @@ fn open_object(
     object: usize,
     size: usize,
 ) -> [u64; 60]
-    requires { ⌜ (size ≤ 60) × (object < 64) ⌝ }
+    requires { ⌜ Grouped size (now groups) ⌝ }
+    requires { ⌜ object < 64 ⌝ }
     requires { ⌜ 60 * object + 60 ≤ length (now counts) ⌝ }
-    requires { ⌜ size ≤ length (now groups) ⌝ }
-    requires { ⌜ ((c : ℕ) → getD (now groups) c 0 < 60) ⌝ }
     ensures { λ r. ⌜ r ≡ openAt (now (groups .entry)) size (now (counts .entry)) object masks ⌝ }
 {
     let at = 60 * object;
@@ -38,10 +38,9 @@ fn open_object(
 
 // The members that open in each space: the objects with a nonempty initial condition.
 pub fn initial_members(groups: &[u8], counts: &[u16], objects: usize, size: usize) -> [u64; 60]
-    requires { ⌜ (size ≤ 60) × (objects ≤ 64) ⌝ }
+    requires { ⌜ Grouped size (now groups) ⌝ }
+    requires { ⌜ objects ≤ 64 ⌝ }
     requires { ⌜ 60 * objects ≤ length (now counts) ⌝ }
-    requires { ⌜ size ≤ length (now groups) ⌝ }
-    requires { ⌜ ((c : ℕ) → getD (now groups) c 0 < 60) ⌝ }
     ensures { λ r. ⌜ r ≡ opened (now (groups .entry)) size (now (counts .entry)) objects ⌝ }
 {
     let mut masks = [0u64; 60];
@@ -87,11 +86,10 @@ fn enabled(
     size: usize,
     objects: usize,
 ) -> u64
-    requires { ⌜ (size ≤ 60) × (objects ≤ 64) ⌝ }
+    requires { ⌜ Grouped size (now groups) ⌝ }
+    requires { ⌜ objects ≤ 64 ⌝ }
     requires { ⌜ 60 * row + 60 ≤ length (now enablers) ⌝ }
-    requires { ⌜ size ≤ length (now groups) ⌝ }
     requires { ⌜ 60 ≤ length (now masks) ⌝ }
-    requires { ⌜ ((c : ℕ) → getD (now groups) c 0 < 60) ⌝ }
     ensures { λ r. ⌜ r ≡ enabledBy (now (groups .entry)) objects (now (masks .entry)) (bagAt size (now (enablers .entry)) row) ⌝ }
 {
     let at = 60 * row;
@@ -117,13 +115,10 @@ fn gain(
     size: usize,
     objects: usize,
 ) -> [u64; 60]
-    requires { ⌜ (size ≤ 60) × (objects ≤ 64) ⌝ }
-    requires { ⌜ 60 * row + 60 ≤ length (now enablers) ⌝ }
-    requires { ⌜ 60 * row + 60 ≤ length (now starts) ⌝ }
-    requires { ⌜ 60 * row + 60 ≤ length (now finishes) ⌝ }
-    requires { ⌜ size ≤ length (now groups) ⌝ }
+    requires { ⌜ Grouped size (now groups) ⌝ }
+    requires { ⌜ objects ≤ 64 ⌝ }
+    requires { ⌜ Room (row + 1) (now enablers) (now starts) (now finishes) ⌝ }
     requires { ⌜ 60 ≤ length (now before) ⌝ }
-    requires { ⌜ ((c : ℕ) → getD (now groups) c 0 < 60) ⌝ }
     ensures { λ r. ⌜ r ≡ gainBy (now (groups .entry)) objects (now (before .entry)) masks (ruleAt size (now (enablers .entry)) (now (starts .entry)) (now (finishes .entry)) row) ⌝ }
 {
     let mut gained = masks;
@@ -151,12 +146,9 @@ fn round(
     size: usize,
     objects: usize,
 ) -> [u64; 60]
-    requires { ⌜ (size ≤ 60) × (objects ≤ 64) ⌝ }
-    requires { ⌜ 60 * count ≤ length (now enablers) ⌝ }
-    requires { ⌜ 60 * count ≤ length (now starts) ⌝ }
-    requires { ⌜ 60 * count ≤ length (now finishes) ⌝ }
-    requires { ⌜ size ≤ length (now groups) ⌝ }
-    requires { ⌜ ((c : ℕ) → getD (now groups) c 0 < 60) ⌝ }
+    requires { ⌜ Grouped size (now groups) ⌝ }
+    requires { ⌜ objects ≤ 64 ⌝ }
+    requires { ⌜ Room count (now enablers) (now starts) (now finishes) ⌝ }
     ensures { λ r. ⌜ r ≡ roundOf (now (groups .entry)) objects (rulesIn size count (now (enablers .entry)) (now (starts .entry)) (now (finishes .entry))) masks ⌝ }
 {
     let mut gained = masks;
@@ -202,12 +194,9 @@ pub fn close(
     objects: usize,
     rounds: usize,
 ) -> [u64; 60]
-    requires { ⌜ (size ≤ 60) × (objects ≤ 64) ⌝ }
-    requires { ⌜ 60 * count ≤ length (now enablers) ⌝ }
-    requires { ⌜ 60 * count ≤ length (now starts) ⌝ }
-    requires { ⌜ 60 * count ≤ length (now finishes) ⌝ }
-    requires { ⌜ size ≤ length (now groups) ⌝ }
-    requires { ⌜ ((c : ℕ) → getD (now groups) c 0 < 60) ⌝ }
+    requires { ⌜ Grouped size (now groups) ⌝ }
+    requires { ⌜ objects ≤ 64 ⌝ }
+    requires { ⌜ Room count (now enablers) (now starts) (now finishes) ⌝ }
     ensures { λ r. ⌜ r ≡ roundsOf (now (groups .entry)) objects (rulesIn size count (now (enablers .entry)) (now (starts .entry)) (now (finishes .entry))) rounds masks ⌝ }
 {
     let mut closed = masks;

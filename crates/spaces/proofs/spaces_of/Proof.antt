@@ -8,6 +8,7 @@ use lib.ListN.{length, getD, take}
 use Rattle.laws.proofs.Walks.{keep-few}
 use Rattle.model.specs.Spaces.{grouping}
 use Rattle.card.specs.Represents.{padded}
+use Rattle.spaces.specs.Tabled.{Room, Grouped}
 use Rattle.spaces.specs.Steps.{rulesIn, labelled, roundsOf}
 use Rattle.spaces.proofs.Filling.{length-padded}
 use Rattle.spaces.proofs.Found.{rows-known, labelled-known, spaces-found}
@@ -16,10 +17,17 @@ use Rattle.spaces.proofs.spaces_of.Statement.{statement}
 use Rattle.spaces.proofs.spaces_of.Tie as tie
 
 -- the labels that the grouping gave are below 60
-known : (size count : ℕ) → size ≤ 60 → (starts finishes : List ℕ) → 60 * count ≤ length starts → 60 * count ≤ length finishes
-    → (groups : List ℕ) → groups ≡ padded 60 0 (grouping size (rulesIn size count [] starts finishes)) → (c : ℕ) → getD groups c 0 < 60
-known size count narrow starts finishes s f groups e c =
-    subst (λ (l : List ℕ). getD l c 0 < 60) (sym e) (rows-known size count narrow [] starts finishes s f c)
+known : (size count : ℕ) → size ≤ 60 → (enablers starts finishes : List ℕ) → Room count enablers starts finishes
+    → (groups : List ℕ) → length groups ≡ 60 → groups ≡ padded 60 0 (grouping size (rulesIn size count [] starts finishes)) → Grouped size groups
+known size count narrow enablers starts finishes room groups full e =
+    record {
+      narrow = narrow;
+      filled = omega arith;
+      known =
+          λ c.
+          subst (λ (l : List ℕ). getD l c 0 < 60) (sym e)
+          (rows-known size count narrow [] starts finishes (room .starts-room) (room .finishes-room) c);
+    }
 
 grouping-requires : tie.Need-grouping-requires
 grouping-requires c κs = search needs
@@ -35,44 +43,28 @@ slice-aggregate-initial-members c = search needs
 
 initial-members-requires : tie.Need-initial-members-requires
 initial-members-requires c κs =
-    let start = c .before .before .before .before .before .before .before .before .before in
+    let found = c .before .before .before .before in
+    let start = found .before .before .before .before .before in
     let a = start .args in
-    let pre = start .pre in (
-      pre .0,
-      (
-        pre .1 .1 .1 .1,
-        (
-          search needs,
-          known (a .size) (a .rules) (pre .0 .0) (a .starts .now) (a .finishes .now) (pre .1 .1 .0) (pre .1 .1 .1 .0)
-              (c .before .before .before .before .grouping .result) (c .before .before .before .before .grouping .ensures []),
-        ),
-      ),
-    )
+    let size : length (found .grouping .result) ≡ 60 = search needs in
+    let labels =
+    known (a .size) (a .rules) (start .pre .0 .0) (a .enablers .now) (a .starts .now) (a .finishes .now) (start .pre .1 .0)
+    (found .grouping .result) size (found .grouping .ensures []) in
+    (labels, (start .pre .0 .1, start .pre .1 .1))
 
 slice-aggregate-close : tie.Need-slice-aggregate-close
 slice-aggregate-close c = search needs
 
 close-requires : tie.Need-close-requires
 close-requires c κs =
-    let start = c .before .before .before .before .before .before .before .before .before .before .before in
+    let found = c .before .before .before .before .before .before in
+    let start = found .before .before .before .before .before in
     let a = start .args in
-    let pre = start .pre in (
-      pre .0,
-      (
-        pre .1 .0,
-        (
-          pre .1 .1 .0,
-          (
-            pre .1 .1 .1 .0,
-            (
-              search needs,
-              known (a .size) (a .rules) (pre .0 .0) (a .starts .now) (a .finishes .now) (pre .1 .1 .0) (pre .1 .1 .1 .0)
-                  (c .before .before .before .before .before .before .grouping .result) (c .before .before .before .before .before .before .grouping .ensures []),
-            ),
-          ),
-        ),
-      ),
-    )
+    let size : length (found .grouping .result) ≡ 60 = search needs in
+    let labels =
+    known (a .size) (a .rules) (start .pre .0 .0) (a .enablers .now) (a .starts .now) (a .finishes .now) (start .pre .1 .0)
+    (found .grouping .result) size (found .grouping .ensures []) in
+    (labels, (start .pre .0 .1, start .pre .1 .0))
 
 slice-aggregate-by-number : tie.Need-slice-aggregate-by-number
 slice-aggregate-by-number c = search needs
@@ -83,16 +75,16 @@ slice-aggregate-by-number-2 c = search needs
 by-number-requires : tie.Need-by-number-requires
 unfolding labelled
 by-number-requires c κs =
-    let start = c .before .before .before .before .before .before .before .before .before .before .before .before .before .before in
-    let a = start .args in
-    let labels = c .before .before .before .before .before .before .before .labels-of .ensures in
-    let few = keep-few (λ x. eqb (getD (c .before .before .before .before .before .before .before .before .before .grouping .result) x 0) x) (a .size) in
-    let size = ap length (labels .1) ∙ length-padded 60 0 (labelled (a .size) (c .before .before .before .before .before .before .before .before .before .grouping .result)) (omega arith) in (
+    let found = c .before .before .before .before .before .before .before in
+    let groups = found .before .before .grouping .result in
+    let start = found .before .before .before .before .before .before .before in
+    let labels = found .labels-of .ensures in
+    let few = keep-few (λ x. eqb (getD groups x 0) x) (start .args .size) in
+    let size = ap length (labels .1) ∙ length-padded 60 0 (labelled (start .args .size) groups) (omega arith) in (
       (omega arith, omega arith),
       (
         omega (arith, c .before .before .close .ok),
-        λ k.
-            subst (λ (l : List ℕ). getD l k 0 < 60) (sym (labels .1)) (labelled-known (a .size) (start .pre .0 .0) (c .before .before .before .before .before .before .before .before .before .grouping .result) k),
+        λ k. subst (λ (l : List ℕ). getD l k 0 < 60) (sym (labels .1)) (labelled-known (start .args .size) (start .pre .0 .0) groups k),
       ),
     )
 
@@ -111,7 +103,8 @@ returns c t held =
     padded 60 0 (map (λ l. getD masks l 0) (take (labels .result .count) (labels .result .lowest))))
     (c .before .before .before .close .ensures
     ∙ ap
-    (roundsOf (groups .result) (a .objects) (rulesIn (a .size) (a .rules) (a .enablers .now) (a .starts .now) (a .finishes .now)) (labels .result .count))
+    (roundsOf (groups .result) (a .objects) (rulesIn (a .size) (a .rules) (a .enablers .now) (a .starts .now) (a .finishes .now))
+    (labels .result .count))
     (c .before .before .before .before .before .initial-members .ensures)))
 
 pub spaces-of-spec : {M : Type 1} → statement M

@@ -33,7 +33,7 @@ mul-at : tie.Need-mul-at Inv-loop μ-loop
 mul-at c = omega arith
 
 everyone-requires : tie.Need-everyone-requires Inv-loop μ-loop
-everyone-requires c κs = c .before .before .before .pre .0 .1
+everyone-requires c κs = c .before .before .before .pre .1 .0
 
 loop-holds : tie.Need-loop-holds Inv-loop μ-loop
 unfolding enabledBy
@@ -44,7 +44,7 @@ loop-holds c =
       zero-le,
       pick-starts meet (enabledBy (a .groups .now) (a .objects) (a .masks .now) (bagAt (a .size) (a .enablers .now) (a .row))) (a .size)
           (used (a .enablers .now) (60 * a .row)) (c .everyone .result)
-          (ap (foldl meet (c .everyone .result)) (sym (support-kept (a .size) (start .pre .0 .0) (a .row) (a .enablers .now) (start .pre .1 .0)))
+          (ap (foldl meet (c .everyone .result)) (sym (support-kept (a .size) (start .pre .0 .narrow) (a .row) (a .enablers .now) (start .pre .1 .1 .0)))
           ∙ ap (λ (n : ℕ). foldl meet n (support (bagAt (a .size) (a .enablers .now) (a .row)))) (c .everyone .ensures)),
     )
 
@@ -58,16 +58,20 @@ shared-slice-read-l : tie.Need-shared-slice-read-l Inv-loop μ-loop
 shared-slice-read-l c = omega arith
 
 cast-l : tie.Need-cast-l Inv-loop μ-loop
-cast-l c = omega (arith, c .before .before .before .before .before .before .before .before .before .pre .1 .1 .1 .1 (c .before .before .before .before .loop .c))
+cast-l c =
+    let head = c .before .before .before .before in
+    omega (arith, head .before .before .before .before .before .pre .0 .known (head .loop .c))
 
 mul-those : tie.Need-mul-those Inv-loop μ-loop
-mul-those c = omega (arith, c .before .before .before .before .before .before .before .before .before .pre .1 .1 .1 .1 (c .before .before .before .before .loop .c))
+mul-those c =
+    let head = c .before .before .before .before in
+    omega (arith, head .before .before .before .before .before .pre .0 .known (head .loop .c))
 
 shared-slice-read-those : tie.Need-shared-slice-read-those Inv-loop μ-loop
 shared-slice-read-those c =
     let head = c .before .before .before .before .before in
     let start = head .before .before .before .before .before in
-    lt-of-lt-of-le (start .pre .1 .1 .1 .1 (head .loop .c)) (start .pre .1 .1 .1 .0)
+    lt-of-lt-of-le (start .pre .0 .known (head .loop .c)) (start .pre .1 .1 .1)
 
 add-c : tie.Need-add-c Inv-loop μ-loop
 add-c c = omega arith

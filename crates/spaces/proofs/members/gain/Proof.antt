@@ -23,42 +23,53 @@ first-moved-requires c κs = search needs
 
 returns-2 : tie.Need-returns-2
 returns-2 c =
-    let start = c .before .before .before .before .before .before .before .before .before in
+    let empty = c .before .before .before in
+    let start = empty .before .before .before .before .before .before in
     let a = start .args in
+    let room = start .pre .1 .1 .0 in
     gain-still (a .groups .now) (a .objects) (a .before .now) (a .masks) (a .size) (a .enablers .now) (a .starts .now) (a .finishes .now)
-    (a .row) (sym (c .before .before .before .is-empty .ensures) ∙ not-false (c .before .before .before .is-empty .result) (c .before .before .if1 .left)) (start .pre .0 .0) (start .pre .1 .1 .0) (start .pre .1 .1 .1 .0)
-    (subst (λ (n : ℕ). a .size ≤ n) (c .before .first-moved .ensures) (c .if2 .taken))
+    (a .row) (sym (empty .is-empty .ensures) ∙ not-false (empty .is-empty .result) (c .before .before .if1 .left)) (start .pre .0 .narrow)
+    (omega arith) (omega arith) (subst (λ (n : ℕ). a .size ≤ n) (c .before .first-moved .ensures) (c .if2 .taken))
 
 enabled-requires : tie.Need-enabled-requires
-enabled-requires c κs = search needs
+enabled-requires c κs =
+    let start = c .before .before .before .before .before .before .before .before .before in
+    let room = start .pre .1 .1 .0 in
+    (start .pre .0, (start .pre .1 .0, (omega arith, start .pre .1 .1 .1)))
 
 shared-slice-read-l : tie.Need-shared-slice-read-l
 shared-slice-read-l c = search needs
 
 cast-l : tie.Need-cast-l
-cast-l c = omega (arith, c .before .before .before .before .before .before .before .before .before .before .before .pre .1 .1 .1 .1 .1 .1 (c .before .before .before .first-moved .result))
+cast-l c =
+    let first = c .before .before .before in
+    omega (arith, first .before .before .before .before .before .before .before .before .pre .0 .known (first .first-moved .result))
 
 mul-gained : tie.Need-mul-gained
-mul-gained c = omega (arith, c .before .before .before .before .before .before .before .before .before .before .before .pre .1 .1 .1 .1 .1 .1 (c .before .before .before .first-moved .result))
+mul-gained c =
+    let first = c .before .before .before in
+    omega (arith, first .before .before .before .before .before .before .before .before .pre .0 .known (first .first-moved .result))
 
 array-read-gained : tie.Need-array-read-gained
-array-read-gained c = c .before .before .before .before .before .before .before .before .before .before .before .pre .1 .1 .1 .1 .1 .1 (c .before .before .before .first-moved .result)
+array-read-gained c = let first = c .before .before .before in first .before .before .before .before .before .before .before .before .pre .0 .known (first .first-moved .result)
 
 mul-gained-2 : tie.Need-mul-gained-2
-mul-gained-2 c = omega (arith, c .before .before .before .before .before .before .before .before .before .before .before .pre .1 .1 .1 .1 .1 .1 (c .before .before .before .first-moved .result))
+mul-gained-2 c =
+    let first = c .before .before .before in
+    omega (arith, first .before .before .before .before .before .before .before .before .pre .0 .known (first .first-moved .result))
 
 array-write-gained : tie.Need-array-write-gained
-array-write-gained c = c .before .before .before .before .before .before .before .before .before .before .before .pre .1 .1 .1 .1 .1 .1 (c .before .before .before .first-moved .result)
+array-write-gained c = let first = c .before .before .before in first .before .before .before .before .before .before .before .before .pre .0 .known (first .first-moved .result)
 
 returns-3 : tie.Need-returns-3
 unfolding joinAt
 returns-3 c =
-    let start = c .before .before .before .before .before .before .before .before .before .before .before in
-    let a = start .args in
+    let empty = c .before .before .before .before .before in
+    let a = empty .before .before .before .before .before .before .args in
     let first = c .before .before .before .first-moved .ensures in
     (λ i. joinAt (a .groups .now) (c .before .enabled .ensures i) (a .masks) (first i))
     ∙ gain-some (a .groups .now) (a .objects) (a .before .now) (a .masks) (a .size) (a .enablers .now) (a .starts .now) (a .finishes .now)
-    (a .row) (sym (c .before .before .before .before .before .is-empty .ensures) ∙ not-false (c .before .before .before .before .before .is-empty .result) (c .before .before .before .before .if1 .left))
+    (a .row) (sym (empty .is-empty .ensures) ∙ not-false (empty .is-empty .result) (c .before .before .before .before .if1 .left))
     (subst (λ (n : ℕ). n < a .size) first (c .before .before .if2 .left))
 
 pub gain-spec : {M : Type 1} → statement M

@@ -29,7 +29,7 @@ loop-holds c =
 open-object-requires : tie.Need-open-object-requires Inv-loop μ-loop
 open-object-requires c κs =
     let pre = c .before .before .before .before .pre in
-    ((pre .0 .0, omega arith), (omega arith, (pre .1 .1 .0, pre .1 .1 .1)))
+    (pre .0, (omega arith, omega arith))
 
 add-object : tie.Need-add-object Inv-loop μ-loop
 add-object c = omega arith

@@ -38,7 +38,7 @@ loop-holds c =
       zero-le,
       pick-starts join (openAt (a .groups .now) (a .size) (a .counts .now) (a .object) (a .masks)) (a .size)
           (used (a .counts .now) (60 * a .object)) (a .masks)
-          (ap (foldl join (a .masks)) (sym (support-kept (a .size) (c .pre .0 .0) (a .object) (a .counts .now) (c .pre .1 .0)))),
+          (ap (foldl join (a .masks)) (sym (support-kept (a .size) (c .pre .0 .narrow) (a .object) (a .counts .now) (c .pre .1 .1)))),
     )
 
 add-if1 : tie.Need-add-if1 Inv-loop μ-loop
@@ -54,19 +54,19 @@ shared-slice-read-l : tie.Need-shared-slice-read-l Inv-loop μ-loop
 shared-slice-read-l c = omega arith
 
 cast-l : tie.Need-cast-l Inv-loop μ-loop
-cast-l c = omega (arith, c .before .before .before .before .before .pre .1 .1 .1 (c .before .before .before .before .loop .c))
+cast-l c = omega (arith, c .before .before .before .before .before .pre .0 .known (c .before .before .before .before .loop .c))
 
 mul-joined : tie.Need-mul-joined Inv-loop μ-loop
-mul-joined c = omega (arith, c .before .before .before .before .before .pre .1 .1 .1 (c .before .before .before .before .loop .c))
+mul-joined c = omega (arith, c .before .before .before .before .before .pre .0 .known (c .before .before .before .before .loop .c))
 
 array-read-joined : tie.Need-array-read-joined Inv-loop μ-loop
-array-read-joined c = c .before .before .before .before .before .pre .1 .1 .1 (c .before .before .before .before .loop .c)
+array-read-joined c = c .before .before .before .before .before .pre .0 .known (c .before .before .before .before .loop .c)
 
 mul-joined-2 : tie.Need-mul-joined-2 Inv-loop μ-loop
-mul-joined-2 c = omega (arith, c .before .before .before .before .before .pre .1 .1 .1 (c .before .before .before .before .loop .c))
+mul-joined-2 c = omega (arith, c .before .before .before .before .before .pre .0 .known (c .before .before .before .before .loop .c))
 
 array-write-joined : tie.Need-array-write-joined Inv-loop μ-loop
-array-write-joined c = c .before .before .before .before .before .pre .1 .1 .1 (c .before .before .before .before .loop .c)
+array-write-joined c = c .before .before .before .before .before .pre .0 .known (c .before .before .before .before .loop .c)
 
 add-c : tie.Need-add-c Inv-loop μ-loop
 add-c c = omega arith
@@ -90,7 +90,7 @@ loop-again c =
           (λ w.
           pick-passes join answer (a .size) test (head .loop .c) (head .loop .joined) (c .if1 .joined) here
           (lt-ltb 0 (getD (a .counts .now) (60 * a .object + head .loop .c) 0) (w .0 .taken))
-          (w .2 ∙ ap (λ (n : ℕ). set (head .loop .joined) l (bitOr (getD (head .loop .joined) l 0) n)) (one-shifted 64 (a .object) (start .pre .0 .1)))
+          (w .2 ∙ ap (λ (n : ℕ). set (head .loop .joined) l (bitOr (getD (head .loop .joined) l 0) n)) (one-shifted 64 (a .object) (start .pre .1 .0)))
           (head .loop .inv .1))
           (λ w.
           pick-fails join answer (a .size) test (head .loop .c) (head .loop .joined) (c .if1 .joined) here

@@ -43,8 +43,13 @@ slice-aggregate-gain c = search needs
 
 gain-requires : tie.Need-gain-requires Inv-loop μ-loop
 gain-requires c κs =
-    let pre = c .before .before .before .before .before .before .before .pre in
-    (pre .0, (omega arith, (omega arith, (omega arith, (pre .1 .1 .1 .1 .0, (let size : length (c .before .before .before .before .before .before .before .args .t1) ≡ 60 = search needs in omega arith, pre .1 .1 .1 .1 .1))))))
+    let start = c .before .before .before .before .before .before .before in
+    let size : length (start .args .t1) ≡ 60 = search needs in
+    let room = start .pre .1 .1 in
+    (
+      start .pre .0,
+      (start .pre .1 .0, (record { enablers-room = omega arith; starts-room = omega arith; finishes-room = omega arith }, omega arith)),
+    )
 
 add-row : tie.Need-add-row Inv-loop μ-loop
 add-row c = omega arith
