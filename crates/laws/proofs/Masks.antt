@@ -1,7 +1,8 @@
 -- Masks: a number as the set of the places of its ones in binary. How many there are, which is the first, what is left without it,
 -- and what two masks have in common or together.
 use Prim.Native.Nat.{ℕ, zero, suc, _+_, _-_, _*_, _/_, _%_, _^_, _≤_, _<_, min, max}
-use native.Mathlib.Nat.{le-of-suc-le-suc, not-suc-le-zero, zero-mul, one-mul, mul-one, mul-assoc, add-mul, pow-suc, pow-succ', add-comm, add-zero, zero-add}
+use native.Mathlib.Nat.{le-of-suc-le-suc, not-suc-le-zero}
+use native.Mathlib.Nat.{zero-mul, one-mul, mul-one, mul-assoc, add-mul, pow-suc, pow-succ', add-comm, add-zero, zero-add}
 use native.Mathlib.Numerals.{add-one}
 use native.Mathlib.Omega.{arith}
 use mathlib.Core.Path.{_≡_, refl, sym, ap, ap₂, _∙_, subst, fun-ext}

@@ -4,14 +4,14 @@ use native.Mathlib.Nat.{le-of-suc-le-suc, not-suc-le-zero, zero-add, add-zero, s
 use native.Mathlib.Numerals.{add-one}
 use native.Mathlib.Omega.{arith}
 use mathlib.Core.Path.{_≡_, refl, sym, ap, _∙_, subst}
-use mathlib.Core.Bool.{Bool, true, false, cond}
+use mathlib.Core.Bool.{Bool, true, false, cond, _&&_, _||_}
 use mathlib.Core.List.{List, [], _∷_, _++_, map, foldl, append-nil}
-use lib.ListN.{length, getD, set}
-use lib.Seq.{set-getD}
-use Rattle.laws.specs.Lists.{keep, count, from, upTo}
+use lib.ListN.{length, getD, set, length-map}
+use lib.Seq.{set-getD, ext-getD}
+use Rattle.laws.specs.Lists.{any, keep, count, from, upTo}
 use Rattle.laws.proofs.Tests.{cond-true, cond-false}
-use Rattle.laws.proofs.Lists.{length-keep, length-upTo}
-use Rattle.laws.proofs.Groups.{count-most}
+use Rattle.laws.proofs.Lists.{length-keep, length-upTo, getD-upTo}
+use Rattle.laws.proofs.Groups.{getD-map, count-most}
 
 -- the numbers from i on below size
 unfoldable pub left : ℕ → ℕ → List ℕ
@@ -171,3 +171,26 @@ module _ (test : ℕ → Bool) (n : ℕ) where
   keep-few =
       subst (λ (k : ℕ). k ≤ n) (sym (length-keep test (upTo n)))
       (subst (λ (k : ℕ). count test (upTo n) ≤ k) (length-upTo n) (count-most test (upTo n)))
+
+-- a test on the kept elements of a list
+pub any-keep : {A : Type 0} (test kept : A → Bool) (xs : List A) → any test (keep kept xs) ≡ any (λ x. kept x && test x) xs
+unfolding any keep
+any-keep test kept [] = refl
+any-keep test kept (x ∷ xs) = go (kept x) (any-keep test kept xs)
+  where
+    go : (b : Bool) → any test (keep kept xs) ≡ any (λ y. kept y && test y) xs
+        → any test (cond b (x ∷ keep kept xs) (keep kept xs)) ≡ ((b && test x) || any (λ y. kept y && test y) xs)
+    go true e = ap (λ (b : Bool). test x || b) e
+    go false e = e
+
+-- a list is its elements in the order of their places
+pub listed : {A : Type 0} (xs : List A) (d : A) → map (λ k. getD xs k d) (upTo (length xs)) ≡ xs
+listed xs d =
+    ext-getD d (map (λ k. getD xs k d) (upTo (length xs))) xs size
+    (λ k h.
+    let below = subst (λ (n : ℕ). k < n) size h in
+    getD-map (λ j. getD xs j d) (upTo (length xs)) k 0 d (subst (λ (n : ℕ). k < n) (sym (length-upTo (length xs))) below)
+    ∙ ap (λ (j : ℕ). getD xs j d) (getD-upTo (length xs) k 0 below))
+  where
+    size : length (map (λ k. getD xs k d) (upTo (length xs))) ≡ length xs
+    size = length-map (upTo (length xs)) (λ k. getD xs k d) ∙ length-upTo (length xs)

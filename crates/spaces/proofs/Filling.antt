@@ -73,7 +73,10 @@ map-written n f xs array i room h filled =
     ap (λ (l : List ℕ). set l i (f (getD xs i 0))) filled
     ∙ ap (λ (k : ℕ). set (padded n 0 (map f (take i xs))) k (f (getD xs i 0))) (sym size)
     ∙ padded-next n 0 (map f (take i xs)) (f (getD xs i 0)) (omega arith)
-    ∙ ap (padded n 0) (sym (map-append f (take i xs) (getD xs i 0 ∷ [])) ∙ ap (map f) (sym (ap (λ (k : ℕ). take k xs) (add-one i) ∙ take-suc xs i 0 h)))
+    ∙ ap (padded n 0) (sym (map-append f (take i xs) (getD xs i 0 ∷ [])) ∙ ap (map f) (sym one-more))
+  where
+    one-more : take (i + 1) xs ≡ take i xs ++ (getD xs i 0 ∷ [])
+    one-more = ap (λ (k : ℕ). take k xs) (add-one i) ∙ take-suc xs i 0 h
 
 -- past the elements stands the blank, and past the array nothing
 zeros-at : (k i : ℕ) → getD {A = ℕ} (replicate k 0) i 0 ≡ 0

@@ -20,7 +20,7 @@ use Rattle.spaces.specs.Steps.{bagAt, ruleAt, rulesIn, movedAt, labelled
 use Rattle.spaces.specs.Tabled.{TablesOf}
 use Rattle.spaces.proofs.Filling.{padded-below}
 use Rattle.spaces.proofs.Rows.{moved-below}
-use Rattle.spaces.proofs.TaskSpaces.{groupArray, grouping-known, labels-found, members-found}
+use Rattle.spaces.proofs.TaskSpaces.{groupArray, grouping-known, labels-found, closedMasks, members-found}
 
 -- the labels of the tables' rules are below 60
 pub rows-known : (size count : ℕ) → size ≤ 60 → (enablers starts finishes : List ℕ) → 60 * count ≤ length starts → 60 * count ≤ length finishes
@@ -72,11 +72,8 @@ module _ (t : Task) (size rules objects : ℕ) (e s f c : List ℕ) (held : Tabl
   unfolding padded
   in-order = (λ i. take (number i) (order i)) ∙ take-at (labels t) _ (length (labels t)) refl
 
-  by-label : List ℕ
-  by-label = roundsOf (groupArray t) (t .objects) (transitions t) (length (labels t)) (opened (groupArray t) (length (properties t)) c (t .objects))
-
-  same-masks : roundsOf groups objects (rulesIn size rules e s f) count (opened groups size c objects) ≡ by-label
-  unfolding by-label
+  same-masks : roundsOf groups objects (rulesIn size rules e s f) count (opened groups size c objects) ≡ closedMasks t c
+  unfolding closedMasks
   same-masks =
       λ i.
       roundsOf (array i) (held .objects-are i) (held .rules-are i) (number i) (opened (array i) (held .properties-are i) c (held .objects-are i))
@@ -85,11 +82,10 @@ module _ (t : Task) (size rules objects : ℕ) (e s f c : List ℕ) (held : Tabl
   bags o h =
       ap (λ (n : ℕ). bagAt n c o) (sym (held .properties-are)) ∙ held .bags-are o (subst (λ (n : ℕ). o < n) (sym (held .objects-are)) h)
 
-  members : padded 60 0 (map (λ l. getD (roundsOf groups objects (rulesIn size rules e s f) count (opened groups size c objects)) l 0) (take count lowest))
-      ≡ padded 60 0 (map (λ u. maskOf (u .members)) (spaces t))
-  unfolding by-label
+  members : masks ≡ padded 60 0 (map (λ u. maskOf (u .members)) (spaces t))
   members =
-      (λ i. padded 60 0 (map (λ l. getD (same-masks i) l 0) (in-order i)))
+      closed
+      ∙ (λ i. padded 60 0 (map (λ l. getD (same-masks i) l 0) (in-order i)))
       ∙ ap (padded 60 0) (members-found t (subst (λ (n : ℕ). n ≤ 60) (held .properties-are) narrow) c bags)
 
   pub spaces-found : SpacesOf t (record { count = count; groups = groups; lowest = lowest; members = masks })
@@ -98,5 +94,5 @@ module _ (t : Task) (size rules objects : ℕ) (e s f c : List ℕ) (held : Tabl
     count = number ∙ many;
     groups = array;
     lowest = order;
-    members = closed ∙ members;
+    members = members;
   }

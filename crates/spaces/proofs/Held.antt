@@ -10,24 +10,13 @@ use Rattle.laws.specs.Lists.{upTo}
 use Rattle.laws.specs.Bags.{Bag}
 use Rattle.laws.proofs.Lists.{length-upTo, getD-upTo, upTo-at}
 use Rattle.laws.proofs.Groups.{getD-map, map-ext}
+use Rattle.laws.proofs.Walks.{listed}
 use Rattle.model.specs.Card.{Task}
 use Rattle.model.specs.Transitions.{Transition, properties, bagOf, transitions}
 use Rattle.model.proofs.Grouping.{Sized, length-bagOf, transitions-sized}
 use Rattle.rules.specs.Tables.{row, rows, rowsBefore, RuleTable}
 use Rattle.spaces.specs.Steps.{bagAt, ruleAt, rulesIn}
 use Rattle.spaces.specs.Tabled.{TablesOf}
-
--- a list is its elements in the order of their places
-listed : {A : Type 0} (xs : List A) (d : A) → map (λ k. getD xs k d) (upTo (length xs)) ≡ xs
-listed xs d =
-    ext-getD d (map (λ k. getD xs k d) (upTo (length xs))) xs size
-    (λ k h.
-    let below = subst (λ (n : ℕ). k < n) size h in
-    getD-map (λ j. getD xs j d) (upTo (length xs)) k 0 d (subst (λ (n : ℕ). k < n) (sym (length-upTo (length xs))) below)
-    ∙ ap (λ (j : ℕ). getD xs j d) (getD-upTo (length xs) k 0 below))
-  where
-    size : length (map (λ k. getD xs k d) (upTo (length xs))) ≡ length xs
-    size = length-map (upTo (length xs)) (λ k. getD xs k d) ∙ length-upTo (length xs)
 
 module _ (size : ℕ) (narrow : size ≤ 60) where
   length-row : (b : Bag) → length b ≡ size → length (row b) ≡ 60

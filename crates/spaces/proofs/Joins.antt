@@ -10,25 +10,13 @@ use lib.Seq.{ext-getD, getD-set-same, getD-set-other}
 use borrow.Author.Tests.{eqb-true, eqb-false, eq-eqb}
 use Rattle.laws.specs.Lists.{any, all, keep, upTo}
 use Rattle.laws.specs.Bags.{isEmpty, support}
-use Rattle.laws.proofs.Tests.{by-test, same-test, and-left, and-right, and-intro, and-false-left}
+use Rattle.laws.proofs.Tests.{by-test, same-test, and-left, and-right, and-intro, and-false-left, or-assoc, and-assoc, and-neutral}
 use Rattle.laws.proofs.Lists.{any-at, any-intro, length-upTo, getD-upTo, upTo-at, upTo-intro}
 use Rattle.laws.proofs.Groups.{or-neutral, getD-map, map-ext, keep-ext}
 use Rattle.laws.proofs.Masks.{mask, mask-and, mask-or, mask-none, mask-one, mask-all}
 use Rattle.model.specs.Transitions.{Transition}
 use Rattle.model.specs.Spaces.{moved}
 use Rattle.spaces.specs.Steps.{bagAt, openAt, opened, joinAt, joinFirst, enabledBy, gainBy, roundOf, roundsOf}
-
-or-assoc : (a b c : Bool) → ((a || b) || c) ≡ (a || (b || c))
-or-assoc true b c = refl
-or-assoc false b c = refl
-
-and-assoc : (a b c : Bool) → ((a && b) && c) ≡ (a && (b && c))
-and-assoc true b c = refl
-and-assoc false b c = refl
-
-and-neutral : (a : Bool) → (a && true) ≡ a
-and-neutral true = refl
-and-neutral false = refl
 
 -- an object is a member of the space of a label
 abbrev pub Joins : Type 0
@@ -104,7 +92,8 @@ module _ (n : ℕ) where
           (λ e.
           getD-set-other (masksOf n joins) l k new 0 (eqb-false k l e)
           ∙ masks-at joins k h
-          ∙ mask-ext (λ o. joins o k) (λ o. after o k) (λ o m. sym (or-neutral (joins o k) (eqb k l && those o) (and-false-left (eqb k l) (those o) e)))
+          ∙ mask-ext (λ o. joins o k) (λ o. after o k)
+          (λ o m. sym (or-neutral (joins o k) (eqb k l && those o) (and-false-left (eqb k l) (those o) e)))
           ∙ sym (masks-at after k h))
 
   -- A step that lets objects join by a test: its fold lets them join by the test for some element.

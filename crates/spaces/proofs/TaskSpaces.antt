@@ -10,11 +10,12 @@ use lib.ListN.{length, getD, length-map}
 use borrow.Author.Tests.{eqb-true, eq-eqb}
 use Rattle.laws.specs.Lists.{any, all, keep, upTo, member}
 use Rattle.laws.specs.Bags.{Bag, isEmpty, support, restrict}
-use Rattle.laws.proofs.Tests.{by-test, same-test, and-left, and-right, and-intro, not-true, to-not-true}
+use Rattle.laws.proofs.Tests.{by-test, same-test, and-left, and-right, and-intro, and-swap, not-true, to-not-true}
 use Rattle.laws.proofs.Lists.{any-at, any-intro, keep-at, keep-intro, upTo-at, upTo-intro, member-at, member-intro, mem-getD, place-of}
 use Rattle.laws.proofs.Groups.{any-ext, all-ext, keep-ext, map-ext, member-keep-upTo, repeat}
 use Rattle.laws.proofs.Bags.{isEmpty-at, isEmpty-not, length-restrict, getD-restrict, support-at, support-intro}
 use Rattle.laws.proofs.Masks.{mask}
+use Rattle.laws.proofs.Walks.{any-keep}
 use Rattle.model.specs.Card.{Task}
 use Rattle.model.specs.Transitions.{Transition, properties, bagOf, transitions}
 use Rattle.model.specs.Spaces.{moved, moves, condition, spaces}
@@ -24,23 +25,8 @@ use Rattle.card.specs.Represents.{padded}
 use Rattle.spaces.specs.Steps.{bagAt, labelled, opened, roundsOf}
 use Rattle.spaces.specs.SpaceTable.{maskOf}
 use Rattle.spaces.proofs.Filling.{padded-at, padded-below}
-use Rattle.spaces.proofs.Joins.{Joins, firstLabel, admittedBy, brings, oneRound, manyRounds, opensBy, masks-at, mask-ext, rounds-joins, opened-joins}
-
--- a test on the kept elements of a list
-any-keep : {A : Type 0} (test kept : A → Bool) (xs : List A) → any test (keep kept xs) ≡ any (λ x. kept x && test x) xs
-unfolding any keep
-any-keep test kept [] = refl
-any-keep test kept (x ∷ xs) = go (kept x) (any-keep test kept xs)
-  where
-    go : (b : Bool) → any test (keep kept xs) ≡ any (λ y. kept y && test y) xs
-        → any test (cond b (x ∷ keep kept xs) (keep kept xs)) ≡ ((b && test x) || any (λ y. kept y && test y) xs)
-    go true e = ap (λ (b : Bool). test x || b) e
-    go false e = e
-
-and-swap : (a b c : Bool) → (a && (b && c)) ≡ (b && (a && c))
-and-swap true b c = refl
-and-swap false true c = refl
-and-swap false false c = refl
+use Rattle.spaces.proofs.Joins.{Joins, firstLabel, admittedBy, brings, oneRound, manyRounds, opensBy}
+use Rattle.spaces.proofs.Joins.{masks-at, mask-ext, rounds-joins, opened-joins}
 
 -- an array of labels, each the lowest property of its group, holds numbers below 60
 pub grouping-known : (size : ℕ) → size ≤ 60 → (labels : List ℕ) → Lowest size labels → (c : ℕ) → getD (padded 60 0 labels) c 0 < 60
@@ -208,7 +194,8 @@ module _ (t : Task) where
           into e =
               let c = any-at (λ d. eqb l (getD (groupArray t) d 0)) (support b) e in
               let has = support-at b (c .0) (c .1) in
-              let place = place-of (propertiesAt t l) (c .0) 0 (member-at (c .0) (propertiesAt t l) (of-label l (c .0) (known (c .0) (has .0)) ∙ c .2)) in
+              let here = member-at (c .0) (propertiesAt t l) (of-label l (c .0) (known (c .0) (has .0)) ∙ c .2) in
+              let place = place-of (propertiesAt t l) (c .0) 0 here in
               let count : getD (restrict (propertiesAt t l) b) (place .0) 0 ≡ getD b (c .0) 0 =
               getD-restrict (propertiesAt t l) b (place .0) (place .1) ∙ ap (λ (d : ℕ). getD b d 0) (place .2) in
               to-not-true (isEmpty (restrict (propertiesAt t l) b))
@@ -239,33 +226,35 @@ module _ (t : Task) where
           ap (λ (b : Bag). any (λ c. eqb l (getD (groupArray t) c 0)) (support b)) e
           ∙ opens-by-bag (bagOf (properties t) (t .facts) o) (length-map (properties t) _) l
 
+  -- the masks that the code closes on, by label
+  unfoldable pub closedMasks : List ℕ → List ℕ
+  closedMasks counts =
+      roundsOf (groupArray t) (t .objects) (transitions t) (length (labels t))
+      (opened (groupArray t) (length (properties t)) counts (t .objects))
+
+  module _ (narrow : length (properties t) ≤ 60) where
     -- the members that the code finds are those of the task's spaces
     pub members-found : (counts : List ℕ)
         → ((o : ℕ) → o < t .objects → bagAt (length (properties t)) counts o ≡ bagOf (properties t) (t .facts) o)
-        → map
-        (λ l.
-        getD (roundsOf (groupArray t) (t .objects) (transitions t) (length (labels t)) (opened (groupArray t) (length (properties t)) counts (t .objects))) l 0)
-        (labels t)
-        ≡ map (λ s. maskOf (s .members)) (spaces t)
-    unfolding maskOf spacesWith spaceWith belongs
+        → map (λ l. getD (closedMasks counts) l 0) (labels t) ≡ map (λ s. maskOf (s .members)) (spaces t)
+    unfolding maskOf spacesWith spaceWith belongs closedMasks
     members-found counts held =
         map-ext _ _ (labels t) (λ l m. at l m)
         ∙ sym (map-map (λ s. maskOf (s .members)) (spaceWith t (belongs t)) (labels t))
         ∙ ap (map (λ s. maskOf (s .members))) (sym (spaces-alone t))
       where
         at : (l : ℕ) → List·Memᴰ l (labels t)
-            → getD (roundsOf (groupArray t) (t .objects) (transitions t) (length (labels t)) (opened (groupArray t) (length (properties t)) counts (t .objects))) l 0
-            ≡ mask (keep (λ o. belongs t o l) (upTo (t .objects)))
+            → getD (closedMasks counts) l 0 ≡ mask (keep (λ o. belongs t o l) (upTo (t .objects)))
         at l m =
             let n = t .objects in
             let size = length (properties t) in
             let k = length (labels t) in
-            let opening : Joins = opensBy n (groupArray t) labels-known size counts in
+            let opening : Joins = opensBy n (groupArray t) (labels-known narrow) size counts in
             ap (λ (masks : List ℕ). getD (roundsOf (groupArray t) n (transitions t) k masks) l 0)
-            (opened-joins n (groupArray t) labels-known size counts)
-            ∙ ap (λ (masks : List ℕ). getD masks l 0) (rounds-joins n (groupArray t) labels-known (transitions t) k opening)
-            ∙ masks-at n (manyRounds n (groupArray t) labels-known (transitions t) k opening) l (lt-of-lt-of-le (label-in l m) narrow)
+            (opened-joins n (groupArray t) (labels-known narrow) size counts)
+            ∙ ap (λ (masks : List ℕ). getD masks l 0) (rounds-joins n (groupArray t) (labels-known narrow) (transitions t) k opening)
+            ∙ masks-at n (manyRounds n (groupArray t) (labels-known narrow) (transitions t) k opening) l (lt-of-lt-of-le (label-in l m) narrow)
             ∙ mask-ext n _ _
             (λ o h.
             ap (λ (f : ℕ → Bool). f l)
-            (rounds-alone n k opening o ∙ ap (repeat (step t) k) (fun-ext (λ j. opens-alone n counts o (held o h) j))))
+            (rounds-alone narrow n k opening o ∙ ap (repeat (step t) k) (fun-ext (λ j. opens-alone narrow n counts o (held o h) j))))

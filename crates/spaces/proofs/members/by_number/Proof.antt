@@ -52,7 +52,8 @@ loop-again c =
     let head = c .before .before .before in
     let a = head .before .args in (
       omega arith,
-      map-written 60 (λ l. getD (a .masks .now) l 0) (a .lowest .now) (head .loop .members) (head .loop .k) (omega arith) (omega arith) (head .loop .inv .1),
+      map-written 60 (λ l. getD (a .masks .now) l 0) (a .lowest .now) (head .loop .members) (head .loop .k) (omega arith) (omega arith)
+          (head .loop .inv .1),
     )
 
 returns : tie.Need-returns Inv-loop μ-loop

@@ -43,9 +43,9 @@ returns c =
     let head = c .before .before .before .before .before .before in
     let a = head .before .before .before .before .before .args in
     let rules = rulesIn (a .size) (a .count) (a .enablers .now) (a .starts .now) (a .finishes .now) in
+    let next = c .before .before .before .before .round in
     rounds-stop (a .groups .now) (a .objects) rules _ (a .rounds) (head .loop .counter) (head .loop .closed)
-    (sym (c .before .before .before .before .round .ensures)
-    ∙ sym (same-eq (head .loop .closed) (c .before .before .before .before .round .result) (sym (c .before .same-masks .ensures) ∙ c .if1 .taken)))
+    (sym (next .ensures) ∙ sym (same-eq (head .loop .closed) (next .result) (sym (c .before .same-masks .ensures) ∙ c .if1 .taken)))
     (head .loop .inv .2)
 
 add-counter : tie.Need-add-counter Inv-loop μ-loop
@@ -58,11 +58,12 @@ loop-again : tie.Need-loop-again Inv-loop μ-loop
 loop-again c =
     let head = c .before .before .before .before .before .before in
     let a = head .before .before .before .before .before .args in
-    let rules = rulesIn (a .size) (a .count) (a .enablers .now) (a .starts .now) (a .finishes .now) in (
+    let rules = rulesIn (a .size) (a .count) (a .enablers .now) (a .starts .now) (a .finishes .now) in
+    let next = c .before .before .before .before .round in (
       omega arith,
       search needs,
-      rounds-next (a .groups .now) (a .objects) rules _ (a .rounds) (head .loop .counter) (head .loop .closed) (c .before .before .before .before .round .result)
-          (c .before .before .before .before .before .loop-test .taken) (c .before .before .before .before .round .ensures) (head .loop .inv .2),
+      rounds-next (a .groups .now) (a .objects) rules _ (a .rounds) (head .loop .counter) (head .loop .closed) (next .result)
+          (c .before .before .before .before .before .loop-test .taken) (next .ensures) (head .loop .inv .2),
     )
 
 returns-2 : tie.Need-returns-2 Inv-loop μ-loop

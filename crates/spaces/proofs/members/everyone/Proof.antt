@@ -19,7 +19,8 @@ shl-result c = search needs
 
 sub-result : tie.Need-sub-result
 sub-result c =
-    subst (λ (n : ℕ). 1 ≤ n) (sym (one-shifted 64 (c .before .args .objects) (fewer (c .before .pre) (c .if1 .left)))) (pow-pos (c .before .args .objects))
+    let n = c .before .args .objects in
+    subst (λ (k : ℕ). 1 ≤ k) (sym (one-shifted 64 n (fewer (c .before .pre) (c .if1 .left)))) (pow-pos n)
 
 returns-2 : tie.Need-returns-2
 returns-2 c =

@@ -32,7 +32,9 @@ returns c =
     let head = c .before .before .before in
     let start = head .before in
     let a = start .args in
-    sym (row-used (a .size) (start .pre .0) (a .row) (a .table .now) (start .pre .1) (head .loop .c) (c .before .before .loop-test .taken) (c .if1 .taken))
+    sym
+    (row-used (a .size) (start .pre .0) (a .row) (a .table .now) (start .pre .1) (head .loop .c) (c .before .before .loop-test .taken)
+    (c .if1 .taken))
 
 add-c : tie.Need-add-c Inv-loop μ-loop
 add-c c = omega arith

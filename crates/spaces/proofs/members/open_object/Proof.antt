@@ -90,7 +90,8 @@ loop-again c =
           (λ w.
           pick-passes join answer (a .size) test (head .loop .c) (head .loop .joined) (c .if1 .joined) here
           (lt-ltb 0 (getD (a .counts .now) (60 * a .object + head .loop .c) 0) (w .0 .taken))
-          (w .2 ∙ ap (λ (n : ℕ). set (head .loop .joined) l (bitOr (getD (head .loop .joined) l 0) n)) (one-shifted 64 (a .object) (start .pre .1 .0)))
+          (w .2
+          ∙ ap (λ (n : ℕ). set (head .loop .joined) l (bitOr (getD (head .loop .joined) l 0) n)) (one-shifted 64 (a .object) (start .pre .1 .0)))
           (head .loop .inv .1))
           (λ w.
           pick-fails join answer (a .size) test (head .loop .c) (head .loop .joined) (c .if1 .joined) here

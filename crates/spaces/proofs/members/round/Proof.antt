@@ -31,7 +31,7 @@ loop-holds c =
     let a = c .before .before .before .before .args in
     let next = gainRow (a .groups .now) (a .objects) (a .t1) (a .size) (a .enablers .now) (a .starts .now) (a .finishes .now) in (
       zero-le,
-      walk-starts next (roundOf (a .groups .now) (a .objects) (rulesIn (a .size) (a .count) (a .enablers .now) (a .starts .now) (a .finishes .now)) (a .t1))
+      walk-starts next _
           (a .count) (a .t1)
           (sym
           (foldl-map (ruleAt (a .size) (a .enablers .now) (a .starts .now) (a .finishes .now)) (gainBy (a .groups .now) (a .objects) (a .t1))
@@ -45,8 +45,7 @@ gain-requires : tie.Need-gain-requires Inv-loop μ-loop
 gain-requires c κs =
     let start = c .before .before .before .before .before .before .before in
     let size : length (start .args .t1) ≡ 60 = search needs in
-    let room = start .pre .1 .1 in
-    (
+    let room = start .pre .1 .1 in (
       start .pre .0,
       (start .pre .1 .0, (record { enablers-room = omega arith; starts-room = omega arith; finishes-room = omega arith }, omega arith)),
     )
@@ -63,7 +62,7 @@ loop-again c =
     let a = head .before .before .before .before .before .args in
     let next = gainRow (a .groups .now) (a .objects) (a .t1) (a .size) (a .enablers .now) (a .starts .now) (a .finishes .now) in (
       omega arith,
-      walk-next next (roundOf (a .groups .now) (a .objects) (rulesIn (a .size) (a .count) (a .enablers .now) (a .starts .now) (a .finishes .now)) (a .t1))
+      walk-next next _
           (a .count) (head .loop .row) (head .loop .gained) (c .gain .result) (c .before .before .loop-test .taken) (c .gain .ensures) (head .loop .inv .1),
     )
 
@@ -72,7 +71,7 @@ returns c =
     let head = c .before in
     let a = head .before .before .before .before .before .args in
     let next = gainRow (a .groups .now) (a .objects) (a .t1) (a .size) (a .enablers .now) (a .starts .now) (a .finishes .now) in
-    walk-ends next (roundOf (a .groups .now) (a .objects) (rulesIn (a .size) (a .count) (a .enablers .now) (a .starts .now) (a .finishes .now)) (a .t1))
+    walk-ends next _
     (a .count) (head .loop .row) (head .loop .gained) (c .loop-test .left) (head .loop .inv .1)
 
 pub round-spec : {M : Type 1} → statement M
