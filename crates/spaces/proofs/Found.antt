@@ -10,7 +10,7 @@ use lib.Seq.{take-at}
 use Rattle.laws.specs.Lists.{keep, upTo}
 use Rattle.laws.proofs.Lists.{keep-at, upTo-at}
 use Rattle.model.specs.Card.{Task}
-use Rattle.model.specs.Transitions.{Transition, properties, bagOf, transitions}
+use Rattle.model.specs.Transitions.{Transition, properties, bagOf}
 use Rattle.model.specs.Spaces.{moved, grouping, spaces}
 use Rattle.model.proofs.Grouping.{grouping-lowest}
 use Rattle.model.proofs.Closing.{groups, labels, spacesWith, spaceWith, belongs, spaces-alone}

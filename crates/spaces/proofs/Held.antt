@@ -5,7 +5,7 @@ use native.Mathlib.Omega.{arith}
 use mathlib.Core.Path.{_≡_, refl, sym, ap, _∙_, subst}
 use mathlib.Core.List.{List, [], _∷_, _++_, map, flatMap, append-assoc, List·Memᴰ, List·Memᴰ·head, List·Memᴰ·tail, Memᴰ·of-map}
 use lib.ListN.{length, getD, take, drop, replicate, length-append, length-replicate, length-map}
-use lib.Seq.{ext-getD, take-at, drop-append-add}
+use lib.Seq.{take-at, drop-append-add}
 use Rattle.laws.specs.Lists.{upTo}
 use Rattle.laws.specs.Bags.{Bag}
 use Rattle.laws.proofs.Lists.{length-upTo, getD-upTo, upTo-at}

@@ -108,7 +108,8 @@ pub fn grouping(starts: &[u8], finishes: &[u8], count: usize, size: usize) -> [u
     requires { ⌜ size ≤ 60 ⌝ }
     requires { ⌜ 60 * count ≤ length (now starts) ⌝ }
     requires { ⌜ 60 * count ≤ length (now finishes) ⌝ }
-    ensures { λ r. ⌜ ((enablers : List ℕ) → r ≡ padded 60 0 (model.grouping size (rulesIn size count enablers (now (starts .entry)) (now (finishes .entry))))) ⌝ }
+    ensures { λ r. ⌜ ((enablers : List ℕ)
+        → r ≡ padded 60 0 (model.grouping size (rulesIn size count enablers (now (starts .entry)) (now (finishes .entry))))) ⌝ }
 {
     let mut groups = each_alone(size);
     for row in 0..count {

@@ -2,7 +2,6 @@
 mod grouping;
 mod members;
 
-ghost use mathlib.Core.Path.{_≡_};
 ghost use Prim.Native.Nat.{_*_, _≤_};
 ghost use lib.ListN.{length};
 ghost use Rattle.model.specs.Card.{Task};
@@ -31,7 +30,9 @@ pub fn spaces_of(
     requires { ⌜ (size ≤ 60) × (objects ≤ 64) ⌝ }
     requires { ⌜ Room rules (now enablers) (now starts) (now finishes) ⌝ }
     requires { ⌜ 60 * objects ≤ length (now counts) ⌝ }
-    ensures { λ r. ⌜ ((t : Task) → TablesOf t size rules objects (now (enablers .entry)) (now (starts .entry)) (now (finishes .entry)) (now (counts .entry)) → SpacesOf t r) ⌝ }
+    ensures { λ r. ⌜ ((t : Task)
+        → TablesOf t size rules objects (now (enablers .entry)) (now (starts .entry)) (now (finishes .entry)) (now (counts .entry))
+        → SpacesOf t r) ⌝ }
 {
     let groups = grouping::grouping(starts, finishes, rules, size);
     let labels = grouping::labels_of(&groups, size);

@@ -119,7 +119,8 @@ fn gain(
     requires { ⌜ objects ≤ 64 ⌝ }
     requires { ⌜ Room (row + 1) (now enablers) (now starts) (now finishes) ⌝ }
     requires { ⌜ 60 ≤ length (now before) ⌝ }
-    ensures { λ r. ⌜ r ≡ gainBy (now (groups .entry)) objects (now (before .entry)) masks (ruleAt size (now (enablers .entry)) (now (starts .entry)) (now (finishes .entry)) row) ⌝ }
+    ensures { λ r. ⌜ r ≡ gainBy (now (groups .entry)) objects (now (before .entry)) masks
+        (ruleAt size (now (enablers .entry)) (now (starts .entry)) (now (finishes .entry)) row) ⌝ }
 {
     let mut gained = masks;
     if !is_empty(starts, row, size) {
@@ -149,7 +150,8 @@ fn round(
     requires { ⌜ Grouped size (now groups) ⌝ }
     requires { ⌜ objects ≤ 64 ⌝ }
     requires { ⌜ Room count (now enablers) (now starts) (now finishes) ⌝ }
-    ensures { λ r. ⌜ r ≡ roundOf (now (groups .entry)) objects (rulesIn size count (now (enablers .entry)) (now (starts .entry)) (now (finishes .entry))) masks ⌝ }
+    ensures { λ r. ⌜ r ≡ roundOf (now (groups .entry)) objects
+        (rulesIn size count (now (enablers .entry)) (now (starts .entry)) (now (finishes .entry))) masks ⌝ }
 {
     let mut gained = masks;
     for row in 0..count {
@@ -197,7 +199,8 @@ pub fn close(
     requires { ⌜ Grouped size (now groups) ⌝ }
     requires { ⌜ objects ≤ 64 ⌝ }
     requires { ⌜ Room count (now enablers) (now starts) (now finishes) ⌝ }
-    ensures { λ r. ⌜ r ≡ roundsOf (now (groups .entry)) objects (rulesIn size count (now (enablers .entry)) (now (starts .entry)) (now (finishes .entry))) rounds masks ⌝ }
+    ensures { λ r. ⌜ r ≡ roundsOf (now (groups .entry)) objects
+        (rulesIn size count (now (enablers .entry)) (now (starts .entry)) (now (finishes .entry))) rounds masks ⌝ }
 {
     let mut closed = masks;
     for _ in 0..rounds {

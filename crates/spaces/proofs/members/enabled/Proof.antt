@@ -44,7 +44,8 @@ loop-holds c =
       zero-le,
       pick-starts meet (enabledBy (a .groups .now) (a .objects) (a .masks .now) (bagAt (a .size) (a .enablers .now) (a .row))) (a .size)
           (used (a .enablers .now) (60 * a .row)) (c .everyone .result)
-          (ap (foldl meet (c .everyone .result)) (sym (support-kept (a .size) (start .pre .0 .narrow) (a .row) (a .enablers .now) (start .pre .1 .1 .0)))
+          (ap (foldl meet (c .everyone .result))
+          (sym (support-kept (a .size) (start .pre .0 .narrow) (a .row) (a .enablers .now) (start .pre .1 .1 .0)))
           ∙ ap (λ (n : ℕ). foldl meet n (support (bagAt (a .size) (a .enablers .now) (a .row)))) (c .everyone .ensures)),
     )
 

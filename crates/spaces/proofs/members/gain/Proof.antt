@@ -51,7 +51,9 @@ mul-gained c =
     omega (arith, first .before .before .before .before .before .before .before .before .pre .0 .known (first .first-moved .result))
 
 array-read-gained : tie.Need-array-read-gained
-array-read-gained c = let first = c .before .before .before in first .before .before .before .before .before .before .before .before .pre .0 .known (first .first-moved .result)
+array-read-gained c =
+    let first = c .before .before .before in
+    first .before .before .before .before .before .before .before .before .pre .0 .known (first .first-moved .result)
 
 mul-gained-2 : tie.Need-mul-gained-2
 mul-gained-2 c =
@@ -59,7 +61,9 @@ mul-gained-2 c =
     omega (arith, first .before .before .before .before .before .before .before .before .pre .0 .known (first .first-moved .result))
 
 array-write-gained : tie.Need-array-write-gained
-array-write-gained c = let first = c .before .before .before in first .before .before .before .before .before .before .before .before .pre .0 .known (first .first-moved .result)
+array-write-gained c =
+    let first = c .before .before .before in
+    first .before .before .before .before .before .before .before .before .pre .0 .known (first .first-moved .result)
 
 returns-3 : tie.Need-returns-3
 unfolding joinAt

@@ -63,7 +63,8 @@ loop-again c =
     let next = gainRow (a .groups .now) (a .objects) (a .t1) (a .size) (a .enablers .now) (a .starts .now) (a .finishes .now) in (
       omega arith,
       walk-next next _
-          (a .count) (head .loop .row) (head .loop .gained) (c .gain .result) (c .before .before .loop-test .taken) (c .gain .ensures) (head .loop .inv .1),
+          (a .count) (head .loop .row) (head .loop .gained) (c .gain .result)
+          (c .before .before .loop-test .taken) (c .gain .ensures) (head .loop .inv .1),
     )
 
 returns : tie.Need-returns Inv-loop μ-loop
