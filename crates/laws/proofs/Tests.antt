@@ -101,3 +101,21 @@ by-test false f g = g refl
 pub or-neutral : (a b : Bool) → b ≡ false → (a || b) ≡ a
 or-neutral true b e = refl
 or-neutral false b e = e
+
+-- tests regrouped, and a test that always passes left out
+pub or-assoc : (a b c : Bool) → ((a || b) || c) ≡ (a || (b || c))
+or-assoc true b c = refl
+or-assoc false b c = refl
+
+pub and-assoc : (a b c : Bool) → ((a && b) && c) ≡ (a && (b && c))
+and-assoc true b c = refl
+and-assoc false b c = refl
+
+pub and-swap : (a b c : Bool) → (a && (b && c)) ≡ (b && (a && c))
+and-swap true b c = refl
+and-swap false true c = refl
+and-swap false false c = refl
+
+pub and-neutral : (a : Bool) → (a && true) ≡ a
+and-neutral true = refl
+and-neutral false = refl
