@@ -1,3 +1,5 @@
 pub mod Rows
 pub mod Comparing
 pub mod ComparingAll
+pub mod Containing
+pub mod Writing

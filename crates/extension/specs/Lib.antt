@@ -1,3 +1,4 @@
 pub mod Extended
 pub mod Rows
 pub mod Comparing
+pub mod Choosing
