@@ -3,3 +3,4 @@ pub mod Comparing
 pub mod ComparingAll
 pub mod Containing
 pub mod Writing
+pub mod Choosing
