@@ -4,3 +4,4 @@ pub mod ComparingAll
 pub mod Containing
 pub mod Writing
 pub mod Choosing
+pub mod Turning
