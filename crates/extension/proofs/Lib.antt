@@ -5,3 +5,4 @@ pub mod Containing
 pub mod Writing
 pub mod Choosing
 pub mod Turning
+pub mod Judging

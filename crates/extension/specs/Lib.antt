@@ -2,3 +2,4 @@ pub mod Extended
 pub mod Rows
 pub mod Comparing
 pub mod Choosing
+pub mod Searching
