@@ -6,3 +6,4 @@ pub mod Writing
 pub mod Choosing
 pub mod Turning
 pub mod Judging
+pub mod Remaining
