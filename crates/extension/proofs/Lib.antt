@@ -7,3 +7,4 @@ pub mod Choosing
 pub mod Turning
 pub mod Judging
 pub mod Remaining
+pub mod Searching
