@@ -8,3 +8,4 @@ pub mod Turning
 pub mod Judging
 pub mod Remaining
 pub mod Searching
+pub mod Appending
