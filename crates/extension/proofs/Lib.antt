@@ -9,3 +9,4 @@ pub mod Judging
 pub mod Remaining
 pub mod Searching
 pub mod Appending
+pub mod Tables
