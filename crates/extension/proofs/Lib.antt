@@ -10,3 +10,4 @@ pub mod Remaining
 pub mod Searching
 pub mod Appending
 pub mod Tables
+pub mod Exploring
