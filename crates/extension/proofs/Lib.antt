@@ -11,3 +11,4 @@ pub mod Searching
 pub mod Appending
 pub mod Tables
 pub mod Exploring
+pub mod Joining

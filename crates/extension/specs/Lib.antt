@@ -3,3 +3,4 @@ pub mod Rows
 pub mod Comparing
 pub mod Choosing
 pub mod Searching
+pub mod Joining
