@@ -12,3 +12,4 @@ pub mod Appending
 pub mod Tables
 pub mod Exploring
 pub mod Joining
+pub mod Extending
