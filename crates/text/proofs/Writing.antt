@@ -1,6 +1,6 @@
 -- Laws of writing: bytes written one after the other are written together.
 use Prim.Native.Nat.{ℕ, zero, suc, _+_, _-_, _≤_, _<_}
-use mathlib.Core.Path.{_≡_, refl, sym, ap, _∙_}
+use mathlib.Core.Path.{_≡_, refl, sym, ap, subst, _∙_}
 use mathlib.Core.List.{List, [], _∷_, _++_, append-assoc, append-nil}
 use native.Mathlib.Omega.{arith}
 use native.Mathlib.Numerals.{add-one}
@@ -55,3 +55,50 @@ and-byte {bytes} {before} {mid} {at} w b room = record { count = counted; buffer
 -- one byte at the start
 pub one-byte : (b : ℕ) (before : List ℕ) → 0 < length before → Writes (b ∷ []) before (set before 0 b) 1
 one-byte b before room = and-byte (nothing before) b room
+
+-- Part of a text is written and the rest remains. There is room for all of it.
+pub record Remains (all rest before now : List ℕ) (at : ℕ) : Type 0 where
+  pub written : List ℕ
+  pub whole : all ≡ written ++ rest
+  pub so-far : Writes written before now at
+  pub room : length all ≤ length before
+  pub reached : at + length rest ≡ length all
+  pub kept : length now ≡ length before
+
+-- at the start all remains
+pub start : (all before : List ℕ) → length all ≤ length before → Remains all all before before 0
+start all before room =
+    record { written = []; whole = refl; so-far = nothing before; room = room; reached = omega arith; kept = refl }
+
+-- where nothing remains, all is written
+pub finish : {all rest before now : List ℕ} {at : ℕ} → Remains all rest before now at → rest ≡ [] → Writes all before now at
+finish {all} {rest} {before} {now} {at} r none =
+    subst (λ (l : List ℕ). Writes l before now at) (sym (r .whole ∙ rw none (append-nil _))) (r .so-far)
+
+-- A text begins with these bytes, and those come later.
+pub record Begins (text bytes later : List ℕ) : Type 0 where
+  pub path : text ≡ bytes ++ later
+
+module _ {all rest before now bytes later : List ℕ} {at : ℕ} (r : Remains all rest before now at) (b : Begins rest bytes later) where
+  sizes : length rest ≡ length bytes + length later
+  sizes = simp length-append at (ap length (b .path))
+
+  -- what comes next fits into the buffer from the place on
+  pub next-fits : length bytes ≤ length (take (length now - at) (drop at now))
+  next-fits =
+      rw (take-all (length now - at) (drop at now) (simp length-drop (omega arith)))
+      (simp length-drop (omega (arith, sizes)))
+
+  -- and when it is written there, less remains
+  pub next : {part : List ℕ} {n : ℕ} → Writes bytes (take (length now - at) (drop at now)) part n
+      → Remains all later before (take at now ++ (part ++ drop (length now - at) (drop at now))) (at + n)
+  next w =
+      let both = and-then (r .so-far) w in
+      record {
+        written = r .written ++ bytes;
+        whole = r .whole ∙ rw (b .path) (sym (append-assoc (r .written) bytes later));
+        so-far = both;
+        room = r .room;
+        reached = omega (arith, w .count, sizes);
+        kept = as-long both (omega (arith, w .count, sizes))
+      }
