@@ -9,7 +9,8 @@ use lib.ListN.{length, set, length-append}
 use borrow.Author.Tests.{lt-ltb, le-ltb, ltb-true, ltb-false}
 use Rattle.laws.proofs.Tests.{by-test}
 use Rattle.text.specs.Written.{Writes}
-use Rattle.text.proofs.Writing.{one-byte, and-byte, as-long}
+use Rattle.text.specs.Room.{Room}
+use Rattle.text.proofs.Writing.{Begins, one-byte, first-fits, last-inside, with-last}
 use Rattle.model.specs.Text.{digitsWithin, decimal}
 
 -- a number below 10 is one digit
@@ -59,17 +60,18 @@ some-digit n =
 pub digit-written : (n : ℕ) (before : List ℕ) → n < 10 → 0 < length before → Writes (decimal n) before (set before 0 (48 + n)) 1
 digit-written n before small room = rw (decimal-digit n small) (one-byte (48 + n) before room)
 
-module _ (n : ℕ) (before : List ℕ) (large : 10 ≤ n) (room : length (decimal n) ≤ length before) where
+module _ (n : ℕ) {before : List ℕ} (large : 10 ≤ n) (room : Room (decimal n) before) where
+  tenth-first : Begins (decimal n) (decimal (n / 10)) ((48 + n % 10) ∷ [])
+  tenth-first = record { path = decimal-more n large }
+
   -- room for the digits of the tenth part, and for the last behind them
-  pub tenth-fits : length (decimal (n / 10)) ≤ length before
-  tenth-fits = let h = simp length-append at (rw (decimal-more n large) at room) in omega arith
+  pub tenth-fits : Room (decimal (n / 10)) before
+  tenth-fits = first-fits tenth-first room
 
   pub last-fits : {mid : List ℕ} {at : ℕ} → Writes (decimal (n / 10)) before mid at → at < length mid
-  last-fits w =
-      let h = simp length-append at (rw (decimal-more n large) at room) in
-      omega (arith, w .count, as-long w (rw (w .count) tenth-fits))
+  last-fits w = last-inside tenth-first room w
 
   -- the digits of the tenth part are written, and then the last
   pub last-digit-written : {mid : List ℕ} {at : ℕ} → Writes (decimal (n / 10)) before mid at
       → Writes (decimal n) before (set mid at (48 + n % 10)) (at + 1)
-  last-digit-written w = rw (decimal-more n large) (and-byte w (48 + n % 10) (last-fits w))
+  last-digit-written w = with-last tenth-first room w

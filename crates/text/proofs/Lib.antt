@@ -1,3 +1,4 @@
 pub mod Writing
 pub mod Decimal
 pub mod NumberRows
+pub mod LineTexts

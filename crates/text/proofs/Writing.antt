@@ -6,6 +6,7 @@ use native.Mathlib.Omega.{arith}
 use native.Mathlib.Numerals.{add-one}
 use lib.ListN.{length, take, drop, set, length-append, length-drop, drop-of-length-le}
 use lib.Seq.{take-all, drop-drop, take-at, drop-at, set-split}
+use Rattle.text.specs.Room.{Room}
 use Rattle.text.specs.Written.{Writes}
 
 -- nothing written
@@ -61,13 +62,13 @@ pub record Remains (all rest before now : List ℕ) (at : ℕ) : Type 0 where
   pub written : List ℕ
   pub whole : all ≡ written ++ rest
   pub so-far : Writes written before now at
-  pub room : length all ≤ length before
+  pub room : Room all before
   pub reached : at + length rest ≡ length all
   pub kept : length now ≡ length before
 
 -- at the start all remains
-pub start : (all before : List ℕ) → length all ≤ length before → Remains all all before before 0
-start all before room =
+pub start : {all before : List ℕ} → Room all before → Remains all all before before 0
+start {all} {before} room =
     record { written = []; whole = refl; so-far = nothing before; room = room; reached = omega arith; kept = refl }
 
 -- where nothing remains, all is written
@@ -84,10 +85,13 @@ module _ {all rest before now bytes later : List ℕ} {at : ℕ} (r : Remains al
   sizes = simp length-append at (ap length (b .path))
 
   -- what comes next fits into the buffer from the place on
-  pub next-fits : length bytes ≤ length (take (length now - at) (drop at now))
+  pub next-fits : Room bytes (take (length now - at) (drop at now))
   next-fits =
-      rw (take-all (length now - at) (drop at now) (simp length-drop (omega arith)))
-      (simp length-drop (omega (arith, sizes)))
+      record {
+        fits =
+          rw (take-all (length now - at) (drop at now) (simp length-drop (omega arith)))
+          (simp length-drop (omega (arith, sizes)))
+      }
 
   -- and when it is written there, less remains
   pub next : {part : List ℕ} {n : ℕ} → Writes bytes (take (length now - at) (drop at now)) part n
@@ -102,3 +106,49 @@ module _ {all rest before now bytes later : List ℕ} {at : ℕ} (r : Remains al
         reached = omega (arith, w .count, sizes);
         kept = as-long both (omega (arith, w .count, sizes))
       }
+
+-- a text that begins with bytes has room for them
+pub first-fits : {text bytes later before : List ℕ} → Begins text bytes later → Room text before → Room bytes before
+first-fits b room = record { fits = let h = simp length-append at (ap length (b .path)) in omega arith }
+
+-- A text in two parts, the first of which is written.
+module _ {text bytes later before mid : List ℕ} {at : ℕ} (b : Begins text bytes later) (room : Room text before)
+    (w : Writes bytes before mid at) where
+  begun : Remains text later before mid at
+  begun =
+      let h = simp length-append at (ap length (b .path)) in
+      record {
+        written = bytes;
+        whole = b .path;
+        so-far = w;
+        room = room;
+        reached = omega (arith, w .count);
+        kept = as-long w (omega (arith, w .count))
+      }
+
+  all-later : Begins later later []
+  all-later = record { path = sym (append-nil later) }
+
+  -- the rest of the buffer begins inside it
+  pub rest-inside : at ≤ length mid
+  rest-inside = let r = begun in omega arith
+
+  -- and has room for the second part
+  pub second-fits : Room later (take (length mid - at) (drop at mid))
+  second-fits = next-fits begun all-later
+
+  -- with which the text is written
+  pub both : {part : List ℕ} {n : ℕ} → Writes later (take (length mid - at) (drop at mid)) part n
+      → Writes text before (take at mid ++ (part ++ drop (length mid - at) (drop at mid))) (at + n)
+  both v = finish (next begun all-later v) refl
+
+-- A text that ends in one byte, all before which is written.
+module _ {text bytes before mid : List ℕ} {at last : ℕ} (b : Begins text bytes (last ∷ [])) (room : Room text before)
+    (w : Writes bytes before mid at) where
+  -- there is room for that byte
+  pub last-inside : at < length mid
+  last-inside = let r = begun b room w in omega arith
+
+  -- with which the text is written
+  pub with-last : Writes text before (set mid at last) (at + 1)
+  with-last = subst (λ (l : List ℕ). Writes l before (set mid at last) (at + 1)) (sym (b .path)) (and-byte w last last-inside)

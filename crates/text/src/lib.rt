@@ -2,3 +2,4 @@
 // what stood behind them stays. Document 01, "Listing".
 mod numbers;
 mod rows;
+mod lines;

@@ -1,14 +1,13 @@
 // Bytes and decimal numbers. A writer asks for as much room as its bytes take.
 ghost use mathlib.Core.Path.{_≡_};
 ghost use mathlib.Core.List.{[], _∷_, _++_};
-ghost use Prim.Native.Nat.{_≤_};
-ghost use lib.ListN.{length};
 ghost use Rattle.model.specs.Text.{decimal};
+ghost use Rattle.text.specs.Room.{Room};
 ghost use Rattle.text.specs.Written.{Writes};
 
 // One byte.
 pub fn write_byte(out: &mut [u8], b: u8) -> usize
-    requires { ⌜ 1 ≤ length (now out) ⌝ }
+    requires { ⌜ Room (b ∷ []) (now out) ⌝ }
     ensures { λ r. ⌜ Writes (b ∷ []) (now (out .entry)) (now (out .exit)) r ⌝ }
 {
     out[0] = b;
@@ -17,7 +16,7 @@ pub fn write_byte(out: &mut [u8], b: u8) -> usize
 
 // A number in decimal.
 pub fn write_decimal(out: &mut [u8], n: usize) -> usize
-    requires { ⌜ length (decimal n) ≤ length (now out) ⌝ }
+    requires { ⌜ Room (decimal n) (now out) ⌝ }
     ensures { λ r. ⌜ Writes (decimal n) (now (out .entry)) (now (out .exit)) r ⌝ }
 {
     if n < 10 {
@@ -31,7 +30,7 @@ pub fn write_decimal(out: &mut [u8], n: usize) -> usize
 
 // A byte and a number.
 pub fn write_item(out: &mut [u8], n: usize) -> usize
-    requires { ⌜ length (32 ∷ decimal n) ≤ length (now out) ⌝ }
+    requires { ⌜ Room (32 ∷ decimal n) (now out) ⌝ }
     ensures { λ r. ⌜ Writes (32 ∷ decimal n) (now (out .entry)) (now (out .exit)) r ⌝ }
 {
     let at = write_byte(out, 32);

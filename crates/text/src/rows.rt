@@ -1,14 +1,13 @@
 // Rows of numbers, each after one blank.
 use crate::numbers::write_item;
 ghost use mathlib.Core.Path.{_≡_};
-ghost use Prim.Native.Nat.{_≤_};
-ghost use lib.ListN.{length};
+ghost use Rattle.text.specs.Room.{Room};
 ghost use Rattle.text.specs.Written.{Writes};
 ghost use Rattle.text.specs.Numbers.{numbers};
 
 // The counts of a bag.
 pub fn write_counts(out: &mut [u8], counts: &[u16]) -> usize
-    requires { ⌜ length (numbers (now counts)) ≤ length (now out) ⌝ }
+    requires { ⌜ Room (numbers (now counts)) (now out) ⌝ }
     ensures { λ r. ⌜ Writes (numbers (now (counts .entry))) (now (out .entry)) (now (out .exit)) r ⌝ }
 {
     let mut at = 0;

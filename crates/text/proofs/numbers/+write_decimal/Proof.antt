@@ -38,7 +38,7 @@ module _ (t : ℕ) where
   returns c = digit-written _ _ (c .if1 .taken) (omega (arith, some-digit (c .before .before .args .n)))
 
   write-decimal-requires : lts.Need-write-decimal-requires (called t, write-decimal.Post) (given t) write-decimal.Post
-  write-decimal-requires c κs = (omega arith, tenth-fits _ (c .before .before .before .args .out .now) (c .before .if1 .left) (c .before .before .before .pre .1))
+  write-decimal-requires c κs = (omega arith, tenth-fits _ (c .before .if1 .left) (c .before .before .before .pre .1))
 
   cast-out-2 : lts.Need-cast-out-2 (called t, write-decimal.Post) (given t) write-decimal.Post
   cast-out-2 c = search needs
@@ -47,7 +47,7 @@ module _ (t : ℕ) where
   add-out-2 c = search needs
 
   slice-write-out-2 : lts.Need-slice-write-out-2 (called t, write-decimal.Post) (given t) write-decimal.Post
-  slice-write-out-2 c = last-fits _ _ (c .before .before .before .before .if1 .left) (c .before .before .before .before .before .before .pre .1) (c .before .before .write-decimal .ensures)
+  slice-write-out-2 c = last-fits _ (c .before .before .before .before .if1 .left) (c .before .before .before .before .before .before .pre .1) (c .before .before .write-decimal .ensures)
 
   add-result : lts.Need-add-result (called t, write-decimal.Post) (given t) write-decimal.Post
   add-result c = omega (arith, slice-write-out-2 c)
@@ -57,7 +57,7 @@ module _ (t : ℕ) where
 
   returns-2 : lts.Need-returns-2 (called t, write-decimal.Post) (given t) write-decimal.Post
   returns-2 c =
-      last-digit-written _ _ (c .before .before .before .before .if1 .left) (c .before .before .before .before .before .before .pre .1)
+      last-digit-written _ (c .before .before .before .before .if1 .left) (c .before .before .before .before .before .before .pre .1)
       (c .before .before .write-decimal .ensures)
 
 pub +write-decimal-spec : {M : Type 1} → statement M

@@ -20,7 +20,7 @@ abbrev μ-loop : tie.MeasureT-loop
 
 -- src/rows.rt:16:5
 loop-holds : tie.Need-loop-holds Inv-loop μ-loop
-loop-holds c = (start _ _ (c .before .before .pre), omega arith)
+loop-holds c = (start (c .before .before .pre), omega arith)
 
 -- src/rows.rt:17:28
 sub-write-item : tie.Need-sub-write-item Inv-loop μ-loop
