@@ -6,3 +6,4 @@ pub mod Counting
 pub mod Groups
 pub mod Orders
 pub mod Reading
+pub mod Masks
