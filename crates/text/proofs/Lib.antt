@@ -2,3 +2,4 @@ pub mod Writing
 pub mod Decimal
 pub mod NumberRows
 pub mod LineTexts
+pub mod MaskMembers

@@ -4,6 +4,7 @@ use mathlib.Core.Path.{_≡_, refl}
 use mathlib.Core.List.{List, [], _∷_, _++_, flatMap, append-nil, append-assoc}
 use Rattle.model.specs.Lines.{membership}
 use Rattle.model.specs.Text.{decimal, items, spaced, lineText}
+use Rattle.text.specs.Numbers.{numbers, lastNumbers}
 use Rattle.text.proofs.Writing.{Begins}
 
 -- the first number after the letter
@@ -24,3 +25,12 @@ line-end text = record { path = refl }
 pub membership-end : (index : ℕ) → Begins (lineText (membership index)) (spaced ((68 ∷ []) ∷ decimal index ∷ [])) (10 ∷ [])
 unfolding lineText items
 membership-end index = line-end _
+
+-- a blank and a byte
+pub mark-byte : (b : ℕ) → Begins (32 ∷ b ∷ []) (32 ∷ []) (b ∷ [])
+mark-byte b = record { path = refl }
+
+-- the last numbers of a line: first the colon
+pub colon-first : (ns : List ℕ) → Begins (lastNumbers ns) (32 ∷ 58 ∷ []) (numbers ns ++ (10 ∷ []))
+unfolding lastNumbers
+colon-first ns = record { path = refl }

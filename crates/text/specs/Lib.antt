@@ -1,3 +1,4 @@
+pub mod Room
 pub mod Written
 pub mod Numbers
-pub mod Room
+pub mod Members

@@ -1,6 +1,6 @@
 // Bytes and decimal numbers. A writer asks for as much room as its bytes take.
 ghost use mathlib.Core.Path.{_≡_};
-ghost use mathlib.Core.List.{[], _∷_, _++_};
+ghost use mathlib.Core.List.{[], _∷_};
 ghost use Rattle.model.specs.Text.{decimal};
 ghost use Rattle.text.specs.Room.{Room};
 ghost use Rattle.text.specs.Written.{Writes};
@@ -12,6 +12,16 @@ pub fn write_byte(out: &mut [u8], b: u8) -> usize
 {
     out[0] = b;
     1
+}
+
+// A blank and a byte.
+pub fn write_mark(out: &mut [u8], b: u8) -> usize
+    requires { ⌜ Room (32 ∷ b ∷ []) (now out) ⌝ }
+    ensures { λ r. ⌜ Writes (32 ∷ b ∷ []) (now (out .entry)) (now (out .exit)) r ⌝ }
+{
+    let at = write_byte(out, 32);
+    out[at] = b;
+    at + 1
 }
 
 // A number in decimal.
@@ -28,7 +38,7 @@ pub fn write_decimal(out: &mut [u8], n: usize) -> usize
     at + 1
 }
 
-// A byte and a number.
+// A blank and a number.
 pub fn write_item(out: &mut [u8], n: usize) -> usize
     requires { ⌜ Room (32 ∷ decimal n) (now out) ⌝ }
     ensures { λ r. ⌜ Writes (32 ∷ decimal n) (now (out .entry)) (now (out .exit)) r ⌝ }

@@ -1,9 +1,14 @@
-// Rows of numbers, each after one blank.
+// Lists of numbers, each after one blank, and the last list of a line: a colon before it and the line's end after it.
 use crate::numbers::write_item;
+use crate::numbers::write_mark;
+use masks::first_member;
+use masks::without_first;
 ghost use mathlib.Core.Path.{_≡_};
+ghost use mathlib.Core.List.{[], _∷_, _++_};
+ghost use Rattle.text.specs.Members.{membersOf};
+ghost use Rattle.text.specs.Numbers.{numbers, lastNumbers};
 ghost use Rattle.text.specs.Room.{Room};
 ghost use Rattle.text.specs.Written.{Writes};
-ghost use Rattle.text.specs.Numbers.{numbers};
 
 // The counts of a bag.
 pub fn write_counts(out: &mut [u8], counts: &[u16]) -> usize
@@ -18,4 +23,56 @@ pub fn write_counts(out: &mut [u8], counts: &[u16]) -> usize
         i = i + 1;
     }
     at
+}
+
+fn write_counts_end(out: &mut [u8], counts: &[u16]) -> usize
+    requires { ⌜ Room (numbers (now counts) ++ (10 ∷ [])) (now out) ⌝ }
+    ensures { λ r. ⌜ Writes (numbers (now (counts .entry)) ++ (10 ∷ [])) (now (out .entry)) (now (out .exit)) r ⌝ }
+{
+    let at = write_counts(out, counts);
+    out[at] = 10;
+    at + 1
+}
+
+pub fn write_last_counts(out: &mut [u8], counts: &[u16]) -> usize
+    requires { ⌜ Room (lastNumbers (now counts)) (now out) ⌝ }
+    ensures { λ r. ⌜ Writes (lastNumbers (now (counts .entry))) (now (out .entry)) (now (out .exit)) r ⌝ }
+{
+    let at = write_mark(out, 58);
+    let n = write_counts_end(&mut out[at..], counts);
+    at + n
+}
+
+// The members of a mask, the lowest first.
+pub fn write_members(out: &mut [u8], mask: u64) -> usize
+    requires { ⌜ Room (numbers (membersOf mask)) (now out) ⌝ }
+    ensures { λ r. ⌜ Writes (numbers (membersOf mask)) (now (out .entry)) (now (out .exit)) r ⌝ }
+{
+    let mut at = 0;
+    let mut rest = mask;
+    while rest != 0 {
+        let o = first_member(rest) as usize;
+        let n = write_item(&mut out[at..], o);
+        at = at + n;
+        rest = without_first(rest);
+    }
+    at
+}
+
+fn write_members_end(out: &mut [u8], mask: u64) -> usize
+    requires { ⌜ Room (numbers (membersOf mask) ++ (10 ∷ [])) (now out) ⌝ }
+    ensures { λ r. ⌜ Writes (numbers (membersOf mask) ++ (10 ∷ [])) (now (out .entry)) (now (out .exit)) r ⌝ }
+{
+    let at = write_members(out, mask);
+    out[at] = 10;
+    at + 1
+}
+
+pub fn write_last_members(out: &mut [u8], mask: u64) -> usize
+    requires { ⌜ Room (lastNumbers (membersOf mask)) (now out) ⌝ }
+    ensures { λ r. ⌜ Writes (lastNumbers (membersOf mask)) (now (out .entry)) (now (out .exit)) r ⌝ }
+{
+    let at = write_mark(out, 58);
+    let n = write_members_end(&mut out[at..], mask);
+    at + n
 }
