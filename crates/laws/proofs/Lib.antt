@@ -7,3 +7,4 @@ pub mod Groups
 pub mod Orders
 pub mod Reading
 pub mod Masks
+pub mod Walks

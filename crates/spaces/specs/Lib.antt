@@ -1,1 +1,2 @@
 pub mod SpaceTable
+pub mod Steps
