@@ -1,9 +1,12 @@
 -- The text of a line, part by part.
 use Prim.Native.Nat.{ℕ}
 use mathlib.Core.Path.{_≡_, refl}
-use mathlib.Core.List.{List, [], _∷_, _++_, flatMap, append-nil, append-assoc}
-use Rattle.model.specs.Lines.{membership}
-use Rattle.model.specs.Text.{decimal, items, spaced, lineText}
+use mathlib.Core.List.{List, [], _∷_, _++_, map, flatMap, append-nil, append-assoc}
+use Rattle.laws.proofs.Lists.{flatMap-append}
+use Rattle.model.specs.Lines.{space, state, membership, types}
+use Rattle.model.specs.Text.{decimal, kindLetter, colon, items, spaced, lineText}
+use Rattle.text.specs.declared.lists.Kind.{Kind}
+use Rattle.text.specs.Kinds.{kindSays, spaceFront}
 use Rattle.text.specs.Numbers.{numbers, lastNumbers}
 use Rattle.text.proofs.Writing.{Begins}
 
@@ -34,3 +37,43 @@ mark-byte b = record { path = refl }
 pub colon-first : (ns : List ℕ) → Begins (lastNumbers ns) (32 ∷ 58 ∷ []) (numbers ns ++ (10 ∷ []))
 unfolding lastNumbers
 colon-first ns = record { path = refl }
+
+-- a line's first items, and then the others up to its end
+items-parts : (first : List ℕ) (front back : List (List ℕ))
+    → Begins (spaced (first ∷ (front ++ back)) ++ (10 ∷ [])) (spaced (first ∷ front)) (flatMap (λ item. 32 ∷ item) back ++ (10 ∷ []))
+unfolding spaced
+items-parts first front back = record { path = rw (flatMap-append (λ item. 32 ∷ item) front back) (simp append-assoc) }
+
+-- T: the letter, then the counts
+pub state-parts : (counts : List ℕ) → Begins (lineText (state counts)) (84 ∷ []) (lastNumbers counts)
+unfolding lineText items spaced flatMap lastNumbers numbers
+state-parts counts = items-parts (84 ∷ []) [] (colon ∷ map decimal counts)
+
+-- R: the letter and two numbers, then the objects
+pub types-parts : (schema parameter : ℕ) (objects : List ℕ)
+    → Begins (lineText (types schema parameter objects)) (spaced ((82 ∷ []) ∷ decimal schema ∷ decimal parameter ∷ [])) (lastNumbers objects)
+unfolding lineText items flatMap lastNumbers numbers
+types-parts schema parameter objects = items-parts (82 ∷ []) (decimal schema ∷ decimal parameter ∷ []) (colon ∷ map decimal objects)
+
+-- S: the kind and a colon
+pub kind-parts : (letter : ℕ) → Begins (32 ∷ letter ∷ 32 ∷ 58 ∷ []) (32 ∷ letter ∷ []) (32 ∷ 58 ∷ [])
+kind-parts letter = record { path = refl }
+
+-- the letter and the number, then the kind
+pub head-parts : (n : ℕ) (kind : Kind)
+    → Begins (spaceFront n kind []) (spaced ((83 ∷ []) ∷ decimal n ∷ [])) (32 ∷ kindLetter (kindSays kind) ∷ 32 ∷ 58 ∷ [])
+unfolding spaceFront spaced flatMap
+head-parts n kind = record { path = simp (append-nil, append-assoc) }
+
+-- then the properties
+pub front-parts : (n : ℕ) (kind : Kind) (properties : List ℕ)
+    → Begins (spaceFront n kind properties) (spaceFront n kind []) (numbers properties)
+unfolding spaceFront spaced flatMap numbers
+front-parts n kind properties = record { path = simp append-assoc }
+
+-- and then the members
+pub space-parts : (n : ℕ) (kind : Kind) (properties members : List ℕ)
+    → Begins (lineText (space n (kindSays kind) properties members)) (spaceFront n kind properties) (lastNumbers members)
+unfolding lineText items spaceFront flatMap lastNumbers numbers
+space-parts n kind properties members =
+    items-parts (83 ∷ []) (decimal n ∷ (kindLetter (kindSays kind) ∷ []) ∷ colon ∷ map decimal properties) (colon ∷ map decimal members)

@@ -12,6 +12,9 @@ use Rattle.text.specs.Members.{membersOf}
 use Rattle.text.specs.Room.{Room}
 use Rattle.text.specs.Written.{Writes}
 use Rattle.text.proofs.MaskMembers.{Members, members-are, Lowest, lowest-member, no-member}
+use Rattle.laws.specs.Lists.{keep, upTo}
+use Rattle.laws.proofs.Walks.{left, kept-all, kept-passes, kept-fails, kept-none}
+use mathlib.Core.Bool.{Bool, true, false}
 use lib.Bits.{bitAnd}
 use lib.Count.{trailingZeros}
 
@@ -29,6 +32,27 @@ number-at ns i h = record { path = rw (add-one i, drop-cons ns i 0 h) }
 pub no-number : (ns : List ℕ) (i : ℕ) → length ns ≤ i → numbers (drop i ns) ≡ []
 unfolding numbers flatMap
 no-number ns i h = rw (drop-of-length-le ns h)
+
+-- Numbers below a size that pass a test, walked one after the other: what is left from i on.
+module _ (test : ℕ → Bool) where
+  abbrev pub keptFrom : ℕ → ℕ → List ℕ
+  keptFrom i size = numbers (keep test (left i size))
+
+  -- at the start all of them
+  pub kept-start : (size : ℕ) → numbers (keep test (upTo size)) ≡ keptFrom 0 size
+  kept-start size = ap numbers (sym (kept-all test size))
+
+  -- the next one passes, or fails
+  pub kept-number : (i size : ℕ) → i < size → test i ≡ true → Begins (keptFrom i size) (32 ∷ decimal i) (keptFrom (i + 1) size)
+  kept-number i size h e = record { path = ap numbers (kept-passes test i size h e) ∙ first-number i _ .path }
+
+  pub kept-skipped : (i size : ℕ) → i < size → test i ≡ false → keptFrom i size ≡ keptFrom (i + 1) size
+  kept-skipped i size h e = ap numbers (kept-fails test i size h e)
+
+  -- at the end none is left
+  pub kept-end : (i size : ℕ) → size ≤ i → keptFrom i size ≡ []
+  unfolding numbers flatMap
+  kept-end i size h = ap numbers (kept-none test i size h)
 
 -- The members of a mask are still to be written.
 pub record MembersRemain (all : List ℕ) (left : ℕ) (before now : List ℕ) (at : ℕ) : Type 0 where

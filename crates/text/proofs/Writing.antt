@@ -76,6 +76,11 @@ pub finish : {all rest before now : List ℕ} {at : ℕ} → Remains all rest be
 finish {all} {rest} {before} {now} {at} r none =
     subst (λ (l : List ℕ). Writes l before now at) (sym (r .whole ∙ rw none (append-nil _))) (r .so-far)
 
+-- what remains may be said in other words
+pub remains-as : {all rest rest′ before now : List ℕ} {at : ℕ} → rest ≡ rest′ → Remains all rest before now at
+    → Remains all rest′ before now at
+remains-as {all} {rest} {rest′} {before} {now} {at} e r = subst (λ (l : List ℕ). Remains all l before now at) e r
+
 -- A text begins with these bytes, and those come later.
 pub record Begins (text bytes later : List ℕ) : Type 0 where
   pub path : text ≡ bytes ++ later

@@ -2,3 +2,4 @@ pub mod Room
 pub mod Written
 pub mod Numbers
 pub mod Members
+pub mod Kinds
