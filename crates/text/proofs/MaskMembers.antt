@@ -127,3 +127,7 @@ unfolding sum
 only-members [] ps r s = sym (no-member ps s (r .same))
 only-members (o ∷ os) [] r s = no-member (o ∷ os) r (s .same)
 only-members (o ∷ os) (p ∷ ps) r s = ap₂ _∷_ (sym (first-is r) ∙ first-is s) (only-members os ps (others-are r) (others-are s))
+
+-- so the objects of which a mask is made are those that are listed for it
+pub listed-members : {m : ℕ} (os : List ℕ) → m < 2 ^ 64 → Members m os → membersOf m ≡ os
+listed-members {m} os h r = only-members (membersOf m) os (members-are m h) r
