@@ -1,3 +1,5 @@
 pub mod Rows
 pub mod Comparing
 pub mod LinesLeft
+pub mod RowTests
+pub mod RowLists

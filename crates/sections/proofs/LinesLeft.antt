@@ -2,8 +2,11 @@
 use Prim.Native.Nat.{ℕ, _+_, _≤_, _<_}
 use mathlib.Core.Path.{_≡_, refl, sym, ap, _∙_}
 use mathlib.Core.List.{List, [], _∷_, _++_, map, flatMap}
+use native.Mathlib.Numerals.{add-one}
+use lib.ListN.{length, drop, getD, drop-of-length-le}
+use lib.Seq.{drop-cons}
 use Rattle.laws.specs.Bags.{Bag}
-use Rattle.model.specs.Lines.{Line, state}
+use Rattle.model.specs.Lines.{Line, state, membership}
 use Rattle.model.specs.Text.{lineText, text}
 use Rattle.sections.specs.Rows.{bagAt, bagsIn}
 use Rattle.sections.proofs.Rows.{bagsFrom, rows-start, rows-next, rows-end, lent, row-lent}
@@ -30,3 +33,12 @@ module _ (size count : ℕ) (table : List ℕ) where
 
   pub states-end : (i : ℕ) → count ≤ i → text (map state (bagsFrom size count table i)) ≡ []
   states-end i h = rw (rows-end size count table i h) no-lines
+
+-- D lines of a list of indices, from a place on
+module _ (indices : List ℕ) where
+  pub memberships-next : (k : ℕ) → k < length indices
+      → Begins (text (map membership (drop k indices))) (lineText (membership (getD indices k 0))) (text (map membership (drop (k + 1) indices)))
+  memberships-next k h = rw (drop-cons indices k 0 h, add-one k) (first-line _ _)
+
+  pub memberships-end : (k : ℕ) → length indices ≤ k → text (map membership (drop k indices)) ≡ []
+  memberships-end k h = rw (drop-of-length-le indices h) no-lines

@@ -3,12 +3,12 @@ use Prim.Native.Nat.{ℕ, _+_, _-_, _*_, _≤_, _<_}
 use native.Mathlib.Omega.{arith}
 use mathlib.Core.Path.{_≡_, refl, sym, ap, _∙_}
 use mathlib.Core.List.{List, [], _∷_, map}
-use lib.ListN.{length, take, drop, length-drop}
-use lib.Seq.{length-take-le}
+use lib.ListN.{length, take, drop, getD, length-drop}
+use lib.Seq.{length-take-le, getD-take, getD-drop}
 use Rattle.laws.specs.Bags.{Bag}
 use Rattle.laws.proofs.Walks.{left, left-all, left-one, left-none}
 use Rattle.rules.specs.Tables.{stride}
-use Rattle.sections.specs.Rows.{bagAt, bagsIn, HasRows}
+use Rattle.sections.specs.Rows.{bagAt, bagsIn, HasRow, HasRows}
 
 -- the bags of the rows from i on
 unfoldable pub bagsFrom : ℕ → ℕ → List ℕ → ℕ → List Bag
@@ -30,13 +30,20 @@ module _ (size count : ℕ) (table : List ℕ) where
   unfolding bagsFrom
   rows-end i h = ap (map (bagAt size table)) (left-none i count h)
 
-  -- a row is inside the table, and its bag has so many counts
-  pub row-inside : HasRows size count table → (i : ℕ) → i < count → stride * i + size ≤ length table
-  row-inside h i k = omega arith
+  -- each of the rows is inside the table
+  pub has-row : HasRows size count table → (i : ℕ) → i < count → HasRow size i table
+  has-row h i k = record { inside = omega arith }
 
-  pub length-bagAt : HasRows size count table → (i : ℕ) → i < count → length (bagAt size table i) ≡ size
+module _ {size i : ℕ} {table : List ℕ} (h : HasRow size i table) where
+  -- a bag has so many counts
+  pub length-bagAt : length (bagAt size table i) ≡ size
   unfolding bagAt
-  length-bagAt h i k = length-take-le size (drop (stride * i) table) (omega (arith, length-drop (stride * i) table))
+  length-bagAt = length-take-le size (drop (stride * i) table) (omega (arith, length-drop (stride * i) table))
+
+  -- and they are those of its row
+  pub getD-bagAt : (k : ℕ) → k < size → getD (bagAt size table i) k 0 ≡ getD table (stride * i + k) 0
+  unfolding bagAt
+  getD-bagAt k l = getD-take size (drop (stride * i) table) k 0 l ∙ getD-drop (stride * i) table k 0
 
 -- the part of a table that is lent as a row
 abbrev pub lent : ℕ → List ℕ → ℕ → List ℕ

@@ -18,17 +18,11 @@ fn is_excluded(table: &[u16], count: usize, size: usize, i: usize, j: usize) -> 
     requires { ⌜ HasRows size count (now table) × (i < count) × (j < count) ⌝ }
     ensures { λ r. ⌜ r ≡ excluded (bagsIn size count (now (table .entry))) i j ⌝ }
 {
-    let first = 60 * i;
-    let first_end = first + size;
-    let second = 60 * j;
-    let second_end = second + size;
     for k in 0..count {
-        let row = 60 * k;
-        let end = row + size;
-        if !contains(&table[row..end], &table[first..first_end]) {
+        if !contains(table, size, k, i) {
             continue;
         }
-        if contains(&table[row..end], &table[second..second_end]) {
+        if contains(table, size, k, j) {
             return false;
         }
     }

@@ -29,12 +29,8 @@ fn is_minimal(table: &[u16], count: usize, size: usize, i: usize) -> bool
         ⌝
     }
 {
-    let row = 60 * i;
-    let end = row + size;
     for j in 0..count {
-        let other = 60 * j;
-        let other_end = other + size;
-        if strictly_contains(&table[row..end], &table[other..other_end]) {
+        if strictly_contains(table, size, i, j) {
             return false;
         }
     }

@@ -1,90 +1,47 @@
+use Prim.Native.Nat.{_-_, _≤_}
+use mathlib.Core.Path.{sym, _∙_}
+use native.Mathlib.Omega.{arith}
+use Rattle.laws.specs.Bags.{strictlyContains}
+use Rattle.sections.specs.Rows.{bagAt}
+use Rattle.sections.proofs.Rows.{has-row}
+use Rattle.sections.proofs.RowTests.{Decides, tests-start, one-passes, row-fails, none-passes}
+use borrow.Author.Needs.{needs}
 use Rattle.sections.proofs.minimal.is_minimal.Statement.{statement}
 use Rattle.sections.proofs.minimal.is_minimal.Tie as tie
-use Rattle.sections.proofs.minimal.is_minimal.Reads as reads
-use Rattle.sections.proofs.minimal.is_minimal.Lts as lts
-use Rattle.sections.proofs.bags.strictly_contains.Reads as strictly-contains-reads
 
 abbrev Inv-loop : tie.InvT-loop
-Inv-loop table count size i row end j₀ j = ?
+Inv-loop table count size i j₀ j = Decides (strictlyContains (bagAt size table i)) size count table j × (j ≤ count)
 
 abbrev μ-loop : tie.MeasureT-loop
-μ-loop table count size i row end j₀ j = ?
+μ-loop table count size i j₀ j = count - j
 
--- src/minimal.rt:32:15
-mul-row : tie.Need-mul-row Inv-loop μ-loop
-mul-row c = ?
-
--- src/minimal.rt:33:15
-add-end : tie.Need-add-end Inv-loop μ-loop
-add-end c = ?
-
--- src/minimal.rt:34:5
 loop-holds : tie.Need-loop-holds Inv-loop μ-loop
-loop-holds c = ?
+loop-holds c = (tests-start _ _ _ _, omega arith)
 
--- src/minimal.rt:35:21
-mul-other : tie.Need-mul-other Inv-loop μ-loop
-mul-other c = ?
-
--- src/minimal.rt:36:25
-add-other-end : tie.Need-add-other-end Inv-loop μ-loop
-add-other-end c = ?
-
--- src/minimal.rt:37:30
-mul-strictly-contains : tie.Need-mul-strictly-contains Inv-loop μ-loop
-mul-strictly-contains c = ?
-
--- src/minimal.rt:37:30
-sub-strictly-contains : tie.Need-sub-strictly-contains Inv-loop μ-loop
-sub-strictly-contains c = ?
-
--- src/minimal.rt:37:30
-part-strictly-contains-start : tie.Need-part-strictly-contains-start Inv-loop μ-loop
-part-strictly-contains-start c = ?
-
--- src/minimal.rt:37:30
-part-strictly-contains-end : tie.Need-part-strictly-contains-end Inv-loop μ-loop
-part-strictly-contains-end c = ?
-
--- src/minimal.rt:37:48
-mul-strictly-contains-2 : tie.Need-mul-strictly-contains-2 Inv-loop μ-loop
-mul-strictly-contains-2 c = ?
-
--- src/minimal.rt:37:48
-sub-strictly-contains-2 : tie.Need-sub-strictly-contains-2 Inv-loop μ-loop
-sub-strictly-contains-2 c = ?
-
--- src/minimal.rt:37:48
-part-strictly-contains-start-2 : tie.Need-part-strictly-contains-start-2 Inv-loop μ-loop
-part-strictly-contains-start-2 c = ?
-
--- src/minimal.rt:37:48
-part-strictly-contains-end-2 : tie.Need-part-strictly-contains-end-2 Inv-loop μ-loop
-part-strictly-contains-end-2 c = ?
-
--- src/minimal.rt:37:12
 strictly-contains-requires : tie.Need-strictly-contains-requires Inv-loop μ-loop
-strictly-contains-requires c κs = ?
+strictly-contains-requires c κs =
+    let h = c .before .before .before .pre in (has-row _ _ _ (h .0) _ (h .1), has-row _ _ _ (h .0) _ (c .loop-test .taken))
 
--- src/minimal.rt:38:13
 returns : tie.Need-returns Inv-loop μ-loop
-returns c = ?
+returns c =
+    let l = c .before .before .before .loop in
+    one-passes _ _ _ _ (l .j) (c .before .before .loop-test .taken) (sym (c .before .strictly-contains .ensures) ∙ c .if1 .taken) (l .inv .0)
 
--- src/minimal.rt:34:9
 add-j : tie.Need-add-j Inv-loop μ-loop
-add-j c = ?
+add-j c = search needs
 
--- src/minimal.rt:34:5
 loop-less : tie.Need-loop-less Inv-loop μ-loop
-loop-less c = ?
+loop-less c = search needs
 
--- src/minimal.rt:34:5
 loop-again : tie.Need-loop-again Inv-loop μ-loop
-loop-again c = ?
+loop-again c =
+    let l = c .before .before .before .loop in (
+      row-fails _ _ _ _ (l .j) (c .before .before .loop-test .taken) (sym (c .before .strictly-contains .ensures) ∙ c .if1 .left) (l .inv .0),
+      search needs,
+    )
 
--- src/minimal.rt:24:1
 returns-2 : tie.Need-returns-2 Inv-loop μ-loop
-returns-2 c = ?
+returns-2 c = none-passes _ _ _ _ _ (c .loop-test .left) (c .before .loop .inv .0)
 
 pub is-minimal-spec : {M : Type 1} → statement M
 is-minimal-spec =
@@ -92,19 +49,7 @@ is-minimal-spec =
     (tie.spec
     Inv-loop
     μ-loop
-    mul-row
-    add-end
     loop-holds
-    mul-other
-    add-other-end
-    mul-strictly-contains
-    sub-strictly-contains
-    part-strictly-contains-start
-    part-strictly-contains-end
-    mul-strictly-contains-2
-    sub-strictly-contains-2
-    part-strictly-contains-start-2
-    part-strictly-contains-end-2
     strictly-contains-requires
     returns
     add-j

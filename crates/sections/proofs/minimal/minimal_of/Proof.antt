@@ -1,0 +1,64 @@
+use borrow.Author.Needs.{needs}
+use Rattle.sections.proofs.minimal.minimal_of.Statement.{statement}
+use Rattle.sections.proofs.minimal.minimal_of.Tie as tie
+
+abbrev Inv-loop : tie.InvT-loop
+Inv-loop table count size indices₀ n₀ i₀ indices n i = ?
+
+abbrev μ-loop : tie.MeasureT-loop
+μ-loop table count size indices₀ n₀ i₀ indices n i = ?
+
+loop-holds : tie.Need-loop-holds Inv-loop μ-loop
+loop-holds c = ?
+
+is-minimal-requires : tie.Need-is-minimal-requires Inv-loop μ-loop
+is-minimal-requires c κs = search needs
+
+add-i : tie.Need-add-i Inv-loop μ-loop
+add-i c = search needs
+
+loop-less : tie.Need-loop-less Inv-loop μ-loop
+loop-less c = search needs
+
+loop-again : tie.Need-loop-again Inv-loop μ-loop
+loop-again c = ?
+
+cast-indices : tie.Need-cast-indices Inv-loop μ-loop
+cast-indices c = search needs
+
+array-write-indices : tie.Need-array-write-indices Inv-loop μ-loop
+array-write-indices c = search needs
+
+add-n : tie.Need-add-n Inv-loop μ-loop
+add-n c = search needs
+
+add-i-2 : tie.Need-add-i-2 Inv-loop μ-loop
+add-i-2 c = search needs
+
+loop-less-2 : tie.Need-loop-less-2 Inv-loop μ-loop
+loop-less-2 c = search needs
+
+loop-again-2 : tie.Need-loop-again-2 Inv-loop μ-loop
+loop-again-2 c = ?
+
+returns : tie.Need-returns Inv-loop μ-loop
+returns c = ?
+
+pub minimal-of-spec : {M : Type 1} → statement M
+minimal-of-spec =
+    tie.close
+    (tie.spec
+    Inv-loop
+    μ-loop
+    loop-holds
+    is-minimal-requires
+    add-i
+    loop-less
+    loop-again
+    cast-indices
+    array-write-indices
+    add-n
+    add-i-2
+    loop-less-2
+    loop-again-2
+    returns)
