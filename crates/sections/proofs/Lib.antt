@@ -3,3 +3,4 @@ pub mod Comparing
 pub mod LinesLeft
 pub mod RowTests
 pub mod RowLists
+pub mod Gathering

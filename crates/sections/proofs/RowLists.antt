@@ -65,3 +65,8 @@ module _ (size count : ℕ) (table : List ℕ) where
       → s ≡ contains (bagAt size table k) (bagAt size table j) → s ≡ false → above i j (bagAt size table k) ≡ false
   unfolding above
   not-above-second i j k e f g h = rw (← e, f, ← g, h)
+
+  -- the test for it, as it was found
+  pub least-as : (i : ℕ) {r b : Bool} → r ≡ not (any (strictlyContains (bagAt size table i)) bags) → r ≡ b → least i ≡ b
+  unfolding least
+  least-as i e f = sym e ∙ f

@@ -1,12 +1,19 @@
+use Prim.Native.Nat.{_-_}
+use native.Mathlib.Omega.{arith}
+use Rattle.laws.proofs.Tests.{not-true, not-false}
+use Rattle.model.specs.Lines.{minimal}
+use Rattle.sections.specs.Rows.{bagsIn}
+use Rattle.sections.proofs.Gathering.{Gathered, gather-start, gather-passes, gather-fails, gathered}
+use Rattle.sections.proofs.RowLists.{least, minimal-rows, least-as}
 use borrow.Author.Needs.{needs}
 use Rattle.sections.proofs.minimal.minimal_of.Statement.{statement}
 use Rattle.sections.proofs.minimal.minimal_of.Tie as tie
 
 abbrev Inv-loop : tie.InvT-loop
-Inv-loop table count size indices₀ n₀ i₀ indices n i = ?
+Inv-loop table count size indices₀ n₀ i₀ indices n i = Gathered (least size count table) count (minimal (bagsIn size count table)) indices n i
 
 abbrev μ-loop : tie.MeasureT-loop
-μ-loop table count size indices₀ n₀ i₀ indices n i = ?
+μ-loop table count size indices₀ n₀ i₀ indices n i = count - i
 
 loop-holds : tie.Need-loop-holds Inv-loop μ-loop
 loop-holds c = ?
