@@ -47,3 +47,6 @@ module _ {test : ℕ → Bool} {size : ℕ} {all : List ℕ} where
   pub gathered : {array : List ℕ} {n i : ℕ} → Gathered test size all array n i → size ≤ i → take n array ≡ all
   gathered {array} {n} {i} g h =
       sym (append-nil (take n array)) ∙ ap (λ (l : List ℕ). take n array ++ l) (sym (kept-none test i size h)) ∙ g .whole
+
+  pub gathered-count : {array : List ℕ} {n i : ℕ} → Gathered test size all array n i → size ≤ 64 → size ≤ i → n ≡ length all
+  gathered-count {array} {n} g m h = sym (length-take-le n array (omega arith)) ∙ ap length (gathered g h)

@@ -1,13 +1,14 @@
 -- The lines of a section that are left to be written.
-use Prim.Native.Nat.{ℕ, zero, suc, _+_, _≤_, _<_}
+use Prim.Native.Nat.{ℕ, zero, suc, _+_, _-_, _≤_, _<_}
 use mathlib.Core.Path.{_≡_, refl, sym, ap, _∙_}
 use mathlib.Core.Bool.{Bool, true, false}
 use mathlib.Core.List.{List, [], _∷_, _++_, map, flatMap}
 use native.Mathlib.Numerals.{add-one}
 use borrow.Author.Tests.{ltb-true}
 use lib.Dec.{ltb}
-use lib.ListN.{length, drop, getD, drop-of-length-le}
-use lib.Seq.{drop-cons}
+use lib.ListN.{length, take, drop, getD, drop-of-length-le, length-drop}
+use lib.Seq.{drop-cons, take-all}
+use native.Mathlib.Omega.{arith}
 use Rattle.laws.specs.Bags.{Bag}
 use Rattle.laws.specs.Lists.{all, keep}
 use Rattle.laws.proofs.Lists.{all-at, mem-getD, flatMap-append}
@@ -83,14 +84,18 @@ module _ (bags : List Bag) (i : ℕ) (later : List ℕ) where
   unfolding exclusionsFrom keep
   exclusions-end k h = rw (drop-of-length-le later h) no-lines
 
+-- a list that is lent from a place on
+pub lent-from : (l : List ℕ) (k : ℕ) → drop k l ≡ take (length l - k) (drop k l)
+lent-from l k = sym (take-all (length l - k) (drop k l) (omega (arith, length-drop k l)))
+
 -- X lines of a list of indices, from a place on: those of the index there, with the later ones, and the others
 module _ (bags : List Bag) (indices : List ℕ) where
   pub pairs-next : (k : ℕ) → k < length indices
       → Begins (text (exclusions bags (drop k indices)))
-        (text (map (exclusion (getD indices k 0)) (keep (excluded bags (getD indices k 0)) (drop (k + 1) indices))))
+        (text (map (exclusion (getD indices k 0)) (keep (excluded bags (getD indices k 0)) (take (length indices - (k + 1)) (drop (k + 1) indices)))))
         (text (exclusions bags (drop (k + 1) indices)))
   unfolding exclusions text
-  pairs-next k h = record { path = rw (drop-cons indices k 0 h, add-one k) (flatMap-append lineText _ _) }
+  pairs-next k h = record { path = rw (← lent-from indices (k + 1), drop-cons indices k 0 h, add-one k) (flatMap-append lineText _ _) }
 
   pub pairs-end : (k : ℕ) → length indices ≤ k → text (exclusions bags (drop k indices)) ≡ []
   unfolding exclusions
@@ -100,9 +105,12 @@ module _ (bags : List Bag) (indices : List ℕ) where
 pub index-below : (bound : ℕ) (l : List ℕ) (k : ℕ) → all (λ i. ltb i bound) l ≡ true → k < length l → getD l k 0 < bound
 index-below bound l k h e = ltb-true _ _ (all-at (λ i. ltb i bound) l h (getD l k 0) (mem-getD l k 0 e))
 
--- and so are those of a part of it
-pub all-drop : (test : ℕ → Bool) (l : List ℕ) (k : ℕ) → all test l ≡ true → all test (drop k l) ≡ true
+-- and so are those that are lent of it
+all-drop : (test : ℕ → Bool) (l : List ℕ) (k : ℕ) → all test l ≡ true → all test (drop k l) ≡ true
 unfolding all
 all-drop test l zero h = h
 all-drop test [] (suc k) h = h
 all-drop test (x ∷ l) (suc k) h = all-drop test l k (and-right (test x) (all test l) h)
+
+pub all-lent : (test : ℕ → Bool) (l : List ℕ) (k : ℕ) → all test l ≡ true → all test (take (length l - k) (drop k l)) ≡ true
+all-lent test l k h = rw (← lent-from l k) (all-drop test l k h)

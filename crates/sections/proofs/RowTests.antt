@@ -17,17 +17,19 @@ module _ (test : Bag → Bool) (size count : ℕ) (table : List ℕ) where
   pub tests-start : Decides 0
   tests-start = ap (any test) (sym (rows-start size count table))
 
-  first-decides : (i : ℕ) {b : Bool} → i < count → test (bagAt size table i) ≡ b
+  first-decides : (i : ℕ) {r b : Bool} → i < count → r ≡ test (bagAt size table i) → r ≡ b
       → any test (bagsFrom size count table i) ≡ (b || any test (bagsFrom size count table (i + 1)))
   unfolding any
-  first-decides i h e = ap (any test) (rows-next size count table i h) ∙ ap (λ (b : Bool). b || any test (bagsFrom size count table (i + 1))) e
+  first-decides i h e f =
+      ap (any test) (rows-next size count table i h) ∙ ap (λ (b : Bool). b || any test (bagsFrom size count table (i + 1))) (sym e ∙ f)
 
   -- a row that passes decides, another leaves it to those behind it
-  pub one-passes : (i : ℕ) → i < count → test (bagAt size table i) ≡ true → Decides i → false ≡ not (any test (bagsIn size count table))
-  one-passes i h e d = ap not (sym (first-decides i h e) ∙ d)
+  pub one-passes : (i : ℕ) {r : Bool} → i < count → r ≡ test (bagAt size table i) → r ≡ true → Decides i
+      → false ≡ not (any test (bagsIn size count table))
+  one-passes i h e f d = ap not (sym (first-decides i h e f) ∙ d)
 
-  pub row-fails : (i : ℕ) → i < count → test (bagAt size table i) ≡ false → Decides i → Decides (i + 1)
-  row-fails i h e d = sym (first-decides i h e) ∙ d
+  pub row-fails : (i : ℕ) {r : Bool} → i < count → r ≡ test (bagAt size table i) → r ≡ false → Decides i → Decides (i + 1)
+  row-fails i h e f d = sym (first-decides i h e f) ∙ d
 
   -- after the last none has passed
   pub none-passes : (i : ℕ) → count ≤ i → Decides i → true ≡ not (any test (bagsIn size count table))

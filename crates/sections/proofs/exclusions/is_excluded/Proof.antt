@@ -1,5 +1,5 @@
 use Prim.Native.Nat.{_-_, _≤_}
-use mathlib.Core.Path.{sym, _∙_}
+use mathlib.Core.Path.{refl, sym, _∙_}
 use native.Mathlib.Omega.{arith}
 use Rattle.laws.proofs.Tests.{not-true, not-false}
 use Rattle.sections.proofs.Rows.{has-row}
@@ -32,7 +32,7 @@ loop-again : tie.Need-loop-again Inv-loop μ-loop
 loop-again c =
     let l = c .before .before .before .loop in (
       row-fails _ _ _ _ (l .k) (c .before .before .loop-test .taken)
-      (not-above-first _ _ _ _ _ _ (c .before .contains .ensures) (not-true _ (c .if1 .taken))) (l .inv .0),
+      refl (not-above-first _ _ _ _ _ _ (c .before .contains .ensures) (not-true _ (c .if1 .taken))) (l .inv .0),
       search needs,
     )
 
@@ -45,7 +45,7 @@ returns c =
     let l = c .before .before .before .before .before .loop in
     let h = c .before .before .before .before .before .before .before .pre in
     one-passes _ _ _ _ (l .k) (c .before .before .before .before .loop-test .taken)
-    (above-both _ _ _ _ _ _ (c .before .before .before .contains .ensures) (not-false _ (c .before .before .if1 .left)) (c .before .contains2 .ensures) (c .if2 .taken)) (l .inv .0)
+    refl (above-both _ _ _ _ _ _ (c .before .before .before .contains .ensures) (not-false _ (c .before .before .if1 .left)) (c .before .contains2 .ensures) (c .if2 .taken)) (l .inv .0)
     ∙ sym (excluded-rows _ _ _ _ _ (h .1) (h .2))
 
 add-k-2 : tie.Need-add-k-2 Inv-loop μ-loop
@@ -58,7 +58,7 @@ loop-again-2 : tie.Need-loop-again-2 Inv-loop μ-loop
 loop-again-2 c =
     let l = c .before .before .before .before .before .loop in (
       row-fails _ _ _ _ (l .k) (c .before .before .before .before .loop-test .taken)
-      (not-above-second _ _ _ _ _ _ (c .before .before .before .contains .ensures) (not-false _ (c .before .before .if1 .left)) (c .before .contains2 .ensures) (c .if2 .left)) (l .inv .0),
+      refl (not-above-second _ _ _ _ _ _ (c .before .before .before .contains .ensures) (not-false _ (c .before .before .if1 .left)) (c .before .contains2 .ensures) (c .if2 .left)) (l .inv .0),
       search needs,
     )
 

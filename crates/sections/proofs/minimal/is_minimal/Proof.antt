@@ -1,5 +1,4 @@
 use Prim.Native.Nat.{_-_, _≤_}
-use mathlib.Core.Path.{sym, _∙_}
 use native.Mathlib.Omega.{arith}
 use Rattle.laws.specs.Bags.{strictlyContains}
 use Rattle.sections.specs.Rows.{bagAt}
@@ -25,7 +24,7 @@ strictly-contains-requires c κs =
 returns : tie.Need-returns Inv-loop μ-loop
 returns c =
     let l = c .before .before .before .loop in
-    one-passes _ _ _ _ (l .j) (c .before .before .loop-test .taken) (sym (c .before .strictly-contains .ensures) ∙ c .if1 .taken) (l .inv .0)
+    one-passes _ _ _ _ (l .j) (c .before .before .loop-test .taken) (c .before .strictly-contains .ensures) (c .if1 .taken) (l .inv .0)
 
 add-j : tie.Need-add-j Inv-loop μ-loop
 add-j c = search needs
@@ -36,7 +35,7 @@ loop-less c = search needs
 loop-again : tie.Need-loop-again Inv-loop μ-loop
 loop-again c =
     let l = c .before .before .before .loop in (
-      row-fails _ _ _ _ (l .j) (c .before .before .loop-test .taken) (sym (c .before .strictly-contains .ensures) ∙ c .if1 .left) (l .inv .0),
+      row-fails _ _ _ _ (l .j) (c .before .before .loop-test .taken) (c .before .strictly-contains .ensures) (c .if1 .left) (l .inv .0),
       search needs,
     )
 

@@ -1,9 +1,10 @@
 use Prim.Native.Nat.{_-_}
+use mathlib.Core.Path.{refl}
 use native.Mathlib.Omega.{arith}
 use Rattle.laws.proofs.Tests.{not-true, not-false}
 use Rattle.model.specs.Lines.{minimal}
 use Rattle.sections.specs.Rows.{bagsIn}
-use Rattle.sections.proofs.Gathering.{Gathered, gather-start, gather-passes, gather-fails, gathered}
+use Rattle.sections.proofs.Gathering.{Gathered, gather-start, gather-passes, gather-fails, gathered, gathered-count}
 use Rattle.sections.proofs.RowLists.{least, minimal-rows, least-as}
 use borrow.Author.Needs.{needs}
 use Rattle.sections.proofs.minimal.minimal_of.Statement.{statement}
@@ -16,10 +17,10 @@ abbrev μ-loop : tie.MeasureT-loop
 μ-loop table count size indices₀ n₀ i₀ indices n i = count - i
 
 loop-holds : tie.Need-loop-holds Inv-loop μ-loop
-loop-holds c = ?
+loop-holds c = gather-start _ (minimal-rows _ _ _) refl
 
 is-minimal-requires : tie.Need-is-minimal-requires Inv-loop μ-loop
-is-minimal-requires c κs = search needs
+is-minimal-requires c κs = (c .before .before .before .pre .0, c .loop-test .taken)
 
 add-i : tie.Need-add-i Inv-loop μ-loop
 add-i c = search needs
@@ -28,7 +29,8 @@ loop-less : tie.Need-loop-less Inv-loop μ-loop
 loop-less c = search needs
 
 loop-again : tie.Need-loop-again Inv-loop μ-loop
-loop-again c = ?
+loop-again c =
+    gather-fails (c .before .before .before .loop .inv) (c .before .before .loop-test .taken) (least-as _ _ _ _ (c .before .is-minimal .ensures) (not-true _ (c .if1 .taken)))
 
 cast-indices : tie.Need-cast-indices Inv-loop μ-loop
 cast-indices c = search needs
@@ -46,10 +48,14 @@ loop-less-2 : tie.Need-loop-less-2 Inv-loop μ-loop
 loop-less-2 c = search needs
 
 loop-again-2 : tie.Need-loop-again-2 Inv-loop μ-loop
-loop-again-2 c = ?
+loop-again-2 c =
+    gather-passes (c .before .before .before .loop .inv) (c .before .before .loop-test .taken) (c .before .before .before .before .before .pre .1)
+    (least-as _ _ _ _ (c .before .is-minimal .ensures) (not-false _ (c .if1 .left)))
 
 returns : tie.Need-returns Inv-loop μ-loop
-returns c = ?
+returns c =
+    let g = c .before .loop .inv in
+    record { count = gathered-count g (c .before .before .before .pre .1) (c .loop-test .left); indices = gathered g (c .loop-test .left) }
 
 pub minimal-of-spec : {M : Type 1} → statement M
 minimal-of-spec =
