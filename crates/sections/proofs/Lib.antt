@@ -4,3 +4,5 @@ pub mod LinesLeft
 pub mod RowTests
 pub mod RowLists
 pub mod Gathering
+pub mod Columns
+pub mod LimitLines

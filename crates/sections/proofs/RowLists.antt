@@ -12,7 +12,7 @@ use Rattle.model.specs.Lines.{minimal, excluded}
 use Rattle.sections.specs.Rows.{bagAt, bagsIn}
 
 -- tests that agree keep the same
-keep-ext : {A : Type 0} (f g : A → Bool) (xs : List A) → ((x : A) → List·Memᴰ x xs → f x ≡ g x) → keep f xs ≡ keep g xs
+pub keep-ext : {A : Type 0} (f g : A → Bool) (xs : List A) → ((x : A) → List·Memᴰ x xs → f x ≡ g x) → keep f xs ≡ keep g xs
 unfolding keep
 keep-ext f g [] h = refl
 keep-ext f g (x ∷ xs) h = rw (h x (List·Memᴰ·head refl), keep-ext f g xs (λ y m. h y (List·Memᴰ·tail m)))

@@ -2,5 +2,6 @@
 // Document 01, "Listing".
 mod bags;
 pub mod exclusions;
+pub mod limits;
 pub mod minimal;
 pub mod states;
