@@ -6,3 +6,4 @@ pub mod RowLists
 pub mod Gathering
 pub mod Columns
 pub mod LimitLines
+pub mod RowTables
