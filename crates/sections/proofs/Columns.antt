@@ -1,23 +1,20 @@
 -- Columns of a table: the counts of one property, and where a property's column is.
-use Prim.Native.Nat.{ℕ, zero, suc, _+_, _-_, _*_, _≤_, _<_, max}
-use native.Mathlib.Numerals.{add-one}
+use Prim.Native.Nat.{ℕ, _+_, _*_, _≤_, _<_, max}
 use native.Mathlib.Omega.{arith}
-use mathlib.Core.Path.{_≡_, refl, sym, ap, subst, _∙_}
-use mathlib.Core.Bool.{Bool, true, false, cond}
-use mathlib.Core.List.{List, [], _∷_, _++_, map, flatMap, append-assoc, map-map}
-use borrow.Author.Tests.{eq-eqb, ne-eqb, le-leb, lt-leb}
-use lib.Dec.{eqb, leb}
+use mathlib.Core.Path.{_≡_, refl, sym, ap, _∙_}
+use mathlib.Core.Bool.{Bool, true, false}
+use mathlib.Core.List.{List, [], _∷_, _++_, map, append-assoc, map-map}
+use borrow.Author.Tests.{eq-eqb, ne-eqb}
 use lib.ListN.{length, getD, length-append}
 use Rattle.laws.specs.Bags.{Bag}
 use Rattle.laws.specs.Lists.{keep, upTo}
 use Rattle.laws.proofs.Counting.{map-ext}
 use Rattle.laws.proofs.Lists.{upTo-at}
-use Rattle.laws.proofs.Walks.{left, left-all, left-one, left-none, kept-all, kept-passes, kept-fails, kept-none}
-use Rattle.model.specs.Lines.{Line, limit, largest, countOf}
-use Rattle.model.specs.Text.{lineText, text}
+use Rattle.laws.proofs.Walks.{left, left-all, left-one, left-none, kept-all, kept-passes, kept-fails}
+use Rattle.model.specs.Lines.{largest, countOf}
 use Rattle.rules.specs.Tables.{stride}
-use Rattle.sections.specs.Limits.{limitsBy, columnOf}
-use Rattle.sections.specs.Rows.{bagAt, bagsIn, HasRow, HasRows}
+use Rattle.sections.specs.Limits.{columnOf}
+use Rattle.sections.specs.Rows.{bagAt, bagsIn, HasRows}
 use Rattle.sections.proofs.Rows.{has-row, getD-bagAt}
 use Rattle.text.proofs.MaskMembers.{Below}
 
@@ -88,7 +85,7 @@ module _ {test : ℕ → Bool} {size : ℕ} {properties : List ℕ} where
           splits = splits-at e ∙ sym (append-assoc (p .passed) (c ∷ []) _);
           columns = omega (arith, p .columns, length-append (p .passed) (c ∷ []));
           lower = lower-one c (p .passed) (p .lower);
-          within = omega arith
+          within = omega arith;
         }
 
     pub passed-other : test c ≡ false → Passed test size properties (c + 1) column
@@ -98,7 +95,7 @@ module _ {test : ℕ → Bool} {size : ℕ} {properties : List ℕ} where
           splits = p .splits ∙ ap (λ (l : List ℕ). p .passed ++ l) (kept-fails test c size h e);
           columns = p .columns;
           lower = lower-later c (p .passed) (p .lower);
-          within = omega arith
+          within = omega arith;
         }
 
     -- its column is one of the space's
@@ -122,4 +119,4 @@ largest-column properties c size count column table h inside counts-are =
     ap largest
     (map-map (countOf properties c) (bagAt size table) (upTo count)
     ∙ map-ext _ _ (upTo count)
-      (λ i m. counts-are (bagAt size table i) ∙ getD-bagAt (has-row size count table h i (upTo-at count i m)) column inside))
+    (λ i m. counts-are (bagAt size table i) ∙ getD-bagAt (has-row size count table h i (upTo-at count i m)) column inside))

@@ -1,10 +1,10 @@
 -- Numbers below a size that pass a test, gathered in an array.
-use Prim.Native.Nat.{ℕ, suc, _+_, _≤_, _<_}
+use Prim.Native.Nat.{ℕ, _+_, _≤_, _<_}
 use native.Mathlib.Numerals.{add-one}
 use native.Mathlib.Omega.{arith}
-use mathlib.Core.Path.{_≡_, refl, sym, ap, _∙_}
+use mathlib.Core.Path.{_≡_, sym, ap, _∙_}
 use mathlib.Core.Bool.{Bool, true, false}
-use mathlib.Core.List.{List, [], _∷_, _++_, append-nil}
+use mathlib.Core.List.{List, _++_, append-nil}
 use lib.ListN.{length, take, set, length-set}
 use lib.Seq.{take-suc-set, append-snoc, length-take-le}
 use Rattle.laws.specs.Lists.{keep, upTo}
@@ -30,7 +30,7 @@ module _ {test : ℕ → Bool} {size : ℕ} {all : List ℕ} where
           whole = rw (add-one n, take-suc-set array n i (omega (arith, g .long)), append-snoc, ← kept-passes test i size h e) (g .whole);
           few = omega arith;
           within = omega arith;
-          long = length-set array n i ∙ g .long
+          long = length-set array n i ∙ g .long;
         }
 
     -- another is not
@@ -40,7 +40,7 @@ module _ {test : ℕ → Bool} {size : ℕ} {all : List ℕ} where
           whole = ap (λ (l : List ℕ). take n array ++ l) (sym (kept-fails test i size h e)) ∙ g .whole;
           few = omega arith;
           within = omega arith;
-          long = g .long
+          long = g .long;
         }
 
   -- at the end all

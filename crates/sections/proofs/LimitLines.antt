@@ -1,5 +1,5 @@
 -- M lines of a space, property by property.
-use Prim.Native.Nat.{ℕ, zero, suc, _+_, _≤_, _<_}
+use Prim.Native.Nat.{ℕ, _+_, _≤_, _<_}
 use native.Mathlib.Omega.{arith}
 use mathlib.Core.Path.{_≡_, refl, sym, ap, _∙_}
 use mathlib.Core.Bool.{Bool, true, false, cond}
@@ -96,13 +96,13 @@ module _ (test : ℕ → Bool) (size : ℕ) (arities properties : List ℕ) (cou
 
   pub limit-at : {c column : ℕ} → HasRows (length properties) count table → Passed test size properties c column → c < size → test c ≡ true
       → Begins (limitsFrom c) (cond (leb 2 (getD arities c 0)) (lineText (limit c (largest (columnOf table count column)))) [])
-        (limitsFrom (c + 1))
+      (limitsFrom (c + 1))
   limit-at {c} {column} rows p h e =
       record {
         path =
-          ap (limitsOf arities properties (bagsIn (length properties) count table)) (kept-passes test c size h e)
-          ∙ limits-next arities properties _ c _
-            (largest-column properties c (length properties) count column table rows (column-inside p h e) (column-counts p h e)) .path
+            ap (limitsOf arities properties (bagsIn (length properties) count table)) (kept-passes test c size h e)
+            ∙ limits-next arities properties _ c _
+            (largest-column properties c (length properties) count column table rows (column-inside p h e) (column-counts p h e)) .path;
       }
 
   pub limit-skipped : (c : ℕ) → c < size → test c ≡ false → limitsFrom c ≡ limitsFrom (c + 1)

@@ -2,7 +2,7 @@
 use Prim.Native.Nat.{ℕ, zero, suc, _+_, _-_, _≤_, _<_}
 use mathlib.Core.Path.{_≡_, refl, sym, ap, _∙_}
 use mathlib.Core.Bool.{Bool, true, false}
-use mathlib.Core.List.{List, [], _∷_, _++_, map, flatMap}
+use mathlib.Core.List.{List, [], _∷_, map, flatMap}
 use native.Mathlib.Numerals.{add-one}
 use borrow.Author.Tests.{ltb-true}
 use lib.Dec.{ltb}
@@ -15,7 +15,7 @@ use Rattle.laws.proofs.Lists.{all-at, mem-getD, flatMap-append}
 use Rattle.laws.proofs.Tests.{and-right}
 use Rattle.model.specs.Lines.{Line, state, membership, exclusion, exclusions, excluded}
 use Rattle.model.specs.Text.{lineText, text}
-use Rattle.sections.specs.Rows.{bagAt, bagsIn}
+use Rattle.sections.specs.Rows.{bagsIn}
 use Rattle.sections.proofs.Rows.{bagsFrom, rows-start, rows-next, rows-end, lent, row-lent}
 use Rattle.text.proofs.Writing.{Begins}
 
@@ -35,7 +35,7 @@ module _ (size count : ℕ) (table : List ℕ) where
 
   pub states-next : (i : ℕ) → i < count
       → Begins (text (map state (bagsFrom size count table i))) (lineText (state (lent size table i)))
-        (text (map state (bagsFrom size count table (i + 1))))
+      (text (map state (bagsFrom size count table (i + 1))))
   states-next i h = rw (rows-next size count table i h, row-lent size i table) (first-line _ _)
 
   pub states-end : (i : ℕ) → count ≤ i → text (map state (bagsFrom size count table i)) ≡ []
@@ -92,8 +92,8 @@ lent-from l k = sym (take-all (length l - k) (drop k l) (omega (arith, length-dr
 module _ (bags : List Bag) (indices : List ℕ) where
   pub pairs-next : (k : ℕ) → k < length indices
       → Begins (text (exclusions bags (drop k indices)))
-        (text (map (exclusion (getD indices k 0)) (keep (excluded bags (getD indices k 0)) (take (length indices - (k + 1)) (drop (k + 1) indices)))))
-        (text (exclusions bags (drop (k + 1) indices)))
+      (text (map (exclusion (getD indices k 0)) (keep (excluded bags (getD indices k 0)) (take (length indices - (k + 1)) (drop (k + 1) indices)))))
+      (text (exclusions bags (drop (k + 1) indices)))
   unfolding exclusions text
   pairs-next k h = record { path = rw (← lent-from indices (k + 1), drop-cons indices k 0 h, add-one k) (flatMap-append lineText _ _) }
 

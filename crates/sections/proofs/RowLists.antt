@@ -1,8 +1,8 @@
 -- What the listing's definitions say of the bags of a table.
 use Prim.Native.Nat.{ℕ, _<_}
 use mathlib.Core.Path.{_≡_, refl, sym, ap, ap₂, _∙_}
-use mathlib.Core.Bool.{Bool, true, false, cond, _&&_, not}
-use mathlib.Core.List.{List, [], _∷_, map, List·Memᴰ, List·Memᴰ·head, List·Memᴰ·tail}
+use mathlib.Core.Bool.{Bool, true, false, _&&_, not}
+use mathlib.Core.List.{List, [], _∷_, List·Memᴰ, List·Memᴰ·head, List·Memᴰ·tail}
 use lib.ListN.{length, getD, length-map}
 use Rattle.laws.specs.Bags.{Bag, contains, strictlyContains}
 use Rattle.laws.specs.Lists.{any, keep, upTo}
@@ -40,7 +40,7 @@ module _ (size count : ℕ) (table : List ℕ) where
   minimal-rows =
       ap (λ (n : ℕ). keep (λ i. not (any (strictlyContains (getD bags i [])) bags)) (upTo n)) length-bagsIn
       ∙ keep-ext _ _ (upTo count)
-        (λ i m. ap (λ (b : Bag). not (any (strictlyContains b) bags)) (getD-bagsIn i (upTo-at count i m)))
+      (λ i m. ap (λ (b : Bag). not (any (strictlyContains b) bags)) (getD-bagsIn i (upTo-at count i m)))
 
   -- a bag contains those of both rows
   unfoldable pub above : ℕ → ℕ → Bag → Bool

@@ -2,7 +2,7 @@
 use Prim.Native.Nat.{ℕ, zero, suc, _+_, _-_, _*_, _≤_}
 use native.Mathlib.Nat.{mul-suc, add-comm}
 use native.Mathlib.Omega.{arith}
-use mathlib.Core.Path.{_≡_, refl, sym, ap, ap₂, subst, _∙_}
+use mathlib.Core.Path.{_≡_, refl, sym, ap, ap₂, _∙_}
 use mathlib.Core.List.{List, [], _∷_, _++_, map, flatMap, append-assoc, List·Memᴰ, List·Memᴰ·head, List·Memᴰ·tail}
 use lib.ListN.{length, take, drop, replicate, length-append, length-replicate}
 use lib.Seq.{take-at, drop-append-add}
@@ -46,6 +46,6 @@ bags-of-rows size (b ∷ bags) rest h sized =
     let e = sized b (List·Memᴰ·head refl) in
     ap (λ (table : List ℕ). map (bagAt size table) (upTo (suc (length bags)))) (append-assoc (row b) (rows bags) rest)
     ∙ ap₂ _∷_ (first-row size b (rows bags ++ rest) e)
-      (map-later (bagAt size (row b ++ (rows bags ++ rest))) (bagAt size (rows bags ++ rest))
-        (λ i. later-row size b (rows bags ++ rest) i (omega arith)) 0 (length bags)
-      ∙ bags-of-rows size bags rest h (λ c m. sized c (List·Memᴰ·tail m)))
+    (map-later (bagAt size (row b ++ (rows bags ++ rest))) (bagAt size (rows bags ++ rest))
+    (λ i. later-row size b (rows bags ++ rest) i (omega arith)) 0 (length bags)
+    ∙ bags-of-rows size bags rest h (λ c m. sized c (List·Memᴰ·tail m)))

@@ -1,8 +1,8 @@
 -- A test of the bags of a table, row by row up to the first that passes.
 use Prim.Native.Nat.{ℕ, _+_, _≤_, _<_}
-use mathlib.Core.Path.{_≡_, refl, sym, ap, _∙_}
-use mathlib.Core.Bool.{Bool, true, false, _&&_, _||_, not}
-use mathlib.Core.List.{List, [], _∷_}
+use mathlib.Core.Path.{_≡_, sym, ap, _∙_}
+use mathlib.Core.Bool.{Bool, true, false, _||_, not}
+use mathlib.Core.List.{List}
 use Rattle.laws.specs.Bags.{Bag}
 use Rattle.laws.specs.Lists.{any}
 use Rattle.sections.specs.Rows.{bagAt, bagsIn}

@@ -30,24 +30,27 @@ fn is_excluded(table: &[u16], count: usize, size: usize, i: usize, j: usize) -> 
 }
 
 // The `X` lines of one index with later ones.
-fn write_exclusions_of(out: &mut [u8], table: &[u16], count: usize, size: usize, i: usize, later: &[u8]) -> usize
-    requires {
-        ⌜
-            HasRows size count (now table)
-            × (i < count)
-            × (all (λ j. ltb j count) (now later) ≡ true)
-            × Room (text (map (exclusion i) (keep (excluded (bagsIn size count (now table)) i) (now later)))) (now out)
-        ⌝
-    }
-    ensures {
-        λ r. ⌜
-            Writes
-                (text (map (exclusion i) (keep (excluded (bagsIn size count (now (table .entry))) i) (now (later .entry)))))
-                (now (out .entry))
-                (now (out .exit))
-                r
-        ⌝
-    }
+fn write_exclusions_of(
+    out: &mut [u8],
+    table: &[u16],
+    count: usize,
+    size: usize,
+    i: usize,
+    later: &[u8],
+) -> usize
+    requires { ⌜
+        HasRows size count (now table)
+        × (i < count)
+        × (all (λ j. ltb j count) (now later) ≡ true)
+        × Room (text (map (exclusion i) (keep (excluded (bagsIn size count (now table)) i) (now later)))) (now out)
+        ⌝ }
+    ensures { λ r. ⌜
+        Writes
+        (text (map (exclusion i) (keep (excluded (bagsIn size count (now (table .entry))) i) (now (later .entry)))))
+        (now (out .entry))
+        (now (out .exit))
+        r
+        ⌝ }
 {
     let mut at = 0;
     let mut k = 0;
@@ -64,23 +67,25 @@ fn write_exclusions_of(out: &mut [u8], table: &[u16], count: usize, size: usize,
 }
 
 // The `X` lines of some indices, ascending.
-pub fn write_exclusions(out: &mut [u8], table: &[u16], count: usize, size: usize, indices: &[u8]) -> usize
-    requires {
-        ⌜
-            HasRows size count (now table)
-            × (all (λ i. ltb i count) (now indices) ≡ true)
-            × Room (text (exclusions (bagsIn size count (now table)) (now indices))) (now out)
-        ⌝
-    }
-    ensures {
-        λ r. ⌜
-            Writes
-                (text (exclusions (bagsIn size count (now (table .entry))) (now (indices .entry))))
-                (now (out .entry))
-                (now (out .exit))
-                r
-        ⌝
-    }
+pub fn write_exclusions(
+    out: &mut [u8],
+    table: &[u16],
+    count: usize,
+    size: usize,
+    indices: &[u8],
+) -> usize
+    requires { ⌜
+        HasRows size count (now table)
+        × (all (λ i. ltb i count) (now indices) ≡ true)
+        × Room (text (exclusions (bagsIn size count (now table)) (now indices))) (now out)
+        ⌝ }
+    ensures { λ r. ⌜
+        Writes
+        (text (exclusions (bagsIn size count (now (table .entry))) (now (indices .entry))))
+        (now (out .entry))
+        (now (out .exit))
+        r
+        ⌝ }
 {
     let mut at = 0;
     let mut k = 0;

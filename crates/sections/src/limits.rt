@@ -36,23 +36,26 @@ fn largest_in(table: &[u16], count: usize, column: usize) -> u16
 }
 
 // The `M` line of a property whose counts stand in a column, if its arity is 2 or 3.
-fn write_limit_of(out: &mut [u8], c: usize, arity: u8, table: &[u16], count: usize, column: usize) -> usize
-    requires {
-        ⌜
-            (60 * count ≤ length (now table))
-            × (column < 60)
-            × Room (cond (leb 2 arity) (lineText (limit c (largest (columnOf (now table) count column)))) []) (now out)
-        ⌝
-    }
-    ensures {
-        λ r. ⌜
-            Writes
-                (cond (leb 2 arity) (lineText (limit c (largest (columnOf (now (table .entry)) count column)))) [])
-                (now (out .entry))
-                (now (out .exit))
-                r
-        ⌝
-    }
+fn write_limit_of(
+    out: &mut [u8],
+    c: usize,
+    arity: u8,
+    table: &[u16],
+    count: usize,
+    column: usize,
+) -> usize
+    requires { ⌜
+        (60 * count ≤ length (now table))
+        × (column < 60)
+        × Room (cond (leb 2 arity) (lineText (limit c (largest (columnOf (now table) count column)))) []) (now out)
+        ⌝ }
+    ensures { λ r. ⌜
+        Writes
+        (cond (leb 2 arity) (lineText (limit c (largest (columnOf (now (table .entry)) count column)))) [])
+        (now (out .entry))
+        (now (out .exit))
+        r
+        ⌝ }
 {
     if arity < 2 {
         return 0;
@@ -72,33 +75,29 @@ pub fn write_limits(
     lowest: u8,
     arities: &[u8],
 ) -> usize
-    requires {
-        ⌜
-            HasRows (length (propertiesOf (now groups) properties lowest)) count (now table)
-            × (properties ≤ length (now groups))
-            × (properties ≤ length (now arities))
-            × Room
-                (text
-                    (limitsBy
-                        (now arities)
-                        (propertiesOf (now groups) properties lowest)
-                        (bagsIn (length (propertiesOf (now groups) properties lowest)) count (now table))))
-                (now out)
-        ⌝
-    }
-    ensures {
-        λ r. ⌜
-            Writes
-                (text
-                    (limitsBy
-                        (now (arities .entry))
-                        (propertiesOf (now (groups .entry)) properties lowest)
-                        (bagsIn (length (propertiesOf (now (groups .entry)) properties lowest)) count (now (table .entry)))))
-                (now (out .entry))
-                (now (out .exit))
-                r
-        ⌝
-    }
+    requires { ⌜
+        HasRows (length (propertiesOf (now groups) properties lowest)) count (now table)
+        × (properties ≤ length (now groups))
+        × (properties ≤ length (now arities))
+        × Room
+        (text
+        (limitsBy
+        (now arities)
+        (propertiesOf (now groups) properties lowest)
+        (bagsIn (length (propertiesOf (now groups) properties lowest)) count (now table))))
+        (now out)
+        ⌝ }
+    ensures { λ r. ⌜
+        Writes
+        (text
+        (limitsBy
+        (now (arities .entry))
+        (propertiesOf (now (groups .entry)) properties lowest)
+        (bagsIn (length (propertiesOf (now (groups .entry)) properties lowest)) count (now (table .entry)))))
+        (now (out .entry))
+        (now (out .exit))
+        r
+        ⌝ }
 {
     if count == 0 {
         return 0;

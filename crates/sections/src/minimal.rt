@@ -23,11 +23,9 @@ pub struct Indices {
 // The condition of a row strictly contains none.
 fn is_minimal(table: &[u16], count: usize, size: usize, i: usize) -> bool
     requires { ⌜ HasRows size count (now table) × (i < count) ⌝ }
-    ensures {
-        λ r. ⌜
-            r ≡ not (any (strictlyContains (bagAt size (now (table .entry)) i)) (bagsIn size count (now (table .entry))))
-        ⌝
-    }
+    ensures { λ r. ⌜
+        r ≡ not (any (strictlyContains (bagAt size (now (table .entry)) i)) (bagsIn size count (now (table .entry))))
+        ⌝ }
 {
     for j in 0..count {
         if strictly_contains(table, size, i, j) {

@@ -1,6 +1,5 @@
 // The `T` lines.
 use text::lists::write_state;
-ghost use mathlib.Core.Path.{_≡_};
 ghost use mathlib.Core.List.{map};
 ghost use Rattle.model.specs.Lines.{state};
 ghost use Rattle.model.specs.Text.{text};
@@ -9,12 +8,8 @@ ghost use Rattle.text.specs.Room.{Room};
 ghost use Rattle.text.specs.Written.{Writes};
 
 pub fn write_states(out: &mut [u8], table: &[u16], count: usize, size: usize) -> usize
-    requires {
-        ⌜ HasRows size count (now table) × Room (text (map state (bagsIn size count (now table)))) (now out) ⌝
-    }
-    ensures {
-        λ r. ⌜ Writes (text (map state (bagsIn size count (now (table .entry))))) (now (out .entry)) (now (out .exit)) r ⌝
-    }
+    requires { ⌜ HasRows size count (now table) × Room (text (map state (bagsIn size count (now table)))) (now out) ⌝ }
+    ensures { λ r. ⌜ Writes (text (map state (bagsIn size count (now (table .entry))))) (now (out .entry)) (now (out .exit)) r ⌝ }
 {
     let mut at = 0;
     for i in 0..count {

@@ -1,14 +1,14 @@
 -- How long lines are, for whoever has to show that there is room.
-use Prim.Native.Nat.{ℕ, zero, suc, _+_, _*_, _≤_, _<_}
+use Prim.Native.Nat.{ℕ, suc, _+_, _*_, _≤_, _<_}
 use native.Mathlib.Nat.{mul-suc}
 use native.Mathlib.Omega.{arith}
-use mathlib.Core.Path.{_≡_, refl, sym, ap, _∙_}
-use mathlib.Core.List.{List, [], _∷_, _++_, map, flatMap, List·Memᴰ, List·Memᴰ·head, List·Memᴰ·tail}
+use mathlib.Core.Path.{_≡_, refl, ap, _∙_}
+use mathlib.Core.List.{List, [], _∷_, _++_, flatMap, List·Memᴰ, List·Memᴰ·head, List·Memᴰ·tail}
 use lib.ListN.{length, length-append}
 use Rattle.model.specs.Lines.{Line, space, state, limit, membership, exclusion, total, ceiling, types}
-use Rattle.model.specs.Text.{decimal, kindLetter, colon, items, spaced, lineText, text}
+use Rattle.model.specs.Text.{decimal, items, spaced, lineText, text}
 use Rattle.text.specs.declared.lists.Kind.{Kind}
-use Rattle.text.specs.Kinds.{kindSays, spaceFront}
+use Rattle.text.specs.Kinds.{kindSays}
 use Rattle.text.specs.Numbers.{numbers, lastNumbers}
 use Rattle.text.proofs.Decimal.{two-digits, five-digits}
 use Rattle.text.proofs.LineTexts.{one-number, two-numbers, state-parts, types-parts, head-parts, front-parts, space-parts, membership-end}
@@ -29,11 +29,12 @@ module _ (most bound : ℕ) (short : (n : ℕ) → n < bound → length (decimal
   unfolding numbers flatMap
   numbers-within [] h = omega arith
   numbers-within (n ∷ ns) h =
-      omega (arith,
+      omega (
+        arith,
         parts-length (first-number n ns),
         short n (h n (List·Memᴰ·head refl)),
         numbers-within ns (λ m k. h m (List·Memᴰ·tail k)),
-        mul-suc (suc most) (length ns)
+        mul-suc (suc most) (length ns),
       )
 
 -- numbers of two digits, as objects and properties have, and of five, as counts have
@@ -85,20 +86,22 @@ ceiling-length p n h k = omega (arith, pair-length 67 p n, two-digits p h, five-
 pub types-length : (schema parameter : ℕ) (objects : List ℕ) → schema < 100 → parameter < 100 → AllBelow 100 objects
     → length (lineText (types schema parameter objects)) ≤ 10 + 3 * length objects
 types-length schema parameter objects h k o =
-    omega (arith,
+    omega (
+      arith,
       parts-length (types-parts schema parameter objects),
       two-length 82 schema parameter,
       two-digits schema h,
       two-digits parameter k,
       last-numbers-length objects,
-      two-digit-numbers objects o
+      two-digit-numbers objects o,
     )
 
 -- S: eleven bytes and at most three for each property and member
 pub space-length : (n : ℕ) (kind : Kind) (properties members : List ℕ) → n < 100 → AllBelow 100 properties → AllBelow 100 members
     → length (lineText (space n (kindSays kind) properties members)) ≤ 11 + 3 * length properties + 3 * length members
 space-length n kind properties members h p m =
-    omega (arith,
+    omega (
+      arith,
       parts-length (space-parts n kind properties members),
       parts-length (front-parts n kind properties),
       parts-length (head-parts n kind),
@@ -106,7 +109,7 @@ space-length n kind properties members h p m =
       two-digits n h,
       two-digit-numbers properties p,
       last-numbers-length members,
-      two-digit-numbers members m
+      two-digit-numbers members m,
     )
 
 -- lines of at most so many bytes
@@ -115,9 +118,10 @@ pub text-length : (most : ℕ) (lines : List Line) → ((l : Line) → List·Mem
 unfolding text flatMap
 text-length most [] h = omega arith
 text-length most (l ∷ lines) h =
-    omega (arith,
+    omega (
+      arith,
       length-append (lineText l) (text lines),
       h l (List·Memᴰ·head refl),
       text-length most lines (λ m k. h m (List·Memᴰ·tail k)),
-      mul-suc most (length lines)
+      mul-suc most (length lines),
     )

@@ -1,6 +1,6 @@
 -- The text of a line, part by part.
 use Prim.Native.Nat.{ℕ}
-use mathlib.Core.Path.{_≡_, refl}
+use mathlib.Core.Path.{refl}
 use mathlib.Core.List.{List, [], _∷_, _++_, map, flatMap, append-nil, append-assoc}
 use Rattle.laws.proofs.Lists.{flatMap-append}
 use Rattle.model.specs.Lines.{space, state, membership, types}

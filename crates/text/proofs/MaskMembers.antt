@@ -2,9 +2,9 @@
 use Prim.Native.Nat.{ℕ, zero, suc, _+_, _*_, _-_, _/_, _%_, _^_, _≤_, _<_}
 use native.Mathlib.Nat.{mod-add-div', add-mul, mul-assoc, pow-succ', one-mul, mul-one, zero-mul, zero-add}
 use native.Mathlib.Omega.{arith}
-use mathlib.Core.Path.{_≡_, refl, sym, ap, ap₂, subst, _∙_}
+use mathlib.Core.Path.{_≡_, refl, sym, ap, ap₂, _∙_}
 use mathlib.Core.Bool.{Bool, true, false, cond}
-use mathlib.Core.List.{List, [], _∷_, map}
+use mathlib.Core.List.{List, [], _∷_}
 use borrow.Author.Tests.{eqb-true, eqb-false}
 use lib.Bits.{bitAnd}
 use lib.Count.{trailingZeros}
@@ -82,7 +82,7 @@ members-are m h =
       lowest = 0;
       ascend = places-ascend 64 0 m;
       below = places-below 64 0 m 64 (omega arith);
-      same = sym (places-mask 64 0 m h ∙ mul-one m)
+      same = sym (places-mask 64 0 m h ∙ mul-one m);
     }
 
 -- the first number of a list is the lowest member of its mask, and the others are those of the mask without it
@@ -95,7 +95,7 @@ others-are {m} {o} {os} r =
       lowest = suc o;
       ascend = r .ascend .1;
       below = r .below .1;
-      same = rw (r .same) (without-first (r .lowest) o os (r .ascend))
+      same = rw (r .same) (without-first (r .lowest) o os (r .ascend));
     }
 
 -- The lowest member of a mask, and those of the mask without it.
@@ -113,7 +113,7 @@ lowest-member {m} (o ∷ os) r some =
       others = os;
       first = ap (λ (x : ℕ). x ∷ os) (sym (first-is r));
       members = others-are r;
-      smaller = let one = pow-pos o in omega (arith, others-are r .same, r .same)
+      smaller = let one = pow-pos o in omega (arith, others-are r .same, r .same);
     }
 
 -- the mask 0 has no member

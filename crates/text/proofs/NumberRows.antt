@@ -1,5 +1,5 @@
 -- Numbers on a line, one after the other.
-use Prim.Native.Nat.{ℕ, suc, _+_, _-_, _^_, _≤_, _<_}
+use Prim.Native.Nat.{ℕ, _+_, _-_, _^_, _≤_, _<_}
 use mathlib.Core.Path.{_≡_, refl, sym, ap, subst, _∙_}
 use mathlib.Core.List.{List, [], _∷_, _++_, flatMap}
 use native.Mathlib.Numerals.{add-one}
@@ -91,7 +91,7 @@ module _ {all : List ℕ} {left : ℕ} {before now : List ℕ} {at : ℕ} (w : M
       record {
         objects = lowest .others;
         members = subst (λ (x : ℕ). Members x (lowest .others)) (sym f) (lowest .members);
-        remains = next (w .remains) (lowest-first e) v
+        remains = next (w .remains) (lowest-first e) v;
       }
 
   pub fewer : {rest : ℕ} → rest ≡ bitAnd left (left - 1) → rest < left

@@ -1,5 +1,5 @@
 -- Laws of writing: bytes written one after the other are written together.
-use Prim.Native.Nat.{ℕ, zero, suc, _+_, _-_, _≤_, _<_}
+use Prim.Native.Nat.{ℕ, suc, _+_, _-_, _≤_, _<_}
 use mathlib.Core.Path.{_≡_, refl, sym, ap, subst, _∙_}
 use mathlib.Core.List.{List, [], _∷_, _++_, append-assoc, append-nil}
 use native.Mathlib.Omega.{arith}
@@ -32,12 +32,16 @@ and-then {first} {second} {before} {mid} {part} {at} {n} w v = record { count = 
   where
     counted : at + n ≡ length (first ++ second)
     counted = simp length-append (omega (arith, w .count, v .count))
+
     lent : take (length mid - at) (drop at mid) ≡ drop at before
     lent = take-all (length mid - at) (drop at mid) (simp length-drop (omega arith)) ∙ rest w
+
     spent : drop (length mid - at) (drop at mid) ≡ []
     spent = drop-of-length-le (drop at mid) {i = length mid - at} (simp length-drop (omega arith))
+
     behind : part ≡ second ++ drop (length (first ++ second)) before
     behind = v .buffer ∙ rw (lent, drop-drop, ← v .count, ← counted)
+
     stands : take at mid ++ (part ++ drop (length mid - at) (drop at mid)) ≡ first ++ second ++ drop (length (first ++ second)) before
     stands = rw (front w, spent, behind) (simp (append-nil, append-assoc))
 
@@ -48,8 +52,10 @@ and-byte {bytes} {before} {mid} {at} w b room = record { count = counted; buffer
   where
     counted : at + 1 ≡ length (bytes ++ (b ∷ []))
     counted = simp length-append (omega (arith, w .count))
+
     further : drop (suc at) mid ≡ drop (suc at) before
     further = rw (← add-one at, ← drop-drop 1 at mid, ← drop-drop 1 at before, rest w)
+
     stands : set mid at b ≡ bytes ++ (b ∷ []) ++ drop (length (bytes ++ (b ∷ []))) before
     stands = set-split mid at b room ∙ rw (front w, ← counted, add-one, further) (simp append-assoc)
 
@@ -94,8 +100,8 @@ module _ {all rest before now bytes later : List ℕ} {at : ℕ} (r : Remains al
   next-fits =
       record {
         fits =
-          rw (take-all (length now - at) (drop at now) (simp length-drop (omega arith)))
-          (simp length-drop (omega (arith, sizes)))
+            rw (take-all (length now - at) (drop at now) (simp length-drop (omega arith)))
+            (simp length-drop (omega (arith, sizes)));
       }
 
   -- and when it is written there, less remains
@@ -109,7 +115,7 @@ module _ {all rest before now bytes later : List ℕ} {at : ℕ} (r : Remains al
         so-far = both;
         room = r .room;
         reached = omega (arith, w .count, sizes);
-        kept = as-long both (omega (arith, w .count, sizes))
+        kept = as-long both (omega (arith, w .count, sizes));
       }
 
 -- a text that begins with bytes has room for them
@@ -128,7 +134,7 @@ module _ {text bytes later before mid : List ℕ} {at : ℕ} (b : Begins text by
         so-far = w;
         room = room;
         reached = omega (arith, w .count);
-        kept = as-long w (omega (arith, w .count))
+        kept = as-long w (omega (arith, w .count));
       }
 
   all-later : Begins later later []

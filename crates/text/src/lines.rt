@@ -1,7 +1,6 @@
 // The lines with one or two numbers.
 use crate::numbers::write_byte;
 use crate::numbers::write_item;
-ghost use mathlib.Core.Path.{_≡_};
 ghost use mathlib.Core.List.{[], _∷_, _++_};
 ghost use Rattle.model.specs.Lines.{limit, membership, exclusion, total, ceiling};
 ghost use Rattle.model.specs.Text.{decimal, spaced, lineText};
@@ -21,9 +20,7 @@ pub fn write_one(out: &mut [u8], letter: u8, a: usize) -> usize
 // A letter and two numbers.
 pub fn write_two(out: &mut [u8], letter: u8, a: usize, b: usize) -> usize
     requires { ⌜ Room (spaced ((letter ∷ []) ∷ decimal a ∷ decimal b ∷ [])) (now out) ⌝ }
-    ensures {
-        λ r. ⌜ Writes (spaced ((letter ∷ []) ∷ decimal a ∷ decimal b ∷ [])) (now (out .entry)) (now (out .exit)) r ⌝
-    }
+    ensures { λ r. ⌜ Writes (spaced ((letter ∷ []) ∷ decimal a ∷ decimal b ∷ [])) (now (out .entry)) (now (out .exit)) r ⌝ }
 {
     let at = write_one(out, letter, a);
     let n = write_item(&mut out[at..], b);
@@ -33,9 +30,7 @@ pub fn write_two(out: &mut [u8], letter: u8, a: usize, b: usize) -> usize
 // A line of a letter and two numbers.
 fn write_pair(out: &mut [u8], letter: u8, a: usize, b: usize) -> usize
     requires { ⌜ Room (spaced ((letter ∷ []) ∷ decimal a ∷ decimal b ∷ []) ++ (10 ∷ [])) (now out) ⌝ }
-    ensures {
-        λ r. ⌜ Writes (spaced ((letter ∷ []) ∷ decimal a ∷ decimal b ∷ []) ++ (10 ∷ [])) (now (out .entry)) (now (out .exit)) r ⌝
-    }
+    ensures { λ r. ⌜ Writes (spaced ((letter ∷ []) ∷ decimal a ∷ decimal b ∷ []) ++ (10 ∷ [])) (now (out .entry)) (now (out .exit)) r ⌝ }
 {
     let at = write_two(out, letter, a, b);
     out[at] = 10;

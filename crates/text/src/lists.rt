@@ -83,12 +83,8 @@ fn write_space_head(out: &mut [u8], number: usize, kind: Kind) -> usize
 
 // The properties, of so many, whose group has this lowest property.
 pub fn write_properties(out: &mut [u8], groups: &[u8], size: usize, lowest: u8) -> usize
-    requires {
-        ⌜ (size ≤ length (now groups)) × Room (numbers (propertiesOf (now groups) size lowest)) (now out) ⌝
-    }
-    ensures {
-        λ r. ⌜ Writes (numbers (propertiesOf (now (groups .entry)) size lowest)) (now (out .entry)) (now (out .exit)) r ⌝
-    }
+    requires { ⌜ (size ≤ length (now groups)) × Room (numbers (propertiesOf (now groups) size lowest)) (now out) ⌝ }
+    ensures { λ r. ⌜ Writes (numbers (propertiesOf (now (groups .entry)) size lowest)) (now (out .entry)) (now (out .exit)) r ⌝ }
 {
     let mut at = 0;
     for c in 0..size {
@@ -102,19 +98,22 @@ pub fn write_properties(out: &mut [u8], groups: &[u8], size: usize, lowest: u8) 
 }
 
 // An `S` line up to its properties.
-fn write_space_front(out: &mut [u8], number: usize, kind: Kind, groups: &[u8], size: usize, lowest: u8) -> usize
-    requires {
-        ⌜ (size ≤ length (now groups)) × Room (spaceFront number kind (propertiesOf (now groups) size lowest)) (now out) ⌝
-    }
-    ensures {
-        λ r. ⌜
-            Writes
-                (spaceFront number kind (propertiesOf (now (groups .entry)) size lowest))
-                (now (out .entry))
-                (now (out .exit))
-                r
-        ⌝
-    }
+fn write_space_front(
+    out: &mut [u8],
+    number: usize,
+    kind: Kind,
+    groups: &[u8],
+    size: usize,
+    lowest: u8,
+) -> usize
+    requires { ⌜ (size ≤ length (now groups)) × Room (spaceFront number kind (propertiesOf (now groups) size lowest)) (now out) ⌝ }
+    ensures { λ r. ⌜
+        Writes
+        (spaceFront number kind (propertiesOf (now (groups .entry)) size lowest))
+        (now (out .entry))
+        (now (out .exit))
+        r
+        ⌝ }
 {
     let at = write_space_head(out, number, kind);
     let n = write_properties(&mut out[at..], groups, size, lowest);
@@ -122,24 +121,28 @@ fn write_space_front(out: &mut [u8], number: usize, kind: Kind, groups: &[u8], s
 }
 
 // `S`: a space, its kind, its properties, by their groups, and its members, as a mask.
-pub fn write_space(out: &mut [u8], number: usize, kind: Kind, groups: &[u8], size: usize, lowest: u8, members: u64) -> usize
-    requires {
-        ⌜
-            (size ≤ length (now groups))
-            × Room
-                (lineText (space number (kindSays kind) (propertiesOf (now groups) size lowest) (membersOf members)))
-                (now out)
-        ⌝
-    }
-    ensures {
-        λ r. ⌜
-            Writes
-                (lineText (space number (kindSays kind) (propertiesOf (now (groups .entry)) size lowest) (membersOf members)))
-                (now (out .entry))
-                (now (out .exit))
-                r
-        ⌝
-    }
+pub fn write_space(
+    out: &mut [u8],
+    number: usize,
+    kind: Kind,
+    groups: &[u8],
+    size: usize,
+    lowest: u8,
+    members: u64,
+) -> usize
+    requires { ⌜
+        (size ≤ length (now groups))
+        × Room
+        (lineText (space number (kindSays kind) (propertiesOf (now groups) size lowest) (membersOf members)))
+        (now out)
+        ⌝ }
+    ensures { λ r. ⌜
+        Writes
+        (lineText (space number (kindSays kind) (propertiesOf (now (groups .entry)) size lowest) (membersOf members)))
+        (now (out .entry))
+        (now (out .exit))
+        r
+        ⌝ }
 {
     let at = write_space_front(out, number, kind, groups, size, lowest);
     let n = write_last_members(&mut out[at..], members);

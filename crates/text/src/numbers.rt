@@ -1,5 +1,4 @@
 // Bytes and decimal numbers. A writer asks for as much room as its bytes take.
-ghost use mathlib.Core.Path.{_≡_};
 ghost use mathlib.Core.List.{[], _∷_};
 ghost use Rattle.model.specs.Text.{decimal};
 ghost use Rattle.text.specs.Room.{Room};

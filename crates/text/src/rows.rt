@@ -3,7 +3,6 @@ use crate::numbers::write_item;
 use crate::numbers::write_mark;
 use masks::first_member;
 use masks::without_first;
-ghost use mathlib.Core.Path.{_≡_};
 ghost use mathlib.Core.List.{[], _∷_, _++_};
 ghost use Rattle.text.specs.Members.{membersOf};
 ghost use Rattle.text.specs.Numbers.{numbers, lastNumbers};

@@ -1,3 +1,4 @@
+-- Contained and not the same.
 use borrow.Author.Needs.{needs}
 use Rattle.sections.proofs.Comparing.{strictly-by-same, strictly-fails}
 use Rattle.sections.proofs.bags.strictly_contains.Statement.{statement}

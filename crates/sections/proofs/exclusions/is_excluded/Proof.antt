@@ -1,3 +1,4 @@
+-- The loop's invariant: the rows from k on decide.
 use Prim.Native.Nat.{_-_, _≤_}
 use mathlib.Core.Path.{refl, sym, _∙_}
 use native.Mathlib.Omega.{arith}
@@ -32,7 +33,7 @@ loop-again : tie.Need-loop-again Inv-loop μ-loop
 loop-again c =
     let l = c .before .before .before .loop in (
       row-fails _ _ _ _ (l .k) (c .before .before .loop-test .taken)
-      refl (not-above-first _ _ _ _ _ _ (c .before .contains .ensures) (not-true _ (c .if1 .taken))) (l .inv .0),
+          refl (not-above-first _ _ _ _ _ _ (c .before .contains .ensures) (not-true _ (c .if1 .taken))) (l .inv .0),
       search needs,
     )
 
@@ -58,7 +59,7 @@ loop-again-2 : tie.Need-loop-again-2 Inv-loop μ-loop
 loop-again-2 c =
     let l = c .before .before .before .before .before .loop in (
       row-fails _ _ _ _ (l .k) (c .before .before .before .before .loop-test .taken)
-      refl (not-above-second _ _ _ _ _ _ (c .before .before .before .contains .ensures) (not-false _ (c .before .before .if1 .left)) (c .before .contains2 .ensures) (c .if2 .left)) (l .inv .0),
+          refl (not-above-second _ _ _ _ _ _ (c .before .before .before .contains .ensures) (not-false _ (c .before .before .if1 .left)) (c .before .contains2 .ensures) (c .if2 .left)) (l .inv .0),
       search needs,
     )
 

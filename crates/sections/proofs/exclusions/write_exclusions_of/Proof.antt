@@ -1,3 +1,4 @@
+-- The loop's invariant: the lines with the later indices from the place k on remain to be written.
 use Prim.Native.Nat.{_-_, _≤_}
 use mathlib.Core.List.{map}
 use native.Mathlib.Omega.{arith}
@@ -70,8 +71,8 @@ loop-again-2 : tie.Need-loop-again-2 Inv-loop μ-loop
 loop-again-2 c =
     let l = c .before .before .before .before .before .before .before .before .loop in (
       next (l .inv .0)
-      (exclusion-next _ _ _ (l .k) (c .before .before .before .before .before .before .before .loop-test .taken) (c .before .before .before .before .before .is-excluded .ensures) (not-false _ (c .before .before .before .before .if1 .left)))
-      (c .before .before .write-exclusion .ensures),
+          (exclusion-next _ _ _ (l .k) (c .before .before .before .before .before .before .before .loop-test .taken) (c .before .before .before .before .before .is-excluded .ensures) (not-false _ (c .before .before .before .before .if1 .left)))
+          (c .before .before .write-exclusion .ensures),
       search needs,
     )
 

@@ -1,3 +1,4 @@
+-- The loop's invariant: the largest so far and those of the rows from i on give the largest of all.
 use Prim.Native.Nat.{_-_, _≤_}
 use native.Mathlib.Omega.{arith}
 use Rattle.sections.proofs.Columns.{LargestFrom, largest-start, largest-next, largest-end}

@@ -1,3 +1,4 @@
+-- No line, or the line of the largest count.
 use borrow.Author.Needs.{needs}
 use Rattle.sections.proofs.LimitLines.{narrow-written, wide-room, wide-written}
 use Rattle.sections.proofs.limits.write_limit_of.Statement.{statement}

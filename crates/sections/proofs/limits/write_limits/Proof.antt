@@ -1,4 +1,5 @@
-use Prim.Native.Nat.{ℕ, _-_, _≤_}
+-- The loop's invariant: the lines of the space's properties from c on remain to be written, and the column is that of the next of them.
+use Prim.Native.Nat.{ℕ, _-_}
 use mathlib.Core.Bool.{Bool}
 use mathlib.Core.List.{List}
 use mathlib.Core.Path.{refl}
@@ -96,9 +97,10 @@ add-at c = let r = loop-again-2 c .0 in omega arith
 add-column : tie.Need-add-column Inv-loop μ-loop
 add-column c =
     let l = c .before .before .before .before .before .before .before .before .loop in
-    omega (arith,
+    omega (
+      arith,
       c .before .before .before .before .before .before .before .before .before .before .before .before .before .before .pre .0 .narrow,
-      column-inside (l .inv .1) (c .before .before .before .before .before .before .before .loop-test .taken) (eq-eqb _ _ (c .before .before .before .before .before .if2 .left))
+      column-inside (l .inv .1) (c .before .before .before .before .before .before .before .loop-test .taken) (eq-eqb _ _ (c .before .before .before .before .before .if2 .left)),
     )
 
 same-length : tie.Need-same-length Inv-loop μ-loop

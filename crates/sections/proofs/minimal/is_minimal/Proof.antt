@@ -1,3 +1,4 @@
+-- The loop's invariant: the rows from j on decide.
 use Prim.Native.Nat.{_-_, _≤_}
 use native.Mathlib.Omega.{arith}
 use Rattle.laws.specs.Bags.{strictlyContains}

@@ -1,6 +1,6 @@
+-- The loop's invariant: the indices gathered and those from i on are all.
 use Prim.Native.Nat.{_-_}
 use mathlib.Core.Path.{refl}
-use native.Mathlib.Omega.{arith}
 use Rattle.laws.proofs.Tests.{not-true, not-false}
 use Rattle.model.specs.Lines.{minimal}
 use Rattle.sections.specs.Rows.{bagsIn}

@@ -1,3 +1,4 @@
+-- A letter for each kind.
 use borrow.Author.Needs.{needs}
 use Rattle.model.specs.Text.{kindLetter}
 use Rattle.text.specs.Kinds.{kindSays}

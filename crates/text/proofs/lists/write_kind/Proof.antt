@@ -1,3 +1,4 @@
+-- The kind's letter, and the colon in the rest of the buffer.
 use borrow.Author.Needs.{needs}
 use Rattle.text.proofs.Writing.{and-then}
 use Rattle.text.proofs.lists.write_kind.Statement.{statement}

@@ -1,3 +1,4 @@
+-- The loop's invariant: the properties of the group from c on remain to be written.
 use Prim.Native.Nat.{ℕ, _-_, _≤_}
 use mathlib.Core.Bool.{Bool}
 use mathlib.Core.List.{List}

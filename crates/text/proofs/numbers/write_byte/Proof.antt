@@ -1,3 +1,4 @@
+-- One byte stored at the start.
 use Rattle.text.proofs.Writing.{one-byte}
 use borrow.Author.Needs.{needs}
 use Rattle.text.proofs.numbers.write_byte.Statement.{statement}

@@ -1,3 +1,4 @@
+-- A blank, and the number in the rest of the buffer.
 use Rattle.text.proofs.Writing.{and-then}
 use borrow.Author.Needs.{needs}
 use Rattle.text.proofs.numbers.write_item.Statement.{statement}

@@ -1,3 +1,4 @@
+-- A blank, and a byte stored behind it.
 use native.Mathlib.Omega.{arith}
 use borrow.Author.Needs.{needs}
 use Rattle.text.proofs.Writing.{first-fits, last-inside, with-last}

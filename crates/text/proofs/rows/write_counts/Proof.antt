@@ -1,3 +1,4 @@
+-- The loop's invariant: the counts from i on remain to be written.
 use Prim.Native.Nat.{_≤_, _-_}
 use native.Mathlib.Omega.{arith}
 use lib.ListN.{length, drop}

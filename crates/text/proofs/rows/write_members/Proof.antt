@@ -1,3 +1,4 @@
+-- The loop's invariant: the members of the mask that is left remain to be written. The mask gets smaller.
 use mathlib.Core.Path.{refl}
 use native.Mathlib.Omega.{arith}
 use borrow.Author.Needs.{needs}
@@ -38,8 +39,8 @@ write-item-requires c κs =
 add-at : tie.Need-add-at Inv-loop μ-loop
 add-at c =
     let rest =
-      member-written (c .before .before .before .before .before .before .loop .inv) (c .before .before .before .before .before .loop-test .taken)
-      (c .before .before .before .before .first-member .ensures) refl (c .before .before .write-item .ensures)
+    member-written (c .before .before .before .before .before .before .loop .inv) (c .before .before .before .before .before .loop-test .taken)
+    (c .before .before .before .before .first-member .ensures) refl (c .before .before .write-item .ensures)
     in omega arith
 
 without-first-requires : tie.Need-without-first-requires Inv-loop μ-loop

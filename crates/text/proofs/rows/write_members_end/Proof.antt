@@ -1,3 +1,4 @@
+-- The members, and the line's end stored behind them.
 use native.Mathlib.Omega.{arith}
 use borrow.Author.Needs.{needs}
 use Rattle.text.proofs.Writing.{first-fits, last-inside, with-last}
