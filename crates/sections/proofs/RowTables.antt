@@ -28,7 +28,8 @@ later-row : (size : ℕ) (b : Bag) (behind : List ℕ) (i : ℕ) → length b �
 unfolding bagAt
 later-row size b behind i h =
     ap (take size)
-    (ap (λ (n : ℕ). drop n (row b ++ behind)) (mul-suc stride i ∙ add-comm (stride * i) stride ∙ ap (λ (n : ℕ). n + stride * i) (sym (length-row b h)))
+    (ap (λ (n : ℕ). drop n (row b ++ behind))
+    (mul-suc stride i ∙ add-comm (stride * i) stride ∙ ap (λ (n : ℕ). n + stride * i) (sym (length-row b h)))
     ∙ drop-append-add (row b) behind (stride * i))
 
 -- numbers in sequence, from one place later on

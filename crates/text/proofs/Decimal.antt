@@ -22,7 +22,8 @@ enough : (r s n : ℕ) → n < r → n < s → digitsWithin r n ≡ digitsWithin
 unfolding digitsWithin
 enough zero s n h k = absurd (omega arith)
 enough (suc r) zero n h k = absurd (omega arith)
-enough (suc r) (suc s) n h k = by-test (ltb n 10) (λ e. rw e) (λ e. let big : 10 ≤ n = ltb-false n 10 e in rw (e, enough r s (n / 10) (omega arith) (omega arith)))
+enough (suc r) (suc s) n h k =
+    by-test (ltb n 10) (λ e. rw e) (λ e. let big : 10 ≤ n = ltb-false n 10 e in rw (e, enough r s (n / 10) (omega arith) (omega arith)))
 
 -- the digits of the tenth part, then the last
 pub decimal-more : (n : ℕ) → 10 ≤ n → decimal n ≡ decimal (n / 10) ++ ((48 + n % 10) ∷ [])

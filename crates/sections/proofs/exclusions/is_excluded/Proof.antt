@@ -39,14 +39,16 @@ loop-again c =
 
 contains-requires-2 : tie.Need-contains-requires-2 Inv-loop μ-loop
 contains-requires-2 c κs =
-    let h = c .before .before .before .before .before .pre in (has-row _ _ _ (h .0) _ (c .before .before .loop-test .taken), has-row _ _ _ (h .0) _ (h .2))
+    let h = c .before .before .before .before .before .pre in
+    (has-row _ _ _ (h .0) _ (c .before .before .loop-test .taken), has-row _ _ _ (h .0) _ (h .2))
 
 returns : tie.Need-returns Inv-loop μ-loop
 returns c =
     let l = c .before .before .before .before .before .loop in
     let h = c .before .before .before .before .before .before .before .pre in
     one-passes _ _ _ _ (l .k) (c .before .before .before .before .loop-test .taken)
-    refl (above-both _ _ _ _ _ _ (c .before .before .before .contains .ensures) (not-false _ (c .before .before .if1 .left)) (c .before .contains2 .ensures) (c .if2 .taken)) (l .inv .0)
+    refl (above-both _ _ _ _ _ _ (c .before .before .before .contains .ensures) (not-false _ (c .before .before .if1 .left))
+    (c .before .contains2 .ensures) (c .if2 .taken)) (l .inv .0)
     ∙ sym (excluded-rows _ _ _ _ _ (h .1) (h .2))
 
 add-k-2 : tie.Need-add-k-2 Inv-loop μ-loop
@@ -59,7 +61,8 @@ loop-again-2 : tie.Need-loop-again-2 Inv-loop μ-loop
 loop-again-2 c =
     let l = c .before .before .before .before .before .loop in (
       row-fails _ _ _ _ (l .k) (c .before .before .before .before .loop-test .taken)
-          refl (not-above-second _ _ _ _ _ _ (c .before .before .before .contains .ensures) (not-false _ (c .before .before .if1 .left)) (c .before .contains2 .ensures) (c .if2 .left)) (l .inv .0),
+          refl (not-above-second _ _ _ _ _ _ (c .before .before .before .contains .ensures) (not-false _ (c .before .before .if1 .left))
+          (c .before .contains2 .ensures) (c .if2 .left)) (l .inv .0),
       search needs,
     )
 

@@ -45,7 +45,8 @@ loop-less c = search needs
 loop-again : tie.Need-loop-again Inv-loop μ-loop
 loop-again c =
     let l = c .before .before .before .before .loop in (
-      remains-as (exclusion-skipped _ _ _ (l .k) (c .before .before .before .loop-test .taken) (c .before .is-excluded .ensures) (not-true _ (c .if1 .taken))) (l .inv .0),
+      remains-as (exclusion-skipped _ _ _ (l .k) (c .before .before .before .loop-test .taken) (c .before .is-excluded .ensures)
+          (not-true _ (c .if1 .taken))) (l .inv .0),
       search needs,
     )
 
@@ -62,7 +63,8 @@ write-exclusion-requires : tie.Need-write-exclusion-requires Inv-loop μ-loop
 write-exclusion-requires c κs =
     let l = c .before .before .before .before .before .loop in
     next-fits (l .inv .0)
-    (exclusion-next _ _ _ (l .k) (c .before .before .before .before .loop-test .taken) (c .before .before .is-excluded .ensures) (not-false _ (c .before .if1 .left)))
+    (exclusion-next _ _ _ (l .k) (c .before .before .before .before .loop-test .taken) (c .before .before .is-excluded .ensures)
+    (not-false _ (c .before .if1 .left)))
 
 loop-less-2 : tie.Need-loop-less-2 Inv-loop μ-loop
 loop-less-2 c = search needs
@@ -71,7 +73,8 @@ loop-again-2 : tie.Need-loop-again-2 Inv-loop μ-loop
 loop-again-2 c =
     let l = c .before .before .before .before .before .before .before .before .loop in (
       next (l .inv .0)
-          (exclusion-next _ _ _ (l .k) (c .before .before .before .before .before .before .before .loop-test .taken) (c .before .before .before .before .before .is-excluded .ensures) (not-false _ (c .before .before .before .before .if1 .left)))
+          (exclusion-next _ _ _ (l .k) (c .before .before .before .before .before .before .before .loop-test .taken)
+          (c .before .before .before .before .before .is-excluded .ensures) (not-false _ (c .before .before .before .before .if1 .left)))
           (c .before .before .write-exclusion .ensures),
       search needs,
     )

@@ -14,13 +14,16 @@ cast-most : tie.Need-cast-most
 cast-most c = search needs
 
 write-limit-requires : tie.Need-write-limit-requires
-write-limit-requires c κs = wide-room _ _ _ (c .before .before .if1 .left) (c .before .largest-in .ensures) (c .before .before .before .before .before .pre .2)
+write-limit-requires c κs =
+    wide-room _ _ _ (c .before .before .if1 .left) (c .before .largest-in .ensures) (c .before .before .before .before .before .pre .2)
 
 same-length : tie.Need-same-length
 same-length c = search needs
 
 returns-2 : tie.Need-returns-2
-returns-2 c = wide-written _ _ _ (c .before .before .before .before .before .if1 .left) (c .before .before .before .before .largest-in .ensures) (c .before .before .write-limit .ensures)
+returns-2 c =
+    wide-written _ _ _ (c .before .before .before .before .before .if1 .left) (c .before .before .before .before .largest-in .ensures)
+    (c .before .before .write-limit .ensures)
 
 pub write-limit-of-spec : {M : Type 1} → statement M
 write-limit-of-spec =

@@ -37,8 +37,11 @@ returns c = no-limits _ _ _ _ _ (c .if1 .taken)
 
 loop-holds : tie.Need-loop-holds Inv-loop μ-loop
 unfolding propertiesOf
-loop-holds c =
-    (remains-as (limits-start _ _ _ _ _ _ (omega (arith, c .if1 .left)) refl) (start (c .before .before .before .before .before .pre .3)), passed-none refl)
+loop-holds c = (
+  remains-as (limits-start _ _ _ _ _ _ (omega (arith, c .if1 .left)) refl)
+      (start (c .before .before .before .before .before .pre .3)),
+  passed-none refl,
+)
 
 shared-slice-read-if2 : tie.Need-shared-slice-read-if2 Inv-loop μ-loop
 shared-slice-read-if2 c = search needs
@@ -87,7 +90,10 @@ loop-again-2 c =
     let l = c .before .before .before .before .before .before .before .before .loop in
     let h = c .before .before .before .before .before .before .before .loop-test .taken in
     let e = eq-eqb _ _ (c .before .before .before .before .before .if2 .left) in (
-      next (l .inv .0) (limit-at _ _ _ _ _ _ (c .before .before .before .before .before .before .before .before .before .before .before .before .before .before .pre .0) (l .inv .1) h e) (c .before .before .write-limit-of .ensures),
+      next (l .inv .0)
+          (limit-at _ _ _ _ _ _
+          (c .before .before .before .before .before .before .before .before .before .before .before .before .before .before .pre .0)
+          (l .inv .1) h e) (c .before .before .write-limit-of .ensures),
       passed-one (l .inv .1) h e,
     )
 
@@ -100,7 +106,8 @@ add-column c =
     omega (
       arith,
       c .before .before .before .before .before .before .before .before .before .before .before .before .before .before .pre .0 .narrow,
-      column-inside (l .inv .1) (c .before .before .before .before .before .before .before .loop-test .taken) (eq-eqb _ _ (c .before .before .before .before .before .if2 .left)),
+      column-inside (l .inv .1) (c .before .before .before .before .before .before .before .loop-test .taken)
+          (eq-eqb _ _ (c .before .before .before .before .before .if2 .left)),
     )
 
 same-length : tie.Need-same-length Inv-loop μ-loop

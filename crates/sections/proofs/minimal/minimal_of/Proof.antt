@@ -30,7 +30,8 @@ loop-less c = search needs
 
 loop-again : tie.Need-loop-again Inv-loop μ-loop
 loop-again c =
-    gather-fails (c .before .before .before .loop .inv) (c .before .before .loop-test .taken) (least-as _ _ _ _ (c .before .is-minimal .ensures) (not-true _ (c .if1 .taken)))
+    gather-fails (c .before .before .before .loop .inv) (c .before .before .loop-test .taken)
+    (least-as _ _ _ _ (c .before .is-minimal .ensures) (not-true _ (c .if1 .taken)))
 
 cast-indices : tie.Need-cast-indices Inv-loop μ-loop
 cast-indices c = search needs

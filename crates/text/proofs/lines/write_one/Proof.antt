@@ -10,11 +10,11 @@ write-byte-requires : tie.Need-write-byte-requires
 write-byte-requires c κs = first-fits (one-number _ _) (c .before .before .pre)
 
 sub-write-item : tie.Need-sub-write-item
-sub-write-item c = omega (arith, rest-inside (one-number _ _) (c .before .before .before .before .before .pre) (c .before .before .write-byte .ensures))
+sub-write-item c =
+    omega (arith, rest-inside (one-number _ _) (c .before .before .before .before .before .pre) (c .before .before .write-byte .ensures))
 
 part-write-item-start : tie.Need-part-write-item-start
-part-write-item-start c =
-    omega (arith, rest-inside (one-number _ _) (c .before .before .before .before .before .pre) (c .before .before .write-byte .ensures))
+part-write-item-start c = sub-write-item c
 
 part-write-item-end : tie.Need-part-write-item-end
 part-write-item-end c = search needs
@@ -34,4 +34,5 @@ add-result c = let whole = returns c in omega arith
 pub write-one-spec : {M : Type 1} → statement M
 write-one-spec =
     tie.close
-    (tie.spec write-byte-requires sub-write-item part-write-item-start part-write-item-end write-item-requires add-result same-length returns)
+    (tie.spec write-byte-requires sub-write-item part-write-item-start part-write-item-end write-item-requires
+    add-result same-length returns)

@@ -10,11 +10,11 @@ write-one-requires : tie.Need-write-one-requires
 write-one-requires c κs = first-fits (two-numbers _ _ _) (c .before .before .pre)
 
 sub-write-item : tie.Need-sub-write-item
-sub-write-item c = omega (arith, rest-inside (two-numbers _ _ _) (c .before .before .before .before .before .pre) (c .before .before .write-one .ensures))
+sub-write-item c =
+    omega (arith, rest-inside (two-numbers _ _ _) (c .before .before .before .before .before .pre) (c .before .before .write-one .ensures))
 
 part-write-item-start : tie.Need-part-write-item-start
-part-write-item-start c =
-    omega (arith, rest-inside (two-numbers _ _ _) (c .before .before .before .before .before .pre) (c .before .before .write-one .ensures))
+part-write-item-start c = sub-write-item c
 
 part-write-item-end : tie.Need-part-write-item-end
 part-write-item-end c = search needs
@@ -34,4 +34,5 @@ add-result c = let whole = returns c in omega arith
 pub write-two-spec : {M : Type 1} → statement M
 write-two-spec =
     tie.close
-    (tie.spec write-one-requires sub-write-item part-write-item-start part-write-item-end write-item-requires add-result same-length returns)
+    (tie.spec write-one-requires sub-write-item part-write-item-start part-write-item-end write-item-requires
+    add-result same-length returns)

@@ -66,7 +66,9 @@ loop-less-2 c = search needs
 loop-again-2 : tie.Need-loop-again-2 Inv-loop μ-loop
 loop-again-2 c =
     let l = c .before .before .before .before .before .before .before .loop in (
-      next (l .inv .0) (kept-number _ (l .c) _ (c .before .before .before .before .before .before .loop-test .taken) (eq-eqb _ _ (c .before .before .before .before .if1 .left))) (c .before .before .write-item .ensures),
+      next (l .inv .0)
+          (kept-number _ (l .c) _ (c .before .before .before .before .before .before .loop-test .taken)
+          (eq-eqb _ _ (c .before .before .before .before .if1 .left))) (c .before .before .write-item .ensures),
       search needs,
     )
 

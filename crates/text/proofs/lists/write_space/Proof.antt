@@ -10,11 +10,15 @@ write-space-front-requires : tie.Need-write-space-front-requires
 write-space-front-requires c κs = (c .before .before .before .pre .0, first-fits (space-parts _ _ _ _) (c .before .before .before .pre .1))
 
 sub-write-last-members : tie.Need-sub-write-last-members
-sub-write-last-members c = omega (arith, rest-inside (space-parts _ _ _ _) (c .before .before .before .before .before .before .pre .1) (c .before .before .write-space-front .ensures))
+sub-write-last-members c =
+    omega (
+      arith,
+      rest-inside (space-parts _ _ _ _) (c .before .before .before .before .before .before .pre .1)
+          (c .before .before .write-space-front .ensures),
+    )
 
 part-write-last-members-start : tie.Need-part-write-last-members-start
-part-write-last-members-start c =
-    omega (arith, rest-inside (space-parts _ _ _ _) (c .before .before .before .before .before .before .pre .1) (c .before .before .write-space-front .ensures))
+part-write-last-members-start c = sub-write-last-members c
 
 part-write-last-members-end : tie.Need-part-write-last-members-end
 part-write-last-members-end c = search needs
@@ -34,4 +38,5 @@ add-result c = let whole = returns c in omega arith
 pub write-space-spec : {M : Type 1} → statement M
 write-space-spec =
     tie.close
-    (tie.spec write-space-front-requires sub-write-last-members part-write-last-members-start part-write-last-members-end write-last-members-requires add-result same-length returns)
+    (tie.spec write-space-front-requires sub-write-last-members part-write-last-members-start part-write-last-members-end write-last-members-requires
+    add-result same-length returns)

@@ -10,11 +10,15 @@ write-space-head-requires : tie.Need-write-space-head-requires
 write-space-head-requires c κs = first-fits (front-parts _ _ _) (c .before .before .before .pre .1)
 
 sub-write-properties : tie.Need-sub-write-properties
-sub-write-properties c = omega (arith, rest-inside (front-parts _ _ _) (c .before .before .before .before .before .before .pre .1) (c .before .before .write-space-head .ensures))
+sub-write-properties c =
+    omega (
+      arith,
+      rest-inside (front-parts _ _ _) (c .before .before .before .before .before .before .pre .1)
+          (c .before .before .write-space-head .ensures),
+    )
 
 part-write-properties-start : tie.Need-part-write-properties-start
-part-write-properties-start c =
-    omega (arith, rest-inside (front-parts _ _ _) (c .before .before .before .before .before .before .pre .1) (c .before .before .write-space-head .ensures))
+part-write-properties-start c = sub-write-properties c
 
 part-write-properties-end : tie.Need-part-write-properties-end
 part-write-properties-end c = search needs
@@ -34,4 +38,5 @@ add-result c = let whole = returns c in omega arith
 pub write-space-front-spec : {M : Type 1} → statement M
 write-space-front-spec =
     tie.close
-    (tie.spec write-space-head-requires sub-write-properties part-write-properties-start part-write-properties-end write-properties-requires add-result same-length returns)
+    (tie.spec write-space-head-requires sub-write-properties part-write-properties-start part-write-properties-end write-properties-requires
+    add-result same-length returns)

@@ -10,11 +10,11 @@ write-one-requires : tie.Need-write-one-requires
 write-one-requires c κs = first-fits (head-parts _ _) (c .before .before .pre)
 
 sub-write-kind : tie.Need-sub-write-kind
-sub-write-kind c = omega (arith, rest-inside (head-parts _ _) (c .before .before .before .before .before .pre) (c .before .before .write-one .ensures))
+sub-write-kind c =
+    omega (arith, rest-inside (head-parts _ _) (c .before .before .before .before .before .pre) (c .before .before .write-one .ensures))
 
 part-write-kind-start : tie.Need-part-write-kind-start
-part-write-kind-start c =
-    omega (arith, rest-inside (head-parts _ _) (c .before .before .before .before .before .pre) (c .before .before .write-one .ensures))
+part-write-kind-start c = sub-write-kind c
 
 part-write-kind-end : tie.Need-part-write-kind-end
 part-write-kind-end c = search needs
@@ -34,4 +34,5 @@ add-result c = let whole = returns c in omega arith
 pub write-space-head-spec : {M : Type 1} → statement M
 write-space-head-spec =
     tie.close
-    (tie.spec write-one-requires sub-write-kind part-write-kind-start part-write-kind-end write-kind-requires add-result same-length returns)
+    (tie.spec write-one-requires sub-write-kind part-write-kind-start part-write-kind-end write-kind-requires
+    add-result same-length returns)

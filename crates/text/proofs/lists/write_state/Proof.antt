@@ -10,11 +10,11 @@ write-byte-requires : tie.Need-write-byte-requires
 write-byte-requires c κs = first-fits (state-parts _) (c .before .before .before .pre)
 
 sub-write-last-counts : tie.Need-sub-write-last-counts
-sub-write-last-counts c = omega (arith, rest-inside (state-parts _) (c .before .before .before .before .before .before .pre) (c .before .before .write-byte .ensures))
+sub-write-last-counts c =
+    omega (arith, rest-inside (state-parts _) (c .before .before .before .before .before .before .pre) (c .before .before .write-byte .ensures))
 
 part-write-last-counts-start : tie.Need-part-write-last-counts-start
-part-write-last-counts-start c =
-    omega (arith, rest-inside (state-parts _) (c .before .before .before .before .before .before .pre) (c .before .before .write-byte .ensures))
+part-write-last-counts-start c = sub-write-last-counts c
 
 part-write-last-counts-end : tie.Need-part-write-last-counts-end
 part-write-last-counts-end c = search needs
@@ -34,4 +34,5 @@ add-result c = let whole = returns c in omega arith
 pub write-state-spec : {M : Type 1} → statement M
 write-state-spec =
     tie.close
-    (tie.spec write-byte-requires sub-write-last-counts part-write-last-counts-start part-write-last-counts-end write-last-counts-requires add-result same-length returns)
+    (tie.spec write-byte-requires sub-write-last-counts part-write-last-counts-start part-write-last-counts-end write-last-counts-requires
+    add-result same-length returns)

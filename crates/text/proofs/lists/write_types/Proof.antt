@@ -10,11 +10,11 @@ write-two-requires : tie.Need-write-two-requires
 write-two-requires c κs = first-fits (types-parts _ _ _) (c .before .before .pre)
 
 sub-write-last-members : tie.Need-sub-write-last-members
-sub-write-last-members c = omega (arith, rest-inside (types-parts _ _ _) (c .before .before .before .before .before .pre) (c .before .before .write-two .ensures))
+sub-write-last-members c =
+    omega (arith, rest-inside (types-parts _ _ _) (c .before .before .before .before .before .pre) (c .before .before .write-two .ensures))
 
 part-write-last-members-start : tie.Need-part-write-last-members-start
-part-write-last-members-start c =
-    omega (arith, rest-inside (types-parts _ _ _) (c .before .before .before .before .before .pre) (c .before .before .write-two .ensures))
+part-write-last-members-start c = sub-write-last-members c
 
 part-write-last-members-end : tie.Need-part-write-last-members-end
 part-write-last-members-end c = search needs
@@ -34,4 +34,5 @@ add-result c = let whole = returns c in omega arith
 pub write-types-spec : {M : Type 1} → statement M
 write-types-spec =
     tie.close
-    (tie.spec write-two-requires sub-write-last-members part-write-last-members-start part-write-last-members-end write-last-members-requires add-result same-length returns)
+    (tie.spec write-two-requires sub-write-last-members part-write-last-members-start part-write-last-members-end write-last-members-requires
+    add-result same-length returns)

@@ -46,7 +46,9 @@ module _ (t : ℕ) where
   add-out-2 c = search needs
 
   slice-write-out-2 : lts.Need-slice-write-out-2 (called t, write-decimal.Post) (given t) write-decimal.Post
-  slice-write-out-2 c = last-fits _ (c .before .before .before .before .if1 .left) (c .before .before .before .before .before .before .pre .1) (c .before .before .write-decimal .ensures)
+  slice-write-out-2 c =
+      last-fits _ (c .before .before .before .before .if1 .left) (c .before .before .before .before .before .before .pre .1)
+      (c .before .before .write-decimal .ensures)
 
   add-result : lts.Need-add-result (called t, write-decimal.Post) (given t) write-decimal.Post
   add-result c = omega (arith, slice-write-out-2 c)

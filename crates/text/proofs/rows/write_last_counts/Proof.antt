@@ -10,11 +10,11 @@ write-mark-requires : tie.Need-write-mark-requires
 write-mark-requires c κs = first-fits (colon-first _) (c .before .before .before .pre)
 
 sub-write-counts-end : tie.Need-sub-write-counts-end
-sub-write-counts-end c = omega (arith, rest-inside (colon-first _) (c .before .before .before .before .before .before .pre) (c .before .before .write-mark .ensures))
+sub-write-counts-end c =
+    omega (arith, rest-inside (colon-first _) (c .before .before .before .before .before .before .pre) (c .before .before .write-mark .ensures))
 
 part-write-counts-end-start : tie.Need-part-write-counts-end-start
-part-write-counts-end-start c =
-    omega (arith, rest-inside (colon-first _) (c .before .before .before .before .before .before .pre) (c .before .before .write-mark .ensures))
+part-write-counts-end-start c = sub-write-counts-end c
 
 part-write-counts-end-end : tie.Need-part-write-counts-end-end
 part-write-counts-end-end c = search needs
@@ -34,4 +34,5 @@ add-result c = let whole = returns c in omega arith
 pub write-last-counts-spec : {M : Type 1} → statement M
 write-last-counts-spec =
     tie.close
-    (tie.spec write-mark-requires sub-write-counts-end part-write-counts-end-start part-write-counts-end-end write-counts-end-requires add-result same-length returns)
+    (tie.spec write-mark-requires sub-write-counts-end part-write-counts-end-start part-write-counts-end-end write-counts-end-requires
+    add-result same-length returns)

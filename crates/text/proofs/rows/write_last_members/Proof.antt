@@ -10,11 +10,11 @@ write-mark-requires : tie.Need-write-mark-requires
 write-mark-requires c κs = first-fits (colon-first _) (c .before .before .pre)
 
 sub-write-members-end : tie.Need-sub-write-members-end
-sub-write-members-end c = omega (arith, rest-inside (colon-first _) (c .before .before .before .before .before .pre) (c .before .before .write-mark .ensures))
+sub-write-members-end c =
+    omega (arith, rest-inside (colon-first _) (c .before .before .before .before .before .pre) (c .before .before .write-mark .ensures))
 
 part-write-members-end-start : tie.Need-part-write-members-end-start
-part-write-members-end-start c =
-    omega (arith, rest-inside (colon-first _) (c .before .before .before .before .before .pre) (c .before .before .write-mark .ensures))
+part-write-members-end-start c = sub-write-members-end c
 
 part-write-members-end-end : tie.Need-part-write-members-end-end
 part-write-members-end-end c = search needs
@@ -34,4 +34,5 @@ add-result c = let whole = returns c in omega arith
 pub write-last-members-spec : {M : Type 1} → statement M
 write-last-members-spec =
     tie.close
-    (tie.spec write-mark-requires sub-write-members-end part-write-members-end-start part-write-members-end-end write-members-end-requires add-result same-length returns)
+    (tie.spec write-mark-requires sub-write-members-end part-write-members-end-start part-write-members-end-end write-members-end-requires
+    add-result same-length returns)
