@@ -14,6 +14,7 @@ ghost use Rattle.text.specs.Kinds.{propertiesOf};
 ghost use Rattle.text.specs.Room.{Room};
 ghost use Rattle.text.specs.Written.{Writes};
 
+// The larger of two counts.
 fn larger(a: u16, b: u16) -> u16
     ensures { λ r. ⌜ r ≡ max a b ⌝ }
 {

@@ -7,6 +7,7 @@ ghost use Rattle.sections.specs.Rows.{bagsIn, HasRows};
 ghost use Rattle.text.specs.Room.{Room};
 ghost use Rattle.text.specs.Written.{Writes};
 
+// One line for each of the first rows of a table.
 pub fn write_states(out: &mut [u8], table: &[u16], count: usize, size: usize) -> usize
     requires { ⌜ HasRows size count (now table) × Room (text (map state (bagsIn size count (now table)))) (now out) ⌝ }
     ensures { λ r. ⌜ Writes (text (map state (bagsIn size count (now (table .entry))))) (now (out .entry)) (now (out .exit)) r ⌝ }

@@ -33,7 +33,7 @@ fn write_pair(out: &mut [u8], letter: u8, a: usize, b: usize) -> usize
     ensures { λ r. ⌜ Writes (spaced ((letter ∷ []) ∷ decimal a ∷ decimal b ∷ []) ++ (10 ∷ [])) (now (out .entry)) (now (out .exit)) r ⌝ }
 {
     let at = write_two(out, letter, a, b);
-    out[at] = 10;
+    out[at] = b'\n';
     at + 1
 }
 
@@ -42,7 +42,7 @@ pub fn write_limit(out: &mut [u8], c: usize, most: usize) -> usize
     requires { ⌜ Room (lineText (limit c most)) (now out) ⌝ }
     ensures { λ r. ⌜ Writes (lineText (limit c most)) (now (out .entry)) (now (out .exit)) r ⌝ }
 {
-    write_pair(out, 77, c, most)
+    write_pair(out, b'M', c, most)
 }
 
 // `D`: the index of a condition that strictly contains no other.
@@ -50,9 +50,9 @@ pub fn write_membership(out: &mut [u8], index: usize) -> usize
     requires { ⌜ Room (lineText (membership index)) (now out) ⌝ }
     ensures { λ r. ⌜ Writes (lineText (membership index)) (now (out .entry)) (now (out .exit)) r ⌝ }
 {
-    let at = write_one(out, 68, index);
-    out[at] = 10;
-    at + 1
+    let end = write_one(out, b'D', index);
+    out[end] = b'\n';
+    end + 1
 }
 
 // `X`: two `D` indices.
@@ -60,7 +60,7 @@ pub fn write_exclusion(out: &mut [u8], i: usize, j: usize) -> usize
     requires { ⌜ Room (lineText (exclusion i j)) (now out) ⌝ }
     ensures { λ r. ⌜ Writes (lineText (exclusion i j)) (now (out .entry)) (now (out .exit)) r ⌝ }
 {
-    write_pair(out, 88, i, j)
+    write_pair(out, b'X', i, j)
 }
 
 // `F`: a predicate and its total.
@@ -68,7 +68,7 @@ pub fn write_total(out: &mut [u8], predicate: usize, n: usize) -> usize
     requires { ⌜ Room (lineText (total predicate n)) (now out) ⌝ }
     ensures { λ r. ⌜ Writes (lineText (total predicate n)) (now (out .entry)) (now (out .exit)) r ⌝ }
 {
-    write_pair(out, 70, predicate, n)
+    write_pair(out, b'F', predicate, n)
 }
 
 // `C`: a predicate and its initial number of facts.
@@ -76,5 +76,5 @@ pub fn write_ceiling(out: &mut [u8], predicate: usize, n: usize) -> usize
     requires { ⌜ Room (lineText (ceiling predicate n)) (now out) ⌝ }
     ensures { λ r. ⌜ Writes (lineText (ceiling predicate n)) (now (out .entry)) (now (out .exit)) r ⌝ }
 {
-    write_pair(out, 67, predicate, n)
+    write_pair(out, b'C', predicate, n)
 }

@@ -32,7 +32,7 @@ pub fn write_state(out: &mut [u8], counts: &[u16]) -> usize
     requires { ⌜ Room (lineText (state (now counts))) (now out) ⌝ }
     ensures { λ r. ⌜ Writes (lineText (state (now (counts .entry)))) (now (out .entry)) (now (out .exit)) r ⌝ }
 {
-    let at = write_byte(out, 84);
+    let at = write_byte(out, b'T');
     let n = write_last_counts(&mut out[at..], counts);
     at + n
 }
@@ -42,7 +42,7 @@ pub fn write_types(out: &mut [u8], schema: usize, parameter: usize, objects: u64
     requires { ⌜ Room (lineText (types schema parameter (membersOf objects))) (now out) ⌝ }
     ensures { λ r. ⌜ Writes (lineText (types schema parameter (membersOf objects))) (now (out .entry)) (now (out .exit)) r ⌝ }
 {
-    let at = write_two(out, 82, schema, parameter);
+    let at = write_two(out, b'R', schema, parameter);
     let n = write_last_members(&mut out[at..], objects);
     at + n
 }
@@ -52,11 +52,11 @@ fn letter_of(kind: Kind) -> u8
     ensures { λ r. ⌜ r ≡ kindLetter (kindSays kind) ⌝ }
 {
     match kind {
-        Kind::Static => 83,
-        Kind::Attribute => 65,
-        Kind::Property => 80,
-        Kind::Mixed => 77,
-        Kind::Wide => 87,
+        Kind::Static => b'S',
+        Kind::Attribute => b'A',
+        Kind::Property => b'P',
+        Kind::Mixed => b'M',
+        Kind::Wide => b'W',
     }
 }
 
@@ -67,7 +67,7 @@ fn write_kind(out: &mut [u8], kind: Kind) -> usize
 {
     let letter = letter_of(kind);
     let at = write_mark(out, letter);
-    let n = write_mark(&mut out[at..], 58);
+    let n = write_mark(&mut out[at..], b':');
     at + n
 }
 
@@ -76,7 +76,7 @@ fn write_space_head(out: &mut [u8], number: usize, kind: Kind) -> usize
     requires { ⌜ Room (spaceFront number kind []) (now out) ⌝ }
     ensures { λ r. ⌜ Writes (spaceFront number kind []) (now (out .entry)) (now (out .exit)) r ⌝ }
 {
-    let at = write_one(out, 83, number);
+    let at = write_one(out, b'S', number);
     let n = write_kind(&mut out[at..], kind);
     at + n
 }

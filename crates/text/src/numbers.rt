@@ -18,7 +18,7 @@ pub fn write_mark(out: &mut [u8], b: u8) -> usize
     requires { ⌜ Room (32 ∷ b ∷ []) (now out) ⌝ }
     ensures { λ r. ⌜ Writes (32 ∷ b ∷ []) (now (out .entry)) (now (out .exit)) r ⌝ }
 {
-    let at = write_byte(out, 32);
+    let at = write_byte(out, b' ');
     out[at] = b;
     at + 1
 }
@@ -29,11 +29,11 @@ pub fn write_decimal(out: &mut [u8], n: usize) -> usize
     ensures { λ r. ⌜ Writes (decimal n) (now (out .entry)) (now (out .exit)) r ⌝ }
 {
     if n < 10 {
-        out[0] = 48 + n as u8;
+        out[0] = b'0' + n as u8;
         return 1;
     }
     let at = write_decimal(out, n / 10);
-    out[at] = 48 + (n % 10) as u8;
+    out[at] = b'0' + (n % 10) as u8;
     at + 1
 }
 
@@ -42,7 +42,7 @@ pub fn write_item(out: &mut [u8], n: usize) -> usize
     requires { ⌜ Room (32 ∷ decimal n) (now out) ⌝ }
     ensures { λ r. ⌜ Writes (32 ∷ decimal n) (now (out .entry)) (now (out .exit)) r ⌝ }
 {
-    let at = write_byte(out, 32);
+    let at = write_byte(out, b' ');
     let n = write_decimal(&mut out[at..], n);
     at + n
 }

@@ -24,20 +24,22 @@ pub fn write_counts(out: &mut [u8], counts: &[u16]) -> usize
     at
 }
 
+// The counts and the line's end.
 fn write_counts_end(out: &mut [u8], counts: &[u16]) -> usize
     requires { ⌜ Room (numbers (now counts) ++ (10 ∷ [])) (now out) ⌝ }
     ensures { λ r. ⌜ Writes (numbers (now (counts .entry)) ++ (10 ∷ [])) (now (out .entry)) (now (out .exit)) r ⌝ }
 {
     let at = write_counts(out, counts);
-    out[at] = 10;
+    out[at] = b'\n';
     at + 1
 }
 
+// The counts as the last list of a line.
 pub fn write_last_counts(out: &mut [u8], counts: &[u16]) -> usize
     requires { ⌜ Room (lastNumbers (now counts)) (now out) ⌝ }
     ensures { λ r. ⌜ Writes (lastNumbers (now (counts .entry))) (now (out .entry)) (now (out .exit)) r ⌝ }
 {
-    let at = write_mark(out, 58);
+    let at = write_mark(out, b':');
     let n = write_counts_end(&mut out[at..], counts);
     at + n
 }
@@ -58,20 +60,22 @@ pub fn write_members(out: &mut [u8], mask: u64) -> usize
     at
 }
 
+// The members and the line's end.
 fn write_members_end(out: &mut [u8], mask: u64) -> usize
     requires { ⌜ Room (numbers (membersOf mask) ++ (10 ∷ [])) (now out) ⌝ }
     ensures { λ r. ⌜ Writes (numbers (membersOf mask) ++ (10 ∷ [])) (now (out .entry)) (now (out .exit)) r ⌝ }
 {
-    let at = write_members(out, mask);
-    out[at] = 10;
-    at + 1
+    let end = write_members(out, mask);
+    out[end] = b'\n';
+    end + 1
 }
 
+// The members as the last list of a line.
 pub fn write_last_members(out: &mut [u8], mask: u64) -> usize
     requires { ⌜ Room (lastNumbers (membersOf mask)) (now out) ⌝ }
     ensures { λ r. ⌜ Writes (lastNumbers (membersOf mask)) (now (out .entry)) (now (out .exit)) r ⌝ }
 {
-    let at = write_mark(out, 58);
+    let at = write_mark(out, b':');
     let n = write_members_end(&mut out[at..], mask);
     at + n
 }
