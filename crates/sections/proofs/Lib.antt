@@ -7,3 +7,4 @@ pub mod Gathering
 pub mod Columns
 pub mod LimitLines
 pub mod RowTables
+pub mod SectionLengths

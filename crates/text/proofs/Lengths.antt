@@ -3,7 +3,7 @@ use Prim.Native.Nat.{ℕ, suc, _+_, _*_, _≤_, _<_}
 use native.Mathlib.Nat.{mul-suc}
 use native.Mathlib.Omega.{arith}
 use mathlib.Core.Path.{_≡_, refl, ap, _∙_}
-use mathlib.Core.List.{List, [], _∷_, _++_, flatMap, List·Memᴰ, List·Memᴰ·head, List·Memᴰ·tail}
+use mathlib.Core.List.{List, [], _∷_, _++_, map, flatMap, List·Memᴰ, List·Memᴰ·head, List·Memᴰ·tail}
 use lib.ListN.{length, length-append}
 use Rattle.model.specs.Lines.{Line, space, state, limit, membership, exclusion, total, ceiling, types}
 use Rattle.model.specs.Text.{decimal, items, spaced, lineText, text}
@@ -112,16 +112,16 @@ space-length n kind properties members h p m =
       two-digit-numbers members m,
     )
 
--- lines of at most so many bytes
-pub text-length : (most : ℕ) (lines : List Line) → ((l : Line) → List·Memᴰ l lines → length (lineText l) ≤ most)
-    → length (text lines) ≤ most * length lines
+-- lines of at most so many bytes, one for each element of a list
+pub text-length : {A : Type 0} (most : ℕ) (line : A → Line) (xs : List A) → ((x : A) → List·Memᴰ x xs → length (lineText (line x)) ≤ most)
+    → length (text (map line xs)) ≤ most * length xs
 unfolding text flatMap
-text-length most [] h = omega arith
-text-length most (l ∷ lines) h =
+text-length most line [] h = omega arith
+text-length most line (x ∷ xs) h =
     omega (
       arith,
-      length-append (lineText l) (text lines),
-      h l (List·Memᴰ·head refl),
-      text-length most lines (λ m k. h m (List·Memᴰ·tail k)),
-      mul-suc most (length lines),
+      length-append (lineText (line x)) (text (map line xs)),
+      h x (List·Memᴰ·head refl),
+      text-length most line xs (λ y k. h y (List·Memᴰ·tail k)),
+      mul-suc most (length xs),
     )
