@@ -1,0 +1,6 @@
+pub mod Writing
+pub mod Decimal
+pub mod NumberRows
+pub mod LineTexts
+pub mod Lengths
+pub mod MaskMembers

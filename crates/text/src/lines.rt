@@ -1,0 +1,80 @@
+// The lines with one or two numbers.
+use crate::numbers::write_byte;
+use crate::numbers::write_item;
+ghost use mathlib.Core.List.{[], _∷_, _++_};
+ghost use Rattle.model.specs.Lines.{limit, membership, exclusion, total, ceiling};
+ghost use Rattle.model.specs.Text.{decimal, spaced, lineText};
+ghost use Rattle.text.specs.Room.{Room};
+ghost use Rattle.text.specs.Written.{Writes};
+
+// A letter and a number.
+pub fn write_one(out: &mut [u8], letter: u8, a: usize) -> usize
+    requires { ⌜ Room (spaced ((letter ∷ []) ∷ decimal a ∷ [])) (now out) ⌝ }
+    ensures { λ r. ⌜ Writes (spaced ((letter ∷ []) ∷ decimal a ∷ [])) (now (out .entry)) (now (out .exit)) r ⌝ }
+{
+    let at = write_byte(out, letter);
+    let n = write_item(&mut out[at..], a);
+    at + n
+}
+
+// A letter and two numbers.
+pub fn write_two(out: &mut [u8], letter: u8, a: usize, b: usize) -> usize
+    requires { ⌜ Room (spaced ((letter ∷ []) ∷ decimal a ∷ decimal b ∷ [])) (now out) ⌝ }
+    ensures { λ r. ⌜ Writes (spaced ((letter ∷ []) ∷ decimal a ∷ decimal b ∷ [])) (now (out .entry)) (now (out .exit)) r ⌝ }
+{
+    let at = write_one(out, letter, a);
+    let n = write_item(&mut out[at..], b);
+    at + n
+}
+
+// A line of a letter and two numbers.
+fn write_pair(out: &mut [u8], letter: u8, a: usize, b: usize) -> usize
+    requires { ⌜ Room (spaced ((letter ∷ []) ∷ decimal a ∷ decimal b ∷ []) ++ (10 ∷ [])) (now out) ⌝ }
+    ensures { λ r. ⌜ Writes (spaced ((letter ∷ []) ∷ decimal a ∷ decimal b ∷ []) ++ (10 ∷ [])) (now (out .entry)) (now (out .exit)) r ⌝ }
+{
+    let at = write_two(out, letter, a, b);
+    out[at] = b'\n';
+    at + 1
+}
+
+// `M`: a property, and the most of it that a condition has.
+pub fn write_limit(out: &mut [u8], c: usize, most: usize) -> usize
+    requires { ⌜ Room (lineText (limit c most)) (now out) ⌝ }
+    ensures { λ r. ⌜ Writes (lineText (limit c most)) (now (out .entry)) (now (out .exit)) r ⌝ }
+{
+    write_pair(out, b'M', c, most)
+}
+
+// `D`: the index of a condition that strictly contains no other.
+pub fn write_membership(out: &mut [u8], index: usize) -> usize
+    requires { ⌜ Room (lineText (membership index)) (now out) ⌝ }
+    ensures { λ r. ⌜ Writes (lineText (membership index)) (now (out .entry)) (now (out .exit)) r ⌝ }
+{
+    let end = write_one(out, b'D', index);
+    out[end] = b'\n';
+    end + 1
+}
+
+// `X`: two `D` indices.
+pub fn write_exclusion(out: &mut [u8], i: usize, j: usize) -> usize
+    requires { ⌜ Room (lineText (exclusion i j)) (now out) ⌝ }
+    ensures { λ r. ⌜ Writes (lineText (exclusion i j)) (now (out .entry)) (now (out .exit)) r ⌝ }
+{
+    write_pair(out, b'X', i, j)
+}
+
+// `F`: a predicate and its total.
+pub fn write_total(out: &mut [u8], predicate: usize, n: usize) -> usize
+    requires { ⌜ Room (lineText (total predicate n)) (now out) ⌝ }
+    ensures { λ r. ⌜ Writes (lineText (total predicate n)) (now (out .entry)) (now (out .exit)) r ⌝ }
+{
+    write_pair(out, b'F', predicate, n)
+}
+
+// `C`: a predicate and its initial number of facts.
+pub fn write_ceiling(out: &mut [u8], predicate: usize, n: usize) -> usize
+    requires { ⌜ Room (lineText (ceiling predicate n)) (now out) ⌝ }
+    ensures { λ r. ⌜ Writes (lineText (ceiling predicate n)) (now (out .entry)) (now (out .exit)) r ⌝ }
+{
+    write_pair(out, b'C', predicate, n)
+}

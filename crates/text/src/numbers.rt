@@ -1,0 +1,48 @@
+// Bytes and decimal numbers. A writer asks for as much room as its bytes take.
+ghost use mathlib.Core.List.{[], _∷_};
+ghost use Rattle.model.specs.Text.{decimal};
+ghost use Rattle.text.specs.Room.{Room};
+ghost use Rattle.text.specs.Written.{Writes};
+
+// One byte.
+pub fn write_byte(out: &mut [u8], b: u8) -> usize
+    requires { ⌜ Room (b ∷ []) (now out) ⌝ }
+    ensures { λ r. ⌜ Writes (b ∷ []) (now (out .entry)) (now (out .exit)) r ⌝ }
+{
+    out[0] = b;
+    1
+}
+
+// A blank and a byte.
+pub fn write_mark(out: &mut [u8], b: u8) -> usize
+    requires { ⌜ Room (32 ∷ b ∷ []) (now out) ⌝ }
+    ensures { λ r. ⌜ Writes (32 ∷ b ∷ []) (now (out .entry)) (now (out .exit)) r ⌝ }
+{
+    let at = write_byte(out, b' ');
+    out[at] = b;
+    at + 1
+}
+
+// A number in decimal.
+pub fn write_decimal(out: &mut [u8], n: usize) -> usize
+    requires { ⌜ Room (decimal n) (now out) ⌝ }
+    ensures { λ r. ⌜ Writes (decimal n) (now (out .entry)) (now (out .exit)) r ⌝ }
+{
+    if n < 10 {
+        out[0] = b'0' + n as u8;
+        return 1;
+    }
+    let at = write_decimal(out, n / 10);
+    out[at] = b'0' + (n % 10) as u8;
+    at + 1
+}
+
+// A blank and a number.
+pub fn write_item(out: &mut [u8], n: usize) -> usize
+    requires { ⌜ Room (32 ∷ decimal n) (now out) ⌝ }
+    ensures { λ r. ⌜ Writes (32 ∷ decimal n) (now (out .entry)) (now (out .exit)) r ⌝ }
+{
+    let at = write_byte(out, b' ');
+    let n = write_decimal(&mut out[at..], n);
+    at + n
+}
