@@ -12,6 +12,5 @@ pub mod Orders
 pub mod Reading
 pub mod Fronts
 pub mod Columns
-
 pub mod Masks
 pub mod Walks

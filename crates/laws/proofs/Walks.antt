@@ -11,7 +11,8 @@ use lib.Seq.{set-getD, ext-getD}
 use Rattle.laws.specs.Lists.{any, keep, count, from, upTo}
 use Rattle.laws.proofs.Tests.{cond-true, cond-false}
 use Rattle.laws.proofs.Lists.{length-keep, length-upTo, getD-upTo}
-use Rattle.laws.proofs.Groups.{getD-map, count-most}
+use Rattle.laws.proofs.Mapped.{getD-map}
+use Rattle.laws.proofs.Counting.{count-most}
 
 -- the numbers from i on below size
 unfoldable pub left : ℕ → ℕ → List ℕ

@@ -13,8 +13,7 @@ use Rattle.laws.specs.Lists.{all, count, upTo, sum, standsAt}
 use Rattle.laws.specs.Bags.{Bag, less, meet, isEmpty, single, support}
 use Rattle.laws.proofs.Tests.{by-test, and-left, and-right}
 use Rattle.laws.proofs.Lists.{all-at, count-none, count-append, flatMap-at, length-upTo}
-use Rattle.laws.proofs.Groups.{count-most}
-use Rattle.laws.proofs.Counting.{count-map}
+use Rattle.laws.proofs.Counting.{count-most, count-map}
 use Rattle.laws.proofs.Sums.{sum-ext, sum-same}
 use Rattle.laws.proofs.Bags.{length-single, getD-single}
 use Rattle.laws.proofs.Columns.{sum-plus, sum-within, sum-at-most, length-flatMap, sum-by-columns, count-by-columns, support-few, sum-apart, count-standing}
@@ -22,7 +21,7 @@ use Rattle.model.specs.Answer.{accepted}
 use Rattle.model.specs.Card.{Atom, Schema, Task, between}
 use Rattle.model.specs.Writer.{checkTask}
 use Rattle.model.specs.Transitions.{Property, propertiesFrom, properties, occurs, bagOf, Transition, exchanges, remaining, rulesOf, parameterRules, transitions}
-use Rattle.model.proofs.Buffer.{Checked, CheckedSchema, checked, between-high}
+use Rattle.model.proofs.Checked.{Checked, CheckedSchema, checked, between-high}
 
 -- the properties of one predicate
 block : ℕ → ℕ → List Property

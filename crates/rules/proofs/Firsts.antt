@@ -7,7 +7,7 @@ use lib.ListN.{length, getD, take, set, replicate, length-map}
 use lib.Seq.{take-take, length-take-le}
 use Rattle.laws.specs.Lists.{from, upTo, sum}
 use Rattle.laws.proofs.Lists.{length-upTo, upTo-at}
-use Rattle.laws.proofs.Counting.{map-ext}
+use Rattle.laws.proofs.Mapped.{map-ext}
 use Rattle.laws.proofs.Fronts.{fill-next, sum-take-next}
 use Rattle.model.proofs.RuleCount.{length-properties}
 use Rattle.card.specs.Represents.{padded}

@@ -13,7 +13,7 @@ use Rattle.laws.proofs.Lists.{all-at, mem-getD, length-upTo, getD-upTo}
 use Rattle.laws.proofs.Fronts.{sum-take-next, sum-take-all}
 use Rattle.model.specs.Card as model
 use Rattle.model.specs.Card.{between}
-use Rattle.model.proofs.Buffer.{between-low, between-high}
+use Rattle.model.proofs.Checked.{between-low, between-high}
 use Rattle.model.proofs.RuleCount.{sum-all}
 use Rattle.card.specs.declared.Atom.{Atom}
 use Rattle.card.specs.declared.ArityList.{ArityList}

@@ -15,7 +15,7 @@ use Rattle.laws.proofs.Lists.{all-at, all-intro, mem-getD}
 use Rattle.model.specs.Card as model
 use Rattle.model.specs.Writer.{known}
 use Rattle.model.specs.Transitions.{properties, parameterRules, transitions}
-use Rattle.model.proofs.Buffer.{Checked, CheckedSchema, CheckedList, checked}
+use Rattle.model.proofs.Checked.{Checked, CheckedSchema, CheckedList, checked}
 use Rattle.card.specs.declared.Atom.{Atom}
 use Rattle.card.specs.declared.Schema.{Schema}
 use Rattle.card.specs.declared.AtomList.{AtomList}

@@ -9,7 +9,7 @@ use borrow.Author.Tests.{ltb-true, ltb-false, le-ltb, ne-eqb}
 use Rattle.laws.specs.Lists.{keep, upTo}
 use Rattle.laws.specs.Bags.{Bag, less, meet, single, support, isEmpty}
 use Rattle.laws.proofs.Tests.{by-test, same-test, cond-false}
-use Rattle.laws.proofs.Counting.{map-ext}
+use Rattle.laws.proofs.Mapped.{map-ext}
 use Rattle.laws.proofs.Fronts.{keep-rest, map-parts}
 use Rattle.laws.proofs.Bags.{length-less, length-meet, length-single, getD-less, getD-meet, getD-single, isEmpty-at, isEmpty-intro, support-at}
 use Rattle.model.specs.Transitions.{Transition, exchanges, remaining, rulesOf}

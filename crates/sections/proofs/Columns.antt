@@ -8,7 +8,7 @@ use borrow.Author.Tests.{eq-eqb, ne-eqb}
 use lib.ListN.{length, getD, length-append}
 use Rattle.laws.specs.Bags.{Bag}
 use Rattle.laws.specs.Lists.{keep, upTo}
-use Rattle.laws.proofs.Counting.{map-ext}
+use Rattle.laws.proofs.Mapped.{map-ext}
 use Rattle.laws.proofs.Lists.{upTo-at}
 use Rattle.laws.proofs.Walks.{left, left-all, left-one, left-none, kept-all, kept-passes, kept-fails}
 use Rattle.model.specs.Lines.{largest, countOf}

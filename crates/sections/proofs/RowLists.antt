@@ -6,7 +6,7 @@ use mathlib.Core.List.{List, [], _∷_, List·Memᴰ, List·Memᴰ·head, List·
 use lib.ListN.{length, getD, length-map}
 use Rattle.laws.specs.Bags.{Bag, contains, strictlyContains}
 use Rattle.laws.specs.Lists.{any, keep, upTo}
-use Rattle.laws.proofs.Groups.{getD-map}
+use Rattle.laws.proofs.Mapped.{getD-map}
 use Rattle.laws.proofs.Lists.{length-upTo, getD-upTo, upTo-at}
 use Rattle.model.specs.Lines.{minimal, excluded}
 use Rattle.sections.specs.Rows.{bagAt, bagsIn}

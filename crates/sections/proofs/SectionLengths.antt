@@ -8,7 +8,7 @@ use lib.Dec.{leb}
 use lib.ListN.{length, getD, length-append}
 use Rattle.laws.specs.Bags.{Bag}
 use Rattle.laws.specs.Lists.{keep}
-use Rattle.laws.proofs.Groups.{count-most}
+use Rattle.laws.proofs.Counting.{count-most}
 use Rattle.laws.proofs.Lists.{keep-at, length-keep, flatMap-append}
 use Rattle.model.specs.Lines.{state, limit, membership, exclusion, exclusions, excluded, largest, countOf}
 use Rattle.model.specs.Text.{lineText, text}

@@ -9,7 +9,7 @@ use lib.Seq.{take-at, drop-append-add}
 use Rattle.laws.specs.Lists.{upTo}
 use Rattle.laws.specs.Bags.{Bag}
 use Rattle.laws.proofs.Lists.{length-upTo, getD-upTo, upTo-at}
-use Rattle.laws.proofs.Groups.{getD-map, map-ext}
+use Rattle.laws.proofs.Mapped.{getD-map, map-ext}
 use Rattle.laws.proofs.Walks.{listed}
 use Rattle.model.specs.Card.{Task}
 use Rattle.model.specs.Transitions.{Transition, properties, bagOf, transitions}

@@ -10,9 +10,9 @@ use lib.Seq.{ext-getD, getD-set-same, getD-set-other}
 use borrow.Author.Tests.{eqb-true, eqb-false, eq-eqb}
 use Rattle.laws.specs.Lists.{any, all, keep, upTo}
 use Rattle.laws.specs.Bags.{isEmpty, support}
-use Rattle.laws.proofs.Tests.{by-test, same-test, and-left, and-right, and-intro, and-false-left, or-assoc, and-assoc, and-neutral}
+use Rattle.laws.proofs.Tests.{by-test, same-test, and-left, and-right, and-intro, and-false-left, or-assoc, and-assoc, and-neutral, or-neutral}
 use Rattle.laws.proofs.Lists.{any-at, any-intro, length-upTo, getD-upTo, upTo-at, upTo-intro}
-use Rattle.laws.proofs.Groups.{or-neutral, getD-map, map-ext, keep-ext}
+use Rattle.laws.proofs.Mapped.{getD-map, map-ext, keep-ext}
 use Rattle.laws.proofs.Masks.{mask, mask-and, mask-or, mask-none, mask-one, mask-all}
 use Rattle.model.specs.Transitions.{Transition}
 use Rattle.model.specs.Spaces.{moved}

@@ -12,7 +12,7 @@ use Rattle.laws.specs.Bags.{plus, support, isEmpty}
 use Rattle.laws.proofs.Tests.{by-test}
 use Rattle.laws.proofs.Lists.{upTo-at, upTo-intro, keep-at, keep-intro}
 use Rattle.laws.proofs.Bags.{getD-plus, length-plus, isEmpty-at, isEmpty-intro}
-use Rattle.laws.proofs.Groups.{keep-ext}
+use Rattle.laws.proofs.Mapped.{keep-ext}
 use Rattle.laws.proofs.Walks.{left, kept-passes, kept-fails, kept-none}
 use Rattle.spaces.specs.Steps.{bagAt, movedAt, firstOr}
 

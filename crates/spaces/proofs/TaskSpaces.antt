@@ -12,7 +12,9 @@ use Rattle.laws.specs.Lists.{any, all, keep, upTo, member}
 use Rattle.laws.specs.Bags.{Bag, isEmpty, support, restrict}
 use Rattle.laws.proofs.Tests.{by-test, same-test, and-left, and-right, and-intro, and-swap, not-true, to-not-true}
 use Rattle.laws.proofs.Lists.{any-at, any-intro, keep-at, keep-intro, upTo-at, upTo-intro, member-at, member-intro, mem-getD, place-of}
-use Rattle.laws.proofs.Groups.{any-ext, all-ext, keep-ext, map-ext, member-keep-upTo, repeat}
+use Rattle.laws.proofs.Mapped.{any-ext, all-ext, keep-ext, map-ext}
+use Rattle.laws.proofs.Numbers.{member-keep-upTo}
+use Rattle.laws.proofs.Closure.{repeat}
 use Rattle.laws.proofs.Bags.{isEmpty-at, isEmpty-not, length-restrict, getD-restrict, support-at, support-intro}
 use Rattle.laws.proofs.Masks.{mask}
 use Rattle.laws.proofs.Walks.{any-keep}

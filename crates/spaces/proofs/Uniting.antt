@@ -11,7 +11,7 @@ use borrow.Author.Tests.{eqb-true, eqb-false, eq-eqb, ne-eqb}
 use Rattle.laws.specs.Lists.{upTo}
 use Rattle.laws.proofs.Lists.{length-upTo, upTo-at}
 use Rattle.laws.proofs.Tests.{cond-true, cond-false, or-cases, or-left, or-right, by-test}
-use Rattle.laws.proofs.Groups.{map-ext}
+use Rattle.laws.proofs.Mapped.{map-ext}
 use Rattle.laws.proofs.Walks.{changed, changed-at, changed-next, changed-left}
 use Rattle.model.specs.Spaces.{unite, uniteAll, moved, grouping}
 use Rattle.model.proofs.Grouping.{length-unite, uniteAll-keeps}

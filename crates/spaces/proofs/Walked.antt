@@ -6,7 +6,7 @@ use lib.Bits.{bitAnd}
 use lib.Count.{ones, trailingZeros}
 use lib.ListN.{length, getD, length-map}
 use Rattle.laws.specs.Lists.{upTo}
-use Rattle.laws.proofs.Groups.{getD-map}
+use Rattle.laws.proofs.Mapped.{getD-map}
 use Rattle.laws.proofs.Masks.{Ascending, keep-ascending, trailing-mask, without-first, ones-mask, mask-some}
 use Rattle.model.specs.Card.{Task}
 use Rattle.model.specs.Spaces.{Space, spaces}
