@@ -1,0 +1,48 @@
+-- Demand 2 on the calls: a card that is read and written again has its own bytes, and a table that is written and read again is that table.
+use Prim.Native.Nat.{ℕ, _≤_}
+use mathlib.Core.Path.{_≡_, refl, sym, ap, _∙_, subst}
+use mathlib.Core.Bool.{true}
+use mathlib.Core.List.{List, _++_}
+use lib.ListN.{length, take, drop}
+use Rattle.model.specs.Answer.{Answer, accepted}
+use Rattle.model.specs.Card as model
+use Rattle.model.specs.Calls.{encode, outputBytes}
+use Rattle.model.proofs.CardSize.{areBytes}
+use Rattle.model.proofs.RoundTrip.{round-trip}
+use Rattle.card.specs.Represents.{Decodes, answerOf, taskBeside, taskFor, taskOf}
+use Rattle.card.specs.declared.Decoded.{Decoded}
+use Rattle.card.specs.declared.Task.{Task}
+use Rattle.card.specs.declared.Verdict.the-variants.{Accepted}
+use Rattle.writer.specs.Tables.{Encodes, tableOf, writingSays}
+use Rattle.writer.specs.declared.Writing.{Writing}
+use Rattle.promises.proofs.Kept.{table-is-task}
+
+-- what an accepted verdict says: the task beside it is the card's, and is kept as its table
+pub accepted-task : (card : List ℕ) (d : Decoded) → Decodes card d → d .verdict ≡ Accepted → model.decode card ≡ accepted (taskOf (d .task))
+unfolding answerOf
+accepted-task card d r e = sym (r .answer) ∙ ap (λ v. answerOf v (d .task)) e
+
+pub kept-table : (card : List ℕ) (d : Decoded) → Decodes card d → d .verdict ≡ Accepted → tableOf (d .task) ≡ taskOf (d .task)
+unfolding taskBeside
+kept-table card d r e =
+    let kept : d .task ≡ taskFor (taskOf (d .task)) = r .kept ∙ ap taskBeside (accepted-task card d r e) in
+    ap tableOf kept ∙ table-is-task (taskOf (d .task)) ∙ sym (ap taskOf kept)
+
+-- an accepted card written again has its own bytes
+pub read-then-written : (card out after : List ℕ) (d : Decoded) (w : Writing) → areBytes card ≡ true → Decodes card d
+    → d .verdict ≡ Accepted → Encodes (d .task) out after w → outputBytes ≤ length out
+    → (writingSays w ≡ accepted (length card)) × (after ≡ card ++ drop (length card) out)
+read-then-written card out after d w bytes r e written room =
+    let again = round-trip .card-again card bytes (taskOf (d .task)) (accepted-task card d r e) out room in
+    let same = kept-table card d r e in (
+      written .answer ∙ ap (λ t. encode t out .answer) same ∙ ap (λ c. c .answer) again,
+      written .buffer ∙ ap (λ t. encode t out .buffer) same ∙ ap (λ c. c .buffer) again,
+    )
+
+-- a table that the writer accepts, read again, is that table
+pub written-then-read : (task : Task) (out after : List ℕ) (w : Writing) (n : ℕ) (d : Decoded) → Encodes task out after w
+    → writingSays w ≡ accepted n → Decodes (take n after) d → answerOf (d .verdict) (d .task) ≡ accepted (tableOf task)
+written-then-read task out after w n d written e r =
+    r .answer
+    ∙ ap (λ (b : List ℕ). model.decode (take n b)) (written .buffer)
+    ∙ round-trip .table-again (tableOf task) out n (sym (written .answer) ∙ e)

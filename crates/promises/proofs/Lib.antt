@@ -1,0 +1,3 @@
+pub mod Kept
+pub mod Cards
+pub mod Histories
