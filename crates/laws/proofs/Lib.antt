@@ -6,3 +6,5 @@ pub mod Counting
 pub mod Groups
 pub mod Orders
 pub mod Reading
+pub mod Fronts
+pub mod Columns

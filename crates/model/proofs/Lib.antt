@@ -15,6 +15,7 @@ pub mod SpaceFacts
 pub mod Putting
 pub mod Binding
 pub mod Effect
+pub mod RuleCount
 pub mod Choices
 pub mod OwnLists
 pub mod Chain
