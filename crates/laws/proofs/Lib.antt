@@ -8,3 +8,4 @@ pub mod Orders
 pub mod Reading
 pub mod Fronts
 pub mod Columns
+pub mod Masks
