@@ -1,2 +1,5 @@
 pub mod Filling
 pub mod Owning
+pub mod Rows
+pub mod Passing
+pub mod Sorting
