@@ -6,6 +6,8 @@ use native.Mathlib.Omega.{arith}
 use mathlib.Core.Path.{_≡_, refl, sym, ap, _∙_, subst}
 use mathlib.Core.Bool.{Bool, true, false}
 use mathlib.Core.List.{List, [], _∷_, _++_, map, flatMap, append-assoc, append-nil, List·Memᴰ, List·Memᴰ·head, List·Memᴰ·tail}
+use mathlib.Core.List.{List·Memᴰ·not-nil, List·Memᴰ·append-cases, List·Memᴰ·eq-of-singleton}
+use mathlib.Core.Logic.{⊎-elim}
 use lib.Dec.{ltb}
 use lib.ListN.{length, getD, take, drop, replicate, length-append, length-replicate, length-map, length-drop, getD-replicate, List·getD-append, List·getD-eq-default}
 use lib.Seq.{paste, take-at, drop-at, drop-drop, getD-append-add, take-append-le, take-all, getD-drop}
@@ -105,3 +107,13 @@ row-count (b ∷ bags) rest (suc i) c h k l =
     ∙ ap (λ (n : ℕ). getD (row b ++ (flatMap row bags ++ rest)) n 0) (the (60 * suc i + c ≡ length (row b) + (60 * i + c)) (omega arith))
     ∙ getD-append-add (row b) (flatMap row bags ++ rest) (60 * i + c) 0
     ∙ row-count bags rest i c (λ x m. h x (List·Memᴰ·tail m)) (omega arith) l
+
+-- one bag more
+pub narrow-none : Narrow []
+unfolding Narrow
+narrow-none b m = absurd (List·Memᴰ·not-nil m)
+
+pub narrow-next : (bags : List Bag) (b : Bag) → Narrow bags → length b ≤ 60 → Narrow (bags ++ (b ∷ []))
+unfolding Narrow
+narrow-next bags b h k x m =
+    ⊎-elim (h x) (λ j. subst (λ (y : Bag). length y ≤ 60) (sym (List·Memᴰ·eq-of-singleton j)) k) (List·Memᴰ·append-cases bags m)
