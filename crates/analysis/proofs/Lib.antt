@@ -3,3 +3,4 @@ pub mod Owning
 pub mod Rows
 pub mod Passing
 pub mod Sorting
+pub mod Comparing
