@@ -4,3 +4,5 @@ pub mod Rows
 pub mod Passing
 pub mod Sorting
 pub mod Comparing
+pub mod Masks
+pub mod Walking

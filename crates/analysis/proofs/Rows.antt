@@ -1,6 +1,6 @@
 -- Rows of tables: a row's length and counts, rows written behind others, and rows read back.
 use Prim.Native.Nat.{ℕ, zero, suc, _+_, _-_, _*_, _≤_, _<_}
-use native.Mathlib.Nat.{mul-suc, add-zero, mul-zero}
+use native.Mathlib.Nat.{mul-zero, zero-add}
 use native.Mathlib.Numerals.{add-one}
 use native.Mathlib.Omega.{arith}
 use mathlib.Core.Path.{_≡_, refl, sym, ap, _∙_, subst}
@@ -10,13 +10,16 @@ use mathlib.Core.List.{List·Memᴰ·not-nil, List·Memᴰ·append-cases, List·
 use mathlib.Core.Logic.{⊎-elim}
 use lib.Dec.{ltb}
 use lib.ListN.{length, getD, take, drop, replicate, length-append, length-replicate, length-map, length-drop, getD-replicate, List·getD-append, List·getD-eq-default}
-use lib.Seq.{paste, take-at, drop-at, drop-drop, getD-append-add, take-append-le, take-all, getD-drop}
+use lib.Seq.{paste, take-at, drop-at, drop-drop, getD-append-add, take-all, getD-drop, getD-take, length-take-le, ext-getD}
 use borrow.Author.Tests.{ltb-true, ltb-false}
 use Rattle.laws.specs.Lists.{from, upTo}
 use Rattle.laws.specs.Bags.{Bag}
 use Rattle.laws.proofs.Tests.{by-test}
-use Rattle.laws.proofs.Lists.{flatMap-append}
+use Rattle.laws.proofs.Lists.{flatMap-append, mem-getD, length-from, getD-from}
+use Rattle.laws.proofs.Groups.{getD-map}
+use Rattle.laws.proofs.Bags.{bag-ext}
 use Rattle.rules.specs.Tables.{stride, row, rows, rowsBefore}
+use Rattle.extension.specs.Rows.{bagAt, bagsFrom, bagsIn}
 use Rattle.analysis.proofs.Filling.{the}
 
 -- ---- one row
@@ -117,3 +120,67 @@ pub narrow-next : (bags : List Bag) (b : Bag) → Narrow bags → length b ≤ 6
 unfolding Narrow
 narrow-next bags b h k x m =
     ⊎-elim (h x) (λ j. subst (λ (y : Bag). length y ≤ 60) (sym (List·Memᴰ·eq-of-singleton j)) k) (List·Memᴰ·append-cases bags m)
+
+-- bags of one length
+abbrev pub Sized : ℕ → List Bag → Type 0
+Sized n bags = (b : Bag) → List·Memᴰ b bags → length b ≡ n
+
+pub sized-none : (n : ℕ) → Sized n []
+sized-none n b m = absurd (List·Memᴰ·not-nil m)
+
+pub sized-next : (n : ℕ) (bags : List Bag) (b : Bag) → Sized n bags → length b ≡ n → Sized n (bags ++ (b ∷ []))
+sized-next n bags b h k x m =
+    ⊎-elim (h x) (λ j. ap length (List·Memᴰ·eq-of-singleton j) ∙ k) (List·Memᴰ·append-cases bags m)
+
+pub sized-narrow : (n : ℕ) (bags : List Bag) → n ≤ 60 → Sized n bags → Narrow bags
+unfolding Narrow
+sized-narrow n bags k h b m = omega (arith, h b m)
+
+-- the bag of a row of a table that begins with rows
+row-bag : (n : ℕ) (bags : List Bag) (rest : List ℕ) (i : ℕ) → n ≤ 60 → Sized n bags → i < length bags
+    → bagAt n (rows bags ++ rest) (stride * i) ≡ getD bags i []
+unfolding bagAt
+row-bag n bags rest i k h l =
+    let table = rows bags ++ rest in
+    let narrow = sized-narrow n bags k h in
+    let room : 60 * i + 60 ≤ length table = omega (arith, length-append (rows bags) rest, length-rows bags narrow) in
+    bag-ext n (take n (drop (60 * i) table)) (getD bags i [])
+    (length-take-le n (drop (60 * i) table) (omega (arith, length-drop (60 * i) table)))
+    (h (getD bags i []) (mem-getD bags i [] l))
+    (λ c m.
+    getD-take n (drop (60 * i) table) c 0 m ∙ getD-drop (60 * i) table c 0 ∙ row-count bags rest i c narrow l (omega arith))
+
+-- all rows
+pub rows-back : (n : ℕ) (bags : List Bag) (rest : List ℕ) → n ≤ 60 → Sized n bags → bagsIn n (length bags) (rows bags ++ rest) ≡ bags
+unfolding bagsIn bagsFrom
+rows-back n bags rest k h =
+    let f : ℕ → Bag = λ i. bagAt n (rows bags ++ rest) (stride * i) in
+    let sized : length (map f (from 0 (length bags))) ≡ length bags = length-map (from 0 (length bags)) f ∙ length-from 0 (length bags) in
+    ext-getD [] (map f (from 0 (length bags))) bags sized
+    (λ i l.
+    getD-map f (from 0 (length bags)) i 0 [] (omega (arith, length-from 0 (length bags)))
+    ∙ ap f (getD-from 0 (length bags) i 0 (omega arith) ∙ zero-add i)
+    ∙ row-bag n bags rest i k h (omega arith))
+
+pub rows-before-back : (n : ℕ) (bags : List Bag) (before : List ℕ) → n ≤ 60 → Sized n bags
+    → bagsIn n (length bags) (rowsBefore bags before) ≡ bags
+unfolding rowsBefore
+rows-before-back n bags before k h = rows-back n bags (drop (stride * length bags) before) k h
+
+-- ---- rows kept at the front of a table, which is as long as it was
+pub record Kept (bags : List Bag) (before now : List ℕ) : Type 0 where
+  pub narrow : Narrow bags
+  pub is : now ≡ rowsBefore bags before
+  pub long : length now ≡ length before
+
+pub kept-none : (before : List ℕ) → Kept [] before before
+kept-none before = record { narrow = narrow-none; is = rows-before-none before; long = refl }
+
+pub kept-next : (bags : List Bag) (b : Bag) (before now last : List ℕ) (at : ℕ) → Kept bags before now → length b ≤ 60 → at ≡ 60 * length bags
+    → last ≡ paste now at (row b) 60 → length last ≡ length now → Kept (bags ++ (b ∷ [])) before last
+kept-next bags b before now last at h k e p l =
+    record {
+      narrow = narrow-next bags b (h .narrow) k;
+      is = p ∙ ap (λ (t : List ℕ). paste t at (row b) 60) (h .is) ∙ rows-before-next bags b before at (h .narrow) k e;
+      long = l ∙ h .long;
+    }
