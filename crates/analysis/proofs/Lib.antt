@@ -6,3 +6,4 @@ pub mod Sorting
 pub mod Comparing
 pub mod Masks
 pub mod Walking
+pub mod Seen
