@@ -7,3 +7,5 @@ pub mod Comparing
 pub mod Masks
 pub mod Walking
 pub mod Seen
+pub mod Givens
+pub mod Places

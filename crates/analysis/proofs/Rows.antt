@@ -46,7 +46,7 @@ getD-row b j = behind b (stride - length b) j
 -- ---- rows in sequence
 
 -- bags of at most 60 counts
-pub Narrow : List Bag → Type 0
+unfoldable pub Narrow : List Bag → Type 0
 Narrow bags = (b : Bag) → List·Memᴰ b bags → length b ≤ 60
 
 pub length-rows : (bags : List Bag) → Narrow bags → length (rows bags) ≡ 60 * length bags
@@ -137,7 +137,7 @@ unfolding Narrow
 sized-narrow n bags k h b m = omega (arith, h b m)
 
 -- the bag of a row of a table that begins with rows
-row-bag : (n : ℕ) (bags : List Bag) (rest : List ℕ) (i : ℕ) → n ≤ 60 → Sized n bags → i < length bags
+pub row-bag : (n : ℕ) (bags : List Bag) (rest : List ℕ) (i : ℕ) → n ≤ 60 → Sized n bags → i < length bags
     → bagAt n (rows bags ++ rest) (stride * i) ≡ getD bags i []
 unfolding bagAt
 row-bag n bags rest i k h l =
