@@ -9,3 +9,4 @@ pub mod Walking
 pub mod Seen
 pub mod Givens
 pub mod Places
+pub mod Analysing
