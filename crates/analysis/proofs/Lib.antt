@@ -10,3 +10,4 @@ pub mod Seen
 pub mod Givens
 pub mod Places
 pub mod Analysing
+pub mod Whole
