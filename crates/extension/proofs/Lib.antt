@@ -1,3 +1,15 @@
 pub mod Rows
 pub mod Comparing
 pub mod ComparingAll
+pub mod Containing
+pub mod Writing
+pub mod Choosing
+pub mod Turning
+pub mod Judging
+pub mod Remaining
+pub mod Searching
+pub mod Appending
+pub mod Tables
+pub mod Exploring
+pub mod Joining
+pub mod Extending

@@ -1,3 +1,6 @@
 pub mod Extended
 pub mod Rows
 pub mod Comparing
+pub mod Choosing
+pub mod Searching
+pub mod Joining
