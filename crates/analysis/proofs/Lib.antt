@@ -11,3 +11,4 @@ pub mod Givens
 pub mod Places
 pub mod Analysing
 pub mod Whole
+pub mod Extending
