@@ -9,3 +9,4 @@ pub mod Reading
 pub mod Fronts
 pub mod Columns
 pub mod Masks
+pub mod Walks

@@ -1,22 +1,27 @@
 -- Masks: a number as the set of the places of its ones in binary. How many there are, which is the first, what is left without it,
 -- and what two masks have in common or together.
-use Prim.Native.Nat.{ℕ, zero, suc, _+_, _-_, _*_, _/_, _%_, _^_, _≤_, _<_, min, max, zero-le, suc-le-suc}
-use native.Mathlib.Nat.{le-of-suc-le-suc, not-suc-le-zero, zero-mul, one-mul, mul-one, mul-assoc, add-mul, pow-suc, pow-succ', add-comm, add-zero, zero-add}
+use Prim.Native.Nat.{ℕ, zero, suc, _+_, _-_, _*_, _/_, _%_, _^_, _≤_, _<_, min, max}
+use native.Mathlib.Nat.{le-of-suc-le-suc, not-suc-le-zero}
+use native.Mathlib.Nat.{zero-mul, one-mul, mul-one, mul-assoc, add-mul, pow-suc, pow-succ', add-comm, add-zero, zero-add}
 use native.Mathlib.Numerals.{add-one}
 use native.Mathlib.Omega.{arith}
 use mathlib.Core.Path.{_≡_, refl, sym, ap, ap₂, _∙_, subst, fun-ext}
 use mathlib.Core.Bool.{Bool, true, false, cond, _&&_, _||_}
-use mathlib.Core.List.{List, [], _∷_, map, List·Memᴰ}
+use mathlib.Core.List.{List, [], _∷_, map}
 use lib.Dec.{eqb, eqb·zero-suc, eqb·suc-zero, eqb·suc-suc}
 use lib.ListN.{length}
 use lib.Bits.{bitAnd, bitOr, and-step, or-step, and-block, and-self, and-shifted, shifted-half, shifted-even}
 use lib.Count.{ones, ones-cat, trailingZeros, under}
-use lib.Pow.{pow-pos, pow-lt, pow-add, ones-lt}
-use Rattle.laws.specs.Lists.{keep, from, upTo, sum, count}
+use lib.Pow.{shl-exact, pow-pos, pow-lt, pow-add, ones-lt}
+use Rattle.laws.specs.Lists.{keep, from, upTo, sum}
 
 -- the mask of a list of numbers: a one at the place of each
 abbrev pub mask : List ℕ → ℕ
 mask os = sum (map (λ o. 2 ^ o) os)
+
+-- the mask of one number is a one shifted to its place
+pub one-shifted : (width o : ℕ) → o < width → (1 * 2 ^ o) % 2 ^ width ≡ 2 ^ o
+one-shifted width o h = shl-exact {a = 1} 1 o width (omega arith) (omega arith) ∙ one-mul (2 ^ o)
 
 -- The numbers ascend, the first of them n or more.
 abbrev pub Ascending : ℕ → List ℕ → Type 0

@@ -96,3 +96,21 @@ cond-false false x y e = refl
 pub by-test : {A : Type 0} (a : Bool) → (a ≡ true → A) → (a ≡ false → A) → A
 by-test true f g = f refl
 by-test false f g = g refl
+
+-- tests regrouped, and a test that always passes left out
+pub or-assoc : (a b c : Bool) → ((a || b) || c) ≡ (a || (b || c))
+or-assoc true b c = refl
+or-assoc false b c = refl
+
+pub and-assoc : (a b c : Bool) → ((a && b) && c) ≡ (a && (b && c))
+and-assoc true b c = refl
+and-assoc false b c = refl
+
+pub and-swap : (a b c : Bool) → (a && (b && c)) ≡ (b && (a && c))
+and-swap true b c = refl
+and-swap false true c = refl
+and-swap false false c = refl
+
+pub and-neutral : (a : Bool) → (a && true) ≡ a
+and-neutral true = refl
+and-neutral false = refl

@@ -82,12 +82,12 @@ label-unite : (c : ℕ) (groups : List ℕ) (d x : ℕ) → x < length groups
 unfolding unite merged
 label-unite c groups d x h = getD-map _ groups x 0 0 h
 
-length-unite : (c : ℕ) (groups : List ℕ) (d : ℕ) → length (unite c groups d) ≡ length groups
+pub length-unite : (c : ℕ) (groups : List ℕ) (d : ℕ) → length (unite c groups d) ≡ length groups
 unfolding unite
 length-unite c groups d = length-map groups _
 
 -- what bringing any two properties of a list together keeps, bringing all of them together keeps
-uniteAll-keeps : (Holds : List ℕ → Type 0) (cs : List ℕ)
+pub uniteAll-keeps : (Holds : List ℕ → Type 0) (cs : List ℕ)
     → ((groups : List ℕ) (c d : ℕ) → List·Memᴰ c cs → List·Memᴰ d cs → Holds groups → Holds (unite c groups d))
     → (groups : List ℕ) → Holds groups → Holds (uniteAll groups cs)
 unfolding uniteAll
@@ -302,7 +302,7 @@ rulesOf-sized p d a ed ea r m =
     (length-less d (meet d a) (ed ∙ sym common) ∙ ed) (length-less a (meet d a) (ea ∙ sym common) ∙ ea) r)
     (List·Memᴰ·append-cases (exchanges p (meet d a)) m)
 
-length-bagOf : (cs : List Property) (atoms : List Atom) (x : ℕ) → length (bagOf cs atoms x) ≡ length cs
+pub length-bagOf : (cs : List Property) (atoms : List Atom) (x : ℕ) → length (bagOf cs atoms x) ≡ length cs
 unfolding bagOf
 length-bagOf cs atoms x = length-map cs _
 

@@ -1,1 +1,3 @@
 pub mod SpaceTable
+pub mod Steps
+pub mod Tabled

@@ -1,0 +1,91 @@
+-- The rounds left, done with the members so far, give the whole; a round that adds nothing is the last.
+use Prim.Native.Nat.{_≤_, _-_, zero-le}
+use native.Mathlib.Omega.{arith}
+use mathlib.Core.Path.{_≡_, refl, sym, _∙_}
+use borrow.Author.Needs.{needs}
+use lib.ListN.{length}
+use Rattle.laws.proofs.Lists.{same-eq}
+use Rattle.spaces.specs.Steps.{rulesIn, roundsOf}
+use Rattle.spaces.proofs.Gaining.{rounds-start, rounds-next, rounds-end, rounds-stop}
+use Rattle.spaces.proofs.members.close.Statement.{statement}
+use Rattle.spaces.proofs.members.close.Tie as tie
+
+abbrev Inv-loop : tie.InvT-loop
+Inv-loop groups enablers starts finishes count size objects rounds closed₀ counter₀ closed counter =
+    (counter ≤ rounds)
+    × (length closed ≡ 60)
+    × (roundsOf groups objects (rulesIn size count enablers starts finishes) (rounds - counter) closed
+    ≡ roundsOf groups objects (rulesIn size count enablers starts finishes) rounds closed₀)
+
+abbrev μ-loop : tie.MeasureT-loop
+μ-loop groups enablers starts finishes count size objects rounds closed₀ counter₀ closed counter = rounds - counter
+
+loop-holds : tie.Need-loop-holds Inv-loop μ-loop
+loop-holds c =
+    let a = c .before .before .before .before .args in
+    let rules = rulesIn (a .size) (a .count) (a .enablers .now) (a .starts .now) (a .finishes .now) in
+    (zero-le, search needs, rounds-start (a .groups .now) (a .objects) rules _ (a .rounds) (a .masks) refl)
+
+round-requires : tie.Need-round-requires Inv-loop μ-loop
+round-requires c κs = c .before .before .before .before .before .before .pre
+
+slice-aggregate-same-masks : tie.Need-slice-aggregate-same-masks Inv-loop μ-loop
+slice-aggregate-same-masks c = search needs
+
+slice-aggregate-same-masks-2 : tie.Need-slice-aggregate-same-masks-2 Inv-loop μ-loop
+slice-aggregate-same-masks-2 c = search needs
+
+same-masks-requires : tie.Need-same-masks-requires Inv-loop μ-loop
+same-masks-requires c κs = (search needs, search needs)
+
+returns : tie.Need-returns Inv-loop μ-loop
+returns c =
+    let head = c .before .before .before .before .before .before in
+    let a = head .before .before .before .before .before .args in
+    let rules = rulesIn (a .size) (a .count) (a .enablers .now) (a .starts .now) (a .finishes .now) in
+    let next = c .before .before .before .before .round in
+    rounds-stop (a .groups .now) (a .objects) rules _ (a .rounds) (head .loop .counter) (head .loop .closed)
+    (sym (next .ensures) ∙ sym (same-eq (head .loop .closed) (next .result) (sym (c .before .same-masks .ensures) ∙ c .if1 .taken)))
+    (head .loop .inv .2)
+
+add-counter : tie.Need-add-counter Inv-loop μ-loop
+add-counter c = omega arith
+
+loop-less : tie.Need-loop-less Inv-loop μ-loop
+loop-less c = omega arith
+
+loop-again : tie.Need-loop-again Inv-loop μ-loop
+loop-again c =
+    let head = c .before .before .before .before .before .before in
+    let a = head .before .before .before .before .before .args in
+    let rules = rulesIn (a .size) (a .count) (a .enablers .now) (a .starts .now) (a .finishes .now) in
+    let next = c .before .before .before .before .round in (
+      omega arith,
+      search needs,
+      rounds-next (a .groups .now) (a .objects) rules _ (a .rounds) (head .loop .counter) (head .loop .closed) (next .result)
+          (c .before .before .before .before .before .loop-test .taken) (next .ensures) (head .loop .inv .2),
+    )
+
+returns-2 : tie.Need-returns-2 Inv-loop μ-loop
+returns-2 c =
+    let head = c .before in
+    let a = head .before .before .before .before .before .args in
+    let rules = rulesIn (a .size) (a .count) (a .enablers .now) (a .starts .now) (a .finishes .now) in
+    rounds-end (a .groups .now) (a .objects) rules _ (a .rounds) (head .loop .counter) (head .loop .closed) (c .loop-test .left) (head .loop .inv .2)
+
+pub close-spec : {M : Type 1} → statement M
+close-spec =
+    tie.close
+    (tie.spec
+    Inv-loop
+    μ-loop
+    loop-holds
+    round-requires
+    slice-aggregate-same-masks
+    slice-aggregate-same-masks-2
+    same-masks-requires
+    returns
+    add-counter
+    loop-less
+    loop-again
+    returns-2)

@@ -1,0 +1,68 @@
+-- The objects left, joined with the masks so far, make the whole.
+use Prim.Native.Nat.{ℕ, _≤_, _-_, zero-le}
+use native.Mathlib.Omega.{arith}
+use mathlib.Core.Path.{_≡_, refl}
+use mathlib.Core.List.{List, foldl}
+use lib.ListN.{replicate}
+use Rattle.laws.proofs.Walks.{left, walk-starts, walk-next, walk-ends}
+use Rattle.spaces.specs.Steps.{openAt, opened}
+use Rattle.spaces.proofs.members.initial_members.Statement.{statement}
+use Rattle.spaces.proofs.members.initial_members.Tie as tie
+
+abbrev openNext : List ℕ → ℕ → List ℕ → List ℕ → ℕ → List ℕ
+openNext groups size counts masks o = openAt groups size counts o masks
+
+abbrev Inv-loop : tie.InvT-loop
+Inv-loop groups counts objects size masks₀ object₀ masks object =
+    (object ≤ objects) × (foldl (openNext groups size counts) masks (left object objects) ≡ opened groups size counts objects)
+
+abbrev μ-loop : tie.MeasureT-loop
+μ-loop groups counts objects size masks₀ object₀ masks object = objects - object
+
+loop-holds : tie.Need-loop-holds Inv-loop μ-loop
+unfolding opened
+loop-holds c =
+    let a = c .before .before .args in
+    let next = openNext (a .groups .now) (a .size) (a .counts .now) in
+    (zero-le, walk-starts next (opened (a .groups .now) (a .size) (a .counts .now) (a .objects)) (a .objects) (replicate 60 0) refl)
+
+open-object-requires : tie.Need-open-object-requires Inv-loop μ-loop
+open-object-requires c κs =
+    let pre = c .before .before .before .before .pre in
+    (pre .0, (omega arith, omega arith))
+
+add-object : tie.Need-add-object Inv-loop μ-loop
+add-object c = omega arith
+
+loop-less : tie.Need-loop-less Inv-loop μ-loop
+loop-less c = omega arith
+
+loop-again : tie.Need-loop-again Inv-loop μ-loop
+loop-again c =
+    let head = c .before .before in
+    let a = head .before .before .before .args in
+    let next = openNext (a .groups .now) (a .size) (a .counts .now) in (
+      omega arith,
+      walk-next next (opened (a .groups .now) (a .size) (a .counts .now) (a .objects)) (a .objects) (head .loop .object) (head .loop .masks)
+          (c .open-object .result) (c .before .loop-test .taken) (c .open-object .ensures) (head .loop .inv .1),
+    )
+
+returns : tie.Need-returns Inv-loop μ-loop
+returns c =
+    let head = c .before in
+    let a = head .before .before .before .args in
+    walk-ends (openNext (a .groups .now) (a .size) (a .counts .now)) (opened (a .groups .now) (a .size) (a .counts .now) (a .objects))
+    (a .objects) (head .loop .object) (head .loop .masks) (c .loop-test .left) (head .loop .inv .1)
+
+pub initial-members-spec : {M : Type 1} → statement M
+initial-members-spec =
+    tie.close
+    (tie.spec
+    Inv-loop
+    μ-loop
+    loop-holds
+    open-object-requires
+    add-object
+    loop-less
+    loop-again
+    returns)

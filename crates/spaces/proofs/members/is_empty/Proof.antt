@@ -1,0 +1,71 @@
+-- No count so far is other than 0.
+use Prim.Native.Nat.{ℕ, _≤_, _-_, _<_, _+_, _*_, zero-le}
+use native.Mathlib.Nat.{le-trans}
+use native.Mathlib.Omega.{arith}
+use mathlib.Core.Path.{_≡_, sym}
+use borrow.Author.Count.{below-none, below-more}
+use lib.ListN.{getD}
+use Rattle.spaces.proofs.Rows.{row-empty, row-used}
+use Rattle.spaces.proofs.members.is_empty.Statement.{statement}
+use Rattle.spaces.proofs.members.is_empty.Tie as tie
+
+abbrev Inv-loop : tie.InvT-loop
+Inv-loop table row size at c₀ c = (c ≤ size) × ((k : ℕ) → k < c → getD table (60 * row + k) 0 ≡ 0)
+
+abbrev μ-loop : tie.MeasureT-loop
+μ-loop table row size at c₀ c = size - c
+
+mul-at : tie.Need-mul-at Inv-loop μ-loop
+mul-at c = omega arith
+
+loop-holds : tie.Need-loop-holds Inv-loop μ-loop
+loop-holds c = (zero-le, below-none _)
+
+add-if1 : tie.Need-add-if1 Inv-loop μ-loop
+add-if1 c = omega arith
+
+shared-slice-read-if1 : tie.Need-shared-slice-read-if1 Inv-loop μ-loop
+shared-slice-read-if1 c = omega arith
+
+returns : tie.Need-returns Inv-loop μ-loop
+returns c =
+    let head = c .before .before .before in
+    let start = head .before in
+    let a = start .args in
+    sym
+    (row-used (a .size) (start .pre .0) (a .row) (a .table .now) (start .pre .1) (head .loop .c) (c .before .before .loop-test .taken)
+    (c .if1 .taken))
+
+add-c : tie.Need-add-c Inv-loop μ-loop
+add-c c = omega arith
+
+loop-less : tie.Need-loop-less Inv-loop μ-loop
+loop-less c = omega arith
+
+loop-again : tie.Need-loop-again Inv-loop μ-loop
+loop-again c = (omega arith, below-more _ _ (c .before .before .before .loop .inv .1) (c .if1 .left))
+
+returns-2 : tie.Need-returns-2 Inv-loop μ-loop
+returns-2 c =
+    let head = c .before in
+    let start = head .before in
+    let a = start .args in
+    sym
+    (row-empty (a .size) (start .pre .0) (a .row) (a .table .now) (start .pre .1)
+    (λ k h. head .loop .inv .1 k (le-trans h (c .loop-test .left))))
+
+pub is-empty-spec : {M : Type 1} → statement M
+is-empty-spec =
+    tie.close
+    (tie.spec
+    Inv-loop
+    μ-loop
+    mul-at
+    loop-holds
+    add-if1
+    shared-slice-read-if1
+    returns
+    add-c
+    loop-less
+    loop-again
+    returns-2)

@@ -1,0 +1,124 @@
+-- The steps in turn: grouping, labels, the members at first, the closing, and the masks by the number of their space.
+use Prim.Native.Nat.{ℕ, _≤_, _<_}
+use native.Mathlib.Omega.{arith}
+use mathlib.Core.Path.{_≡_, sym, ap, _∙_, subst}
+use mathlib.Core.List.{List, [], map}
+use lib.Dec.{eqb}
+use lib.ListN.{length, getD, take}
+use Rattle.laws.proofs.Walks.{keep-few}
+use Rattle.model.specs.Spaces.{grouping}
+use Rattle.card.specs.Represents.{padded}
+use Rattle.spaces.specs.Tabled.{Room, Grouped}
+use Rattle.spaces.specs.Steps.{rulesIn, labelled, roundsOf}
+use Rattle.spaces.proofs.Filling.{length-padded}
+use Rattle.spaces.proofs.Found.{rows-known, labelled-known, spaces-found}
+use borrow.Author.Needs.{needs}
+use Rattle.spaces.proofs.spaces_of.Statement.{statement}
+use Rattle.spaces.proofs.spaces_of.Tie as tie
+
+-- the labels that the grouping gave are below 60
+known : (size count : ℕ) → size ≤ 60 → (enablers starts finishes : List ℕ) → Room count enablers starts finishes
+    → (groups : List ℕ) → length groups ≡ 60 → groups ≡ padded 60 0 (grouping size (rulesIn size count [] starts finishes)) → Grouped size groups
+known size count narrow enablers starts finishes room groups full e =
+    record {
+      narrow = narrow;
+      filled = omega arith;
+      known =
+          λ c.
+          subst (λ (l : List ℕ). getD l c 0 < 60) (sym e)
+          (rows-known size count narrow [] starts finishes (room .starts-room) (room .finishes-room) c);
+    }
+
+grouping-requires : tie.Need-grouping-requires
+grouping-requires c κs = search needs
+
+slice-aggregate-labels-of : tie.Need-slice-aggregate-labels-of
+slice-aggregate-labels-of c = search needs
+
+labels-of-requires : tie.Need-labels-of-requires
+labels-of-requires c κs = search needs
+
+slice-aggregate-initial-members : tie.Need-slice-aggregate-initial-members
+slice-aggregate-initial-members c = search needs
+
+initial-members-requires : tie.Need-initial-members-requires
+initial-members-requires c κs =
+    let found = c .before .before .before .before in
+    let start = found .before .before .before .before .before in
+    let a = start .args in
+    let size : length (found .grouping .result) ≡ 60 = search needs in
+    let labels =
+    known (a .size) (a .rules) (start .pre .0 .0) (a .enablers .now) (a .starts .now) (a .finishes .now) (start .pre .1 .0)
+    (found .grouping .result) size (found .grouping .ensures []) in
+    (labels, (start .pre .0 .1, start .pre .1 .1))
+
+slice-aggregate-close : tie.Need-slice-aggregate-close
+slice-aggregate-close c = search needs
+
+close-requires : tie.Need-close-requires
+close-requires c κs =
+    let found = c .before .before .before .before .before .before in
+    let start = found .before .before .before .before .before in
+    let a = start .args in
+    let size : length (found .grouping .result) ≡ 60 = search needs in
+    let labels =
+    known (a .size) (a .rules) (start .pre .0 .0) (a .enablers .now) (a .starts .now) (a .finishes .now) (start .pre .1 .0)
+    (found .grouping .result) size (found .grouping .ensures []) in
+    (labels, (start .pre .0 .1, start .pre .1 .0))
+
+slice-aggregate-by-number : tie.Need-slice-aggregate-by-number
+slice-aggregate-by-number c = search needs
+
+slice-aggregate-by-number-2 : tie.Need-slice-aggregate-by-number-2
+slice-aggregate-by-number-2 c = search needs
+
+by-number-requires : tie.Need-by-number-requires
+unfolding labelled
+by-number-requires c κs =
+    let found = c .before .before .before .before .before .before .before in
+    let groups = found .before .before .grouping .result in
+    let start = found .before .before .before .before .before .before .before in
+    let labels = found .labels-of .ensures in
+    let few = keep-few (λ x. eqb (getD groups x 0) x) (start .args .size) in
+    let size = ap length (labels .1) ∙ length-padded 60 0 (labelled (start .args .size) groups) (omega arith) in (
+      (omega arith, omega arith),
+      (
+        omega (arith, c .before .before .close .ok),
+        λ k. subst (λ (l : List ℕ). getD l k 0 < 60) (sym (labels .1)) (labelled-known (start .args .size) (start .pre .0 .0) groups k),
+      ),
+    )
+
+returns : tie.Need-returns
+returns c t held =
+    let start = c .before .before .before .before .before .before .before .before .before .before .before .before .before .before .before in
+    let a = start .args in
+    let groups = c .before .before .before .before .before .before .before .before .before .before .grouping in
+    let labels = c .before .before .before .before .before .before .before .before .labels-of in
+    spaces-found t (a .size) (a .rules) (a .objects) (a .enablers .now) (a .starts .now) (a .finishes .now) (a .counts .now) held (start .pre .0 .0)
+    (groups .result) (labels .result .count) (labels .result .lowest) (c .by-number .result)
+    (groups .ensures (a .enablers .now)) (labels .ensures .0) (labels .ensures .1)
+    (c .by-number .ensures
+    ∙ ap
+    (λ (masks : List ℕ).
+    padded 60 0 (map (λ l. getD masks l 0) (take (labels .result .count) (labels .result .lowest))))
+    (c .before .before .before .close .ensures
+    ∙ ap
+    (roundsOf (groups .result) (a .objects) (rulesIn (a .size) (a .rules) (a .enablers .now) (a .starts .now) (a .finishes .now))
+    (labels .result .count))
+    (c .before .before .before .before .before .initial-members .ensures)))
+
+pub spaces-of-spec : {M : Type 1} → statement M
+spaces-of-spec =
+    tie.close
+    (tie.spec
+    grouping-requires
+    slice-aggregate-labels-of
+    labels-of-requires
+    slice-aggregate-initial-members
+    initial-members-requires
+    slice-aggregate-close
+    close-requires
+    slice-aggregate-by-number
+    slice-aggregate-by-number-2
+    by-number-requires
+    returns)
