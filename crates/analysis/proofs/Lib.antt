@@ -1,4 +1,3 @@
-pub mod Filling
 pub mod Owning
 pub mod Rows
 pub mod Passing

@@ -15,7 +15,7 @@ use Rattle.laws.specs.Lists.{sum}
 use Rattle.laws.proofs.Tests.{by-test}
 use Rattle.laws.proofs.Masks.{mask, Ascending, mask-some, trailing-mask, without-first}
 use Rattle.analysis.specs.Members.{onesFrom, objectsIn}
-use Rattle.analysis.proofs.Filling.{the}
+use Rattle.extension.proofs.Rows.{the}
 
 -- all numbers of a list are below n
 abbrev pub Under : ℕ → List ℕ → Type 0

@@ -17,10 +17,11 @@ use Rattle.laws.specs.Bags.{Bag}
 use Rattle.laws.proofs.Tests.{by-test}
 use Rattle.laws.proofs.Lists.{flatMap-append, mem-getD, length-from, getD-from}
 use Rattle.laws.proofs.Groups.{getD-map}
+use Rattle.laws.proofs.Places.{each-place}
 use Rattle.laws.proofs.Bags.{bag-ext}
 use Rattle.rules.specs.Tables.{stride, row, rows, rowsBefore}
 use Rattle.extension.specs.Rows.{bagAt, bagsFrom, bagsIn}
-use Rattle.analysis.proofs.Filling.{the}
+use Rattle.extension.proofs.Rows.{the}
 
 -- ---- one row
 
@@ -153,14 +154,7 @@ row-bag n bags rest i k h l =
 -- all rows
 pub rows-back : (n : ℕ) (bags : List Bag) (rest : List ℕ) → n ≤ 60 → Sized n bags → bagsIn n (length bags) (rows bags ++ rest) ≡ bags
 unfolding bagsIn bagsFrom
-rows-back n bags rest k h =
-    let f : ℕ → Bag = λ i. bagAt n (rows bags ++ rest) (stride * i) in
-    let sized : length (map f (from 0 (length bags))) ≡ length bags = length-map (from 0 (length bags)) f ∙ length-from 0 (length bags) in
-    ext-getD [] (map f (from 0 (length bags))) bags sized
-    (λ i l.
-    getD-map f (from 0 (length bags)) i 0 [] (omega (arith, length-from 0 (length bags)))
-    ∙ ap f (getD-from 0 (length bags) i 0 (omega arith) ∙ zero-add i)
-    ∙ row-bag n bags rest i k h (omega arith))
+rows-back n bags rest k h = each-place (λ i. bagAt n (rows bags ++ rest) (stride * i)) bags [] (λ i l. row-bag n bags rest i k h l)
 
 pub rows-before-back : (n : ℕ) (bags : List Bag) (before : List ℕ) → n ≤ 60 → Sized n bags
     → bagsIn n (length bags) (rowsBefore bags before) ≡ bags
