@@ -1,11 +1,11 @@
 -- The objects of a mask: a mask stands for one ascending list of objects, and its ones are their places.
 use Prim.Native.Nat.{ℕ, zero, suc, _+_, _-_, _*_, _/_, _%_, _^_, _≤_, _<_}
-use native.Mathlib.Nat.{zero-mul, mul-one, mul-assoc, one-mul, add-mul, pow-succ', pow-suc, add-comm, add-zero}
+use native.Mathlib.Nat.{zero-mul, mul-one, mul-assoc, one-mul, add-mul, pow-succ', pow-suc, add-comm}
 use native.Mathlib.Omega.{arith}
-use mathlib.Core.Path.{_≡_, refl, sym, ap, _∙_, subst}
+use mathlib.Core.Path.{_≡_, refl, sym, ap, _∙_}
 use mathlib.Core.Bool.{Bool, true, false, cond}
 use mathlib.Core.Logic.{⊎-elim}
-use mathlib.Core.List.{List, [], _∷_, map, List·Memᴰ, List·Memᴰ·head, List·Memᴰ·tail, List·Memᴰ·cases-cons, List·Memᴰ·not-nil}
+use mathlib.Core.List.{List, [], _∷_, List·Memᴰ, List·Memᴰ·head, List·Memᴰ·tail, List·Memᴰ·cases-cons, List·Memᴰ·not-nil}
 use lib.Dec.{eqb}
 use lib.ListN.{length}
 use lib.Bits.{bitAnd}

@@ -1,22 +1,15 @@
 -- Rows of tables: a row's length and counts, rows written behind others, and rows read back.
 use Prim.Native.Nat.{ℕ, zero, suc, _+_, _-_, _*_, _≤_, _<_}
-use native.Mathlib.Nat.{mul-zero, zero-add}
-use native.Mathlib.Numerals.{add-one}
+use native.Mathlib.Nat.{mul-zero}
 use native.Mathlib.Omega.{arith}
 use mathlib.Core.Path.{_≡_, refl, sym, ap, _∙_, subst}
-use mathlib.Core.Bool.{Bool, true, false}
-use mathlib.Core.List.{List, [], _∷_, _++_, map, flatMap, append-assoc, append-nil, List·Memᴰ, List·Memᴰ·head, List·Memᴰ·tail}
+use mathlib.Core.List.{List, [], _∷_, _++_, flatMap, append-assoc, append-nil, List·Memᴰ, List·Memᴰ·head, List·Memᴰ·tail}
 use mathlib.Core.List.{List·Memᴰ·not-nil, List·Memᴰ·append-cases, List·Memᴰ·eq-of-singleton}
 use mathlib.Core.Logic.{⊎-elim}
-use lib.Dec.{ltb}
-use lib.ListN.{length, getD, take, drop, replicate, length-append, length-replicate, length-map, length-drop, getD-replicate, List·getD-append, List·getD-eq-default}
-use lib.Seq.{paste, take-at, drop-at, drop-drop, getD-append-add, take-all, getD-drop, getD-take, length-take-le, ext-getD}
-use borrow.Author.Tests.{ltb-true, ltb-false}
-use Rattle.laws.specs.Lists.{from, upTo}
+use lib.ListN.{length, getD, take, drop, replicate, length-append, length-replicate, length-drop, List·getD-append}
+use lib.Seq.{paste, take-at, drop-at, drop-drop, getD-append-add, take-all, getD-drop, getD-take, length-take-le}
 use Rattle.laws.specs.Bags.{Bag}
-use Rattle.laws.proofs.Tests.{by-test}
-use Rattle.laws.proofs.Lists.{flatMap-append, mem-getD, length-from, getD-from}
-use Rattle.laws.proofs.Groups.{getD-map}
+use Rattle.laws.proofs.Lists.{flatMap-append, mem-getD}
 use Rattle.laws.proofs.Places.{each-place}
 use Rattle.laws.proofs.Bags.{bag-ext}
 use Rattle.rules.specs.Tables.{stride, row, rows, rowsBefore}
