@@ -14,3 +14,5 @@ pub mod Fronts
 pub mod Columns
 pub mod Masks
 pub mod Walks
+pub mod Restricted
+pub mod Places

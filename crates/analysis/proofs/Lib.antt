@@ -1,0 +1,13 @@
+pub mod Owning
+pub mod Rows
+pub mod Passing
+pub mod Sorting
+pub mod Comparing
+pub mod Masks
+pub mod Walking
+pub mod Seen
+pub mod Givens
+pub mod Places
+pub mod Analysing
+pub mod Whole
+pub mod Extending

@@ -1,0 +1,4 @@
+pub mod Own
+pub mod Sorting
+pub mod Members
+pub mod Analysed
