@@ -43,7 +43,7 @@ applied-by card buffer after count action r call e does =
 module _ (card : List ℕ) (d : Decoded) (decodes : Decodes card d) where
   -- a refused card
   module _ (r : Refusal) (verdict : d .verdict ≡ Refused r) where
-    refuses : model.decode card ≡ refused (refusalNumber r)
+    pub refuses : model.decode card ≡ refused (refusalNumber r)
     unfolding answerOf
     refuses = sym (decodes .answer) ∙ ap (λ (v : Verdict). answerOf v (d .task)) verdict
 
@@ -60,7 +60,7 @@ module _ (card : List ℕ) (d : Decoded) (decodes : Decodes card d) where
 
   -- an accepted card
   module _ (verdict : d .verdict ≡ Accepted) where
-    accepts : model.decode card ≡ accepted (taskOf (d .task))
+    pub accepts : model.decode card ≡ accepted (taskOf (d .task))
     unfolding answerOf
     accepts = sym (decodes .answer) ∙ ap (λ (v : Verdict). answerOf v (d .task)) verdict
 

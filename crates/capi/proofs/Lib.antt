@@ -1,0 +1,4 @@
+pub mod Codes
+pub mod Sizes
+pub mod Tables
+pub mod Checking

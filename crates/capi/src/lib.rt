@@ -1,0 +1,119 @@
+// The C interface of include/stakestalk.h: each call answers a number, document 01's value or minus the refusal's number.
+use card::Refusal;
+use card::Verdict;
+use reader::decode;
+use strips::Applied;
+use strips::apply;
+use strips::initial;
+use writer::Writing;
+use writer::encode;
+ghost use mathlib.Core.Path.{_≡_};
+ghost use Rattle.model.specs.Answer.{refused};
+ghost use Rattle.model.specs.Calls.{initial, press};
+ghost use Rattle.card.specs.Represents.{refusalNumber};
+ghost use Rattle.strips.specs.Answers.{appliedSays};
+ghost use Rattle.writer.specs.Tables.{writingSays};
+ghost use Rattle.capi.specs.Numbers.{signed, checks, rewrites, Small};
+
+fn refusal_code(refusal: Refusal) -> i32
+    ensures { λ r. ⌜ r ≡ signed (refused (refusalNumber refusal)) ⌝ }
+{
+    match refusal {
+        Refusal::CardEnds => -1,
+        Refusal::PredicateRange => -2,
+        Refusal::ObjectRange => -3,
+        Refusal::SchemaRange => -4,
+        Refusal::HeaderRange => -5,
+        Refusal::ListRange => -6,
+        Refusal::AtomUnknown => -7,
+        Refusal::AtomOrder => -8,
+        Refusal::DeleteNotPrecondition => -9,
+        Refusal::AddIsPrecondition => -10,
+        Refusal::FactRange => -11,
+        Refusal::FactUnknown => -12,
+        Refusal::FactOrder => -13,
+        Refusal::BytesFollow => -14,
+    }
+}
+
+fn applied_code(applied: Applied) -> i32
+    requires { ⌜ Small (appliedSays applied) ⌝ }
+    ensures { λ r. ⌜ r ≡ signed (appliedSays applied) ⌝ }
+{
+    match applied {
+        Applied::Count(count) => count as i32,
+        Applied::CardRefused(refusal) => refusal_code(refusal),
+        Applied::StateMalformed => -15,
+        Applied::SchemaUnknown => -16,
+        Applied::ObjectsWrong => -17,
+        Applied::ObjectsRepeated => -18,
+        Applied::PreconditionMissing => -19,
+        Applied::StateFull => -20,
+    }
+}
+
+fn writing_code(writing: Writing) -> i32
+    requires { ⌜ Small (writingSays writing) ⌝ }
+    ensures { λ r. ⌜ r ≡ signed (writingSays writing) ⌝ }
+{
+    match writing {
+        Writing::Written(length) => length as i32,
+        Writing::Refused(refusal) => refusal_code(refusal),
+        Writing::OutputShort => -21,
+    }
+}
+
+// Reads a card: 0 if it is accepted.
+#[no_mangle]
+pub extern "C" fn stakestalk_check(card: &[u8]) -> i32
+    ensures { λ r. ⌜ r ≡ signed (checks (now (card .entry))) ⌝ }
+{
+    let decoded = decode(card);
+    let verdict = decoded.verdict;
+    match verdict {
+        Verdict::Accepted => 0,
+        Verdict::Refused(refusal) => refusal_code(refusal),
+    }
+}
+
+// Writes the opening state of a card: the number of its facts.
+#[no_mangle]
+pub extern "C" fn stakestalk_initial(card: &[u8], state: &mut [u8]) -> i32
+    ensures { λ r. ⌜ r ≡ signed (initial (now (card .entry)) (now (state .entry)) .answer) ⌝ }
+    ensures { λ _. ⌜ now (state .exit) ≡ initial (now (card .entry)) (now (state .entry)) .buffer ⌝ }
+{
+    let applied = initial(card, state);
+    applied_code(applied)
+}
+
+// Applies a schema to objects in the state of `count` facts: the next state's number of facts.
+#[no_mangle]
+pub extern "C" fn stakestalk_press(
+    card: &[u8],
+    state: &mut [u8],
+    count: usize,
+    schema: usize,
+    objects: &[u8],
+) -> i32
+    ensures { λ r. ⌜ r ≡ signed (press (now (card .entry)) (now (state .entry)) count (record { schema = schema; objects = now (objects .entry) }) .answer) ⌝ }
+    ensures { λ _. ⌜ now (state .exit) ≡ press (now (card .entry)) (now (state .entry)) count (record { schema = schema; objects = now (objects .entry) }) .buffer ⌝ }
+{
+    let applied = apply(card, state, count, schema, objects);
+    applied_code(applied)
+}
+
+// Reads a card and writes what was read as a card again: its length.
+#[no_mangle]
+pub extern "C" fn stakestalk_rewrite(card: &[u8], out: &mut [u8]) -> i32
+    ensures { λ r. ⌜ r ≡ signed (rewrites (now (card .entry)) (now (out .entry)) .answer) ⌝ }
+    ensures { λ _. ⌜ now (out .exit) ≡ rewrites (now (card .entry)) (now (out .entry)) .buffer ⌝ }
+{
+    let decoded = decode(card);
+    let verdict = decoded.verdict;
+    if let Verdict::Refused(refusal) = verdict {
+        return refusal_code(refusal);
+    }
+    let task = decoded.task;
+    let writing = encode(task, out);
+    writing_code(writing)
+}
