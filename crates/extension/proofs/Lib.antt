@@ -13,3 +13,6 @@ pub mod Tables
 pub mod Exploring
 pub mod Joining
 pub mod Extending
+pub mod Repeats
+pub mod Equal
+pub mod Keeping

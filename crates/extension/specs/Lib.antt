@@ -4,3 +4,4 @@ pub mod Comparing
 pub mod Choosing
 pub mod Searching
 pub mod Joining
+pub mod Repeats

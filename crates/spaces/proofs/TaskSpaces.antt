@@ -80,7 +80,7 @@ module _ (t : Task) where
       (upTo-at (length (groups t)) c (keep-at (λ d. eqb (getD (groups t) d 0) l) (upTo (length (groups t))) c m .0))
 
   -- the label of a property is a label
-  own-label : (c : ℕ) → c < length (properties t) → List·Memᴰ (getD (groupArray t) c 0) (labels t)
+  pub own-label : (c : ℕ) → c < length (properties t) → List·Memᴰ (getD (groupArray t) c 0) (labels t)
   unfolding labels
   own-label c h =
       let l = getD (groups t) c 0 in
@@ -137,7 +137,7 @@ module _ (t : Task) where
                   ∙ sym (label-at d′ (below d′ k′))
 
       -- an object is a member of the space of a property if it is one at its label
-      member-alone : (f : ℕ → Bool) (c : ℕ) → c < length (properties t)
+      pub member-alone : (f : ℕ → Bool) (c : ℕ) → c < length (properties t)
           → f (getD (groupArray t) c 0) ≡ any (λ l. member c (propertiesAt t l) && f l) (labels t)
       member-alone f c h =
           let own = getD (groupArray t) c 0 in

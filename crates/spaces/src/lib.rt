@@ -1,6 +1,6 @@
 // Spaces: which properties share one, and which objects are members, as masks of 64 bits, one bit an object.
 mod grouping;
-mod members;
+pub mod members;
 
 ghost use Prim.Native.Nat.{_*_, _≤_};
 ghost use lib.ListN.{length};

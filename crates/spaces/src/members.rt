@@ -78,7 +78,7 @@ fn is_empty(table: &[u8], row: usize, size: usize) -> bool
 }
 
 // The objects that are members of the space of each enabler in a row; no enablers means every object.
-fn enabled(
+pub fn enabled(
     masks: &[u64],
     groups: &[u8],
     enablers: &[u8],

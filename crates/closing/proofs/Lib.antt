@@ -1,0 +1,12 @@
+pub mod Tallying
+pub mod Defaults
+pub mod LineLoops
+pub mod Parts
+pub mod Capping
+pub mod LabelMasks
+pub mod TypedObjects
+pub mod SchemaLines
+pub mod FirstTotals
+pub mod TotalSteps
+pub mod Sizes
+pub mod OneTotal

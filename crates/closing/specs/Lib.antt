@@ -1,0 +1,4 @@
+pub mod Fitting
+pub mod Typing
+pub mod Fixed
+pub mod Front

@@ -1,0 +1,53 @@
+// The closing section of a listing: all `F`, all `C` and all `R` lines. Document 01, "Listing".
+pub mod ceilings;
+pub mod totals;
+pub mod typing;
+
+use card::Task;
+use ceilings::write_ceilings;
+use spaces::Spaces;
+use totals::write_totals;
+use typing::write_type_lines;
+ghost use mathlib.Core.Path.{_≡_};
+ghost use mathlib.Core.List.{_++_, flatMap};
+ghost use Prim.Native.Nat.{_≤_};
+ghost use lib.ListN.{length};
+ghost use Rattle.laws.specs.Lists.{upTo};
+ghost use Rattle.model.specs.Lines.{analysis, totals, ceilings, closingLines};
+ghost use Rattle.model.specs.Text.{text};
+ghost use Rattle.card.specs.Represents.{taskOf};
+ghost use Rattle.rules.specs.Represented.{Represented};
+ghost use Rattle.spaces.specs.SpaceTable.{SpacesOf};
+ghost use Rattle.closing.specs.Fixed.{FixedTable};
+ghost use Rattle.closing.specs.Front.{frontLines};
+ghost use Rattle.text.specs.Room.{Room};
+ghost use Rattle.text.specs.Written.{Writes};
+
+// The `F` and the `C` lines.
+fn write_front(out: &mut [u8], task: Task, fixed: &[u32]) -> usize
+    requires { ⌜ Represented task (taskOf task) ⌝ }
+    requires { ⌜ FixedTable (taskOf task) (now fixed) ⌝ }
+    requires { ⌜ Room (text (frontLines (taskOf task))) (now out) ⌝ }
+    ensures { λ r. ⌜ Writes (text (frontLines (taskOf task))) (now (out .entry)) (now (out .exit)) r ⌝ }
+{
+    let at = write_totals(out, task, fixed);
+    let n = write_ceilings(&mut out[at..], task);
+    at + n
+}
+
+// The closing section, given the spaces of the task and the totals that its properties give.
+pub fn write_closing(out: &mut [u8], task: Task, spaces: Spaces, fixed: &[u32]) -> usize
+    requires { ⌜ Represented task (taskOf task) ⌝ }
+    requires { ⌜ SpacesOf (taskOf task) spaces ⌝ }
+    requires { ⌜ FixedTable (taskOf task) (now fixed) ⌝ }
+    requires { ⌜ 65536 ≤ length (now out) ⌝ }
+    ensures {
+        λ r. ⌜
+            Writes (text (closingLines (taskOf task) (analysis (taskOf task)))) (now (out .entry)) (now (out .exit)) r
+        ⌝
+    }
+{
+    let at = write_front(out, task, fixed);
+    let n = write_type_lines(&mut out[at..], task, spaces);
+    at + n
+}
