@@ -43,10 +43,10 @@ module _ (task : code.Task) (r : Represented task (taskOf task)) (sp : code-spac
   -- as the code finds them
   pub schema-next : (d : code-schema.Schema) → i < task .schemas .count
       → Begins (schemasLeft (taskOf task) i)
-        (text
-          (typedLines (aritiesOf (task .predicates)) (sp .groups) masks (task .objects) i
-            (schemaOf (aritiesOf (task .predicates)) (getD (task .schemas .schemas) i d))))
-        (schemasLeft (taskOf task) (i + 1))
+      (text
+      (typedLines (aritiesOf (task .predicates)) (sp .groups) masks (task .objects) i
+      (schemaOf (aritiesOf (task .predicates)) (getD (task .schemas .schemas) i d))))
+      (schemasLeft (taskOf task) (i + 1))
   unfolding taskOf
   schema-next d h = record {
     path =

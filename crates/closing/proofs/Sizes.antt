@@ -192,6 +192,6 @@ closing-parts t = record {
 
 pub front-parts : (t : Task)
     → Begins (text (frontLines t)) (text (flatMap (totals t (analysis t)) (upTo (length (t .arities)))))
-      (text (flatMap (ceilings t) (upTo (length (t .arities)))))
+    (text (flatMap (ceilings t) (upTo (length (t .arities)))))
 unfolding frontLines
 front-parts t = text-parts _ _

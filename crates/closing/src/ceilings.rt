@@ -53,12 +53,10 @@ fn facts_of(list: FactList, p: u8) -> usize
 // In every schema, adds of the predicate are at most deletes of it.
 fn is_capped(list: SchemaList, p: u8) -> bool
     requires { ⌜ SchemasFit list ⌝ }
-    ensures {
-        λ r. ⌜
-            ((arities : List ℕ)
-            → r ≡ all (λ s. leb (ofPredicate p (s .adds)) (ofPredicate p (s .deletes))) (schemasOf arities list))
-        ⌝
-    }
+    ensures { λ r. ⌜
+        ((arities : List ℕ)
+        → r ≡ all (λ s. leb (ofPredicate p (s .adds)) (ofPredicate p (s .deletes))) (schemasOf arities list))
+        ⌝ }
 {
     let count = list.count;
     for i in 0..count {
@@ -72,21 +70,17 @@ fn is_capped(list: SchemaList, p: u8) -> bool
 
 // `C` lines, predicate by predicate.
 pub fn write_ceilings(out: &mut [u8], task: Task) -> usize
-    requires {
-        ⌜
-            Represented task (taskOf task)
-            × Room (text (flatMap (ceilings (taskOf task)) (upTo (length (taskOf task .arities))))) (now out)
-        ⌝
-    }
-    ensures {
-        λ r. ⌜
-            Writes
-                (text (flatMap (ceilings (taskOf task)) (upTo (length (taskOf task .arities)))))
-                (now (out .entry))
-                (now (out .exit))
-                r
-        ⌝
-    }
+    requires { ⌜
+        Represented task (taskOf task)
+        × Room (text (flatMap (ceilings (taskOf task)) (upTo (length (taskOf task .arities))))) (now out)
+        ⌝ }
+    ensures { λ r. ⌜
+        Writes
+        (text (flatMap (ceilings (taskOf task)) (upTo (length (taskOf task .arities)))))
+        (now (out .entry))
+        (now (out .exit))
+        r
+        ⌝ }
 {
     let mut at = 0;
     let mut p = 0;
@@ -96,7 +90,11 @@ pub fn write_ceilings(out: &mut [u8], task: Task) -> usize
         if !is_capped(task.schemas, predicate as u8) {
             continue;
         }
-        let n = write_ceiling(&mut out[at..], predicate, facts_of(task.facts, predicate as u8));
+        let n = write_ceiling(
+            &mut out[at..],
+            predicate,
+            facts_of(task.facts, predicate as u8),
+        );
         at = at + n;
     }
     at

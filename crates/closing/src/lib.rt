@@ -41,11 +41,9 @@ pub fn write_closing(out: &mut [u8], task: Task, spaces: Spaces, fixed: &[u32]) 
     requires { ⌜ SpacesOf (taskOf task) spaces ⌝ }
     requires { ⌜ FixedTable (taskOf task) (now fixed) ⌝ }
     requires { ⌜ 65536 ≤ length (now out) ⌝ }
-    ensures {
-        λ r. ⌜
-            Writes (text (closingLines (taskOf task) (analysis (taskOf task)))) (now (out .entry)) (now (out .exit)) r
-        ⌝
-    }
+    ensures { λ r. ⌜
+        Writes (text (closingLines (taskOf task) (analysis (taskOf task)))) (now (out .entry)) (now (out .exit)) r
+        ⌝ }
 {
     let at = write_front(out, task, fixed);
     let n = write_type_lines(&mut out[at..], task, spaces);

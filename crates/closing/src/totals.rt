@@ -32,18 +32,14 @@ fn total_of(fixed: &[u32], first: usize, arity: usize) -> u32
 pub fn write_totals(out: &mut [u8], task: Task, fixed: &[u32]) -> usize
     requires { ⌜ Represented task (taskOf task) ⌝ }
     requires { ⌜ FixedTable (taskOf task) (now fixed) ⌝ }
-    requires {
-        ⌜ Room (text (flatMap (totals (taskOf task) (analysis (taskOf task))) (upTo (length (taskOf task .arities))))) (now out) ⌝
-    }
-    ensures {
-        λ r. ⌜
-            Writes
-                (text (flatMap (totals (taskOf task) (analysis (taskOf task))) (upTo (length (taskOf task .arities)))))
-                (now (out .entry))
-                (now (out .exit))
-                r
-        ⌝
-    }
+    requires { ⌜ Room (text (flatMap (totals (taskOf task) (analysis (taskOf task))) (upTo (length (taskOf task .arities))))) (now out) ⌝ }
+    ensures { λ r. ⌜
+        Writes
+        (text (flatMap (totals (taskOf task) (analysis (taskOf task))) (upTo (length (taskOf task .arities)))))
+        (now (out .entry))
+        (now (out .exit))
+        r
+        ⌝ }
 {
     let predicates = task.predicates;
     let mut at = 0;

@@ -51,18 +51,16 @@ fn typed(
     requires { ⌜ AtomsRight (aritiesOf predicates) preconditions ⌝ }
     requires { ⌜ firsts ≡ padded 20 0 (firstProperties (aritiesOf predicates)) ⌝ }
     requires { ⌜ MembersGiven (now groups) (now masks) objects × (k ≤ 6) ⌝ }
-    ensures {
-        λ r. ⌜
-            r
-            ≡ typedBy
-                (aritiesOf predicates)
-                (now (groups .entry))
-                (now (masks .entry))
-                objects
-                (atomsOf (aritiesOf predicates) preconditions)
-                k
-        ⌝
-    }
+    ensures { λ r. ⌜
+        r
+        ≡ typedBy
+        (aritiesOf predicates)
+        (now (groups .entry))
+        (now (masks .entry))
+        objects
+        (atomsOf (aritiesOf predicates) preconditions)
+        k
+        ⌝ }
 {
     let bag = bag_of_parameter(preconditions, predicates, firsts, k as u8);
     enabled(masks, groups, &bag, 0, 60, objects)
@@ -83,34 +81,38 @@ fn write_schema_types(
     requires { ⌜ SchemaRight (aritiesOf predicates) schema ⌝ }
     requires { ⌜ firsts ≡ padded 20 0 (firstProperties (aritiesOf predicates)) ⌝ }
     requires { ⌜ MembersGiven (now groups) (now masks) objects ⌝ }
-    requires {
-        ⌜
-            Room
-                (text (typedLines (aritiesOf predicates) (now groups) (now masks) objects n (schemaOf (aritiesOf predicates) schema)))
-                (now out)
-        ⌝
-    }
-    ensures {
-        λ r. ⌜
-            Writes
-                (text
-                    (typedLines
-                        (aritiesOf predicates)
-                        (now (groups .entry))
-                        (now (masks .entry))
-                        objects
-                        n
-                        (schemaOf (aritiesOf predicates) schema)))
-                (now (out .entry))
-                (now (out .exit))
-                r
-        ⌝
-    }
+    requires { ⌜
+        Room
+        (text (typedLines (aritiesOf predicates) (now groups) (now masks) objects n (schemaOf (aritiesOf predicates) schema)))
+        (now out)
+        ⌝ }
+    ensures { λ r. ⌜
+        Writes
+        (text
+        (typedLines
+        (aritiesOf predicates)
+        (now (groups .entry))
+        (now (masks .entry))
+        objects
+        n
+        (schemaOf (aritiesOf predicates) schema)))
+        (now (out .entry))
+        (now (out .exit))
+        r
+        ⌝ }
 {
     let mut at = 0;
     let mut k = 0;
     while k < schema.parameters {
-        let those = typed(schema.preconditions, predicates, firsts, k, masks, groups, objects);
+        let those = typed(
+            schema.preconditions,
+            predicates,
+            firsts,
+            k,
+            masks,
+            groups,
+            objects,
+        );
         let m = write_types(&mut out[at..], n, k, those);
         at = at + m;
         k = k + 1;
@@ -123,15 +125,13 @@ pub fn write_type_lines(out: &mut [u8], task: Task, spaces: Spaces) -> usize
     requires { ⌜ Represented task (taskOf task) ⌝ }
     requires { ⌜ SpacesOf (taskOf task) spaces ⌝ }
     requires { ⌜ Room (text (typeLines (taskOf task) (model.spaces (taskOf task)) 0 (taskOf task .schemas))) (now out) ⌝ }
-    ensures {
-        λ r. ⌜
-            Writes
-                (text (typeLines (taskOf task) (model.spaces (taskOf task)) 0 (taskOf task .schemas)))
-                (now (out .entry))
-                (now (out .exit))
-                r
-        ⌝
-    }
+    ensures { λ r. ⌜
+        Writes
+        (text (typeLines (taskOf task) (model.spaces (taskOf task)) 0 (taskOf task .schemas)))
+        (now (out .entry))
+        (now (out .exit))
+        r
+        ⌝ }
 {
     let schemas = task.schemas;
     let numbers = numbered(task.predicates);

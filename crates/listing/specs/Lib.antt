@@ -1,1 +1,4 @@
 pub mod Answers
+pub mod Arities
+pub mod Totals
+pub mod Sections

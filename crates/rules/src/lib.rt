@@ -77,7 +77,12 @@ fn count_atom(bag: &mut [u8], first: usize, a: Atom, arity: usize, x: u8)
 }
 
 // The bag of a parameter over a list of atoms, as a row.
-pub fn bag_of_parameter(atoms: AtomList, predicates: ArityList, firsts: [usize; 20], k: u8) -> [u8; 60]
+pub fn bag_of_parameter(
+    atoms: AtomList,
+    predicates: ArityList,
+    firsts: [usize; 20],
+    k: u8,
+) -> [u8; 60]
     requires { ⌜ AritiesRight predicates ⌝ }
     requires { ⌜ AtomsRight (aritiesOf predicates) atoms ⌝ }
     requires { ⌜ firsts ≡ padded 20 0 (firstProperties (aritiesOf predicates)) ⌝ }

@@ -61,8 +61,8 @@ bag-of-table bound size count table h b m =
     subst (λ (x : Bag). (length x ≤ size) × AllBelow bound x) (p .2) (
       omega (arith, length-take size (drop (stride * p .0) table)),
       λ n k.
-      let q = place-of (drop (stride * p .0) table) n 0 (mem-take size (drop (stride * p .0) table) n k) in
-      subst (λ (x : ℕ). x < bound) (sym (getD-drop (stride * p .0) table (q .0) 0) ∙ q .2) (h (stride * p .0 + q .0)),
+          let q = place-of (drop (stride * p .0) table) n 0 (mem-take size (drop (stride * p .0) table) n k) in
+          subst (λ (x : ℕ). x < bound) (sym (getD-drop (stride * p .0) table (q .0) 0) ∙ q .2) (h (stride * p .0 + q .0)),
     )
 
 -- ---- the lines of the conditions

@@ -70,7 +70,15 @@ fn write_conditions(
         ⌝ }
 {
     let mut at = write_states(out, table, count, own);
-    let limits = write_limits(&mut out[at..], table, count, groups, properties, lowest, arities);
+    let limits = write_limits(
+        &mut out[at..],
+        table,
+        count,
+        groups,
+        properties,
+        lowest,
+        arities,
+    );
     at = at + limits;
     let minimal = minimal_of(table, count, own);
     let indices = minimal.indices;
@@ -104,7 +112,15 @@ pub fn write_space(
     let lowest = spaces.lowest[number];
     let found = analysed.kind;
     let kind = kind_of(found);
-    let at = text::lists::write_space(out, number, kind, &groups, size, lowest, spaces.members[number]);
+    let at = text::lists::write_space(
+        out,
+        number,
+        kind,
+        &groups,
+        size,
+        lowest,
+        spaces.members[number],
+    );
     let bags = analysed.bags;
     let n = write_conditions(
         &mut out[at..],

@@ -36,11 +36,11 @@ part-write-type-lines-end : tie.Need-part-write-type-lines-end
 part-write-type-lines-end c = search needs
 
 write-type-lines-requires : tie.Need-write-type-lines-requires
-write-type-lines-requires c κs = 
+write-type-lines-requires c κs =
     (c .before .before .before .before .before .before .before .pre .0, (c .before .before .before .before .before .before .before .pre .1 .0, second-fits (closing-parts _) (room (c .before .before .before .before .before .before .before) (c .before .before .before .before .before .shared-slice-known .given)) (c .before .before .before .write-front .ensures)))
 
 returns : tie.Need-returns
-returns c = 
+returns c =
     both (closing-parts _) (room (c .before .before .before .before .before .before .before .before .before .before) (c .before .before .before .before .before .before .before .before .shared-slice-known .given)) (c .before .before .before .before .before .before .write-front .ensures) (c .before .before .write-type-lines .ensures)
 
 add-result : tie.Need-add-result

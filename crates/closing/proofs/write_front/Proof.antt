@@ -25,7 +25,7 @@ write-ceilings-requires c κs = (
 )
 
 returns : tie.Need-returns
-returns c = 
+returns c =
     both (front-parts _) (c .before .before .before .before .before .before .before .before .before .before .pre .1 .1) (c .before .before .before .before .before .before .write-totals .ensures) (c .before .before .write-ceilings .ensures)
 
 add-result : tie.Need-add-result

@@ -46,10 +46,10 @@ loop-again : tie.Need-loop-again Inv-loop μ-loop
 unfolding blankAtom
 loop-again c =
     let head = c .before .before .before .before in
-    ⊎-elim 
+    ⊎-elim
     (λ w. tally-passes (inside (head .before)) (head .loop .inv) blankAtom (c .before .before .before .loop-test .taken) (eq-eqb _ _ (sym (w .0 .taken))) (w .1))
     (λ w. tally-fails (inside (head .before)) (head .loop .inv) blankAtom (c .before .before .before .loop-test .taken) (ne-eqb _ _ (λ e. w .0 .left (sym e))) (w .1))
-     (c .if1 .came)
+    (c .if1 .came)
 
 returns : tie.Need-returns Inv-loop μ-loop
 unfolding ofPredicate factsOf atomOf

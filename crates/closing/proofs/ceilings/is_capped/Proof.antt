@@ -70,8 +70,8 @@ loop-again c =
     let head = c .before .before .before .before .before in (
       omega arith,
       λ arities.
-      one-passes (capped _ arities) _ _ (inside (head .before)) (head .loop .i) (head .loop .inv .1 arities) no-schema (c .before .before .before .before .loop-test .taken)
-      (ap₂ leb (sym (c .before .count-of2 .ensures arities)) (sym (c .before .before .count-of .ensures arities)) ∙ le-leb _ _ (c .if1 .left)),
+          one-passes (capped _ arities) _ _ (inside (head .before)) (head .loop .i) (head .loop .inv .1 arities) no-schema (c .before .before .before .before .loop-test .taken)
+          (ap₂ leb (sym (c .before .count-of2 .ensures arities)) (sym (c .before .before .count-of .ensures arities)) ∙ le-leb _ _ (c .if1 .left)),
     )
 
 returns-2 : tie.Need-returns-2 Inv-loop μ-loop

@@ -78,9 +78,9 @@ loop-again-2 : tie.Need-loop-again-2 Inv-loop μ-loop
 loop-again-2 c =
     let l = c .before .before .before .before .before .before .before .before .before .loop in (
       next (l .inv .0)
-      (line-next _ _ (l .p) (c .before .before .before .before .before .before .before .if1 .taken)
-      (capped-line _ (l .p) (c .before .before .before .before .before .before .is-capped .ensures) (not-false _ (c .before .before .before .before .before .if2 .left)) (c .before .before .before .facts-of .ensures)))
-      (c .before .before .write-ceiling .ensures),
+          (line-next _ _ (l .p) (c .before .before .before .before .before .before .before .if1 .taken)
+          (capped-line _ (l .p) (c .before .before .before .before .before .before .is-capped .ensures) (not-false _ (c .before .before .before .before .before .if2 .left)) (c .before .before .before .facts-of .ensures)))
+          (c .before .before .write-ceiling .ensures),
       search needs,
     )
 

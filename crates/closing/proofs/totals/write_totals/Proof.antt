@@ -76,7 +76,7 @@ loop-again : tie.Need-loop-again Inv-loop μ-loop
 loop-again c =
     let l = c .before .before .before .before .loop in (
       remains-as (no-line _ _ (l .p) (c .before .before .before .loop-test .taken)
-      (total-none (c .before .before .before .before .before .before .before .before .args .task .predicates) (arities-right (c .before .before .before .before .before .before .before .before .args .task) (c .before .before .before .before .before .before .before .before .pre .0)) (arities-inside (c .before .before .before .before .before .before .before .before .args .task) (c .before .before .before .before .before .before .before .before .pre .0)) (l .p) (l .first) (c .before .before .before .loop-test .taken) (l .inv .2) _ (c .before .total-of .ensures) (c .if1 .taken))) (l .inv .0),
+          (total-none (c .before .before .before .before .before .before .before .before .args .task .predicates) (arities-right (c .before .before .before .before .before .before .before .before .args .task) (c .before .before .before .before .before .before .before .before .pre .0)) (arities-inside (c .before .before .before .before .before .before .before .before .args .task) (c .before .before .before .before .before .before .before .before .pre .0)) (l .p) (l .first) (c .before .before .before .loop-test .taken) (l .inv .2) _ (c .before .total-of .ensures) (c .if1 .taken))) (l .inv .0),
       search needs,
       begins-next (c .before .before .before .before .before .before .before .before .args .task .predicates) (arities-right (c .before .before .before .before .before .before .before .before .args .task) (c .before .before .before .before .before .before .before .before .pre .0)) (arities-inside (c .before .before .before .before .before .before .before .before .args .task) (c .before .before .before .before .before .before .before .before .pre .0)) (l .p) (l .first) (c .before .before .before .loop-test .taken) (l .inv .2),
     )
@@ -110,9 +110,9 @@ loop-again-2 : tie.Need-loop-again-2 Inv-loop μ-loop
 loop-again-2 c =
     let l = c .before .before .before .before .before .before .before .before .loop in (
       next (l .inv .0)
-      (line-next _ _ (l .p) (c .before .before .before .before .before .before .before .loop-test .taken)
-      (total-next (c .before .before .before .before .before .before .before .before .before .before .before .before .args .task .predicates) (arities-right (c .before .before .before .before .before .before .before .before .before .before .before .before .args .task) (c .before .before .before .before .before .before .before .before .before .before .before .before .pre .0)) (arities-inside (c .before .before .before .before .before .before .before .before .before .before .before .before .args .task) (c .before .before .before .before .before .before .before .before .before .before .before .before .pre .0)) (l .p) (l .first) (c .before .before .before .before .before .before .before .loop-test .taken) (l .inv .2) _ (c .before .before .before .before .before .total-of .ensures) (c .before .before .before .before .if1 .left) (one-less _ (c .before .before .before .before .if1 .left))))
-      (c .before .before .write-total .ensures),
+          (line-next _ _ (l .p) (c .before .before .before .before .before .before .before .loop-test .taken)
+          (total-next (c .before .before .before .before .before .before .before .before .before .before .before .before .args .task .predicates) (arities-right (c .before .before .before .before .before .before .before .before .before .before .before .before .args .task) (c .before .before .before .before .before .before .before .before .before .before .before .before .pre .0)) (arities-inside (c .before .before .before .before .before .before .before .before .before .before .before .before .args .task) (c .before .before .before .before .before .before .before .before .before .before .before .before .pre .0)) (l .p) (l .first) (c .before .before .before .before .before .before .before .loop-test .taken) (l .inv .2) _ (c .before .before .before .before .before .total-of .ensures) (c .before .before .before .before .if1 .left) (one-less _ (c .before .before .before .before .if1 .left))))
+          (c .before .before .write-total .ensures),
       search needs,
       begins-next (c .before .before .before .before .before .before .before .before .before .before .before .before .args .task .predicates) (arities-right (c .before .before .before .before .before .before .before .before .before .before .before .before .args .task) (c .before .before .before .before .before .before .before .before .before .before .before .before .pre .0)) (arities-inside (c .before .before .before .before .before .before .before .before .before .before .before .before .args .task) (c .before .before .before .before .before .before .before .before .before .before .before .before .pre .0)) (l .p) (l .first) (c .before .before .before .before .before .before .before .loop-test .taken) (l .inv .2),
     )

@@ -52,7 +52,7 @@ loop-again c =
       omega arith,
       length-set {A = ℕ} (head .loop .masks) _ _ ∙ head .loop .inv .1,
       ap (λ (l : List ℕ). set l (getD (spaces .lowest) (head .loop .k) 0) (getD (spaces .members) (head .loop .k) 0)) (head .loop .inv .2)
-      ∙ ap (labelMasks (spaces .lowest) (spaces .members)) (sym (add-one (head .loop .k))),
+          ∙ ap (labelMasks (spaces .lowest) (spaces .members)) (sym (add-one (head .loop .k))),
     )
 
 returns : tie.Need-returns Inv-loop μ-loop

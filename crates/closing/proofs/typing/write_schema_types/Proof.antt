@@ -47,7 +47,7 @@ part-write-types-end : tie.Need-part-write-types-end Inv-loop μ-loop
 part-write-types-end c = search needs
 
 write-types-requires : tie.Need-write-types-requires Inv-loop μ-loop
-write-types-requires c κs = 
+write-types-requires c κs =
     let l = c .before .before .before .before .loop in
     let s = c .before .before .before .before .before .before .before .before in
     next-fits (l .inv .0) (each-next _ _ (l .k) (c .before .before .if1 .taken) (ap (λ (m : ℕ). types (s .args .n) (l .k) (membersOf m)) (c .before .typed .ensures)))
@@ -63,8 +63,8 @@ loop-again c =
     let l = c .before .before .before .before .before .before .before .loop in
     let s = c .before .before .before .before .before .before .before .before .before .before .before in (
       next (l .inv .0)
-      (each-next _ _ (l .k) (c .before .before .before .before .before .if1 .taken) (ap (λ (m : ℕ). types (s .args .n) (l .k) (membersOf m)) (c .before .before .before .before .typed .ensures)))
-      (c .before .before .write-types .ensures),
+          (each-next _ _ (l .k) (c .before .before .before .before .before .if1 .taken) (ap (λ (m : ℕ). types (s .args .n) (l .k) (membersOf m)) (c .before .before .before .before .typed .ensures)))
+          (c .before .before .write-types .ensures),
       search needs,
     )
 

@@ -67,13 +67,20 @@ write-schema-types-requires c κs =
     let task = s .args .task in
     let l = c .before .before .before .before .before .loop in
     let masks = c .before .before .before .before .before .before .before .by-label in
-    let here = c .before .before .before .before .loop-test .taken in
-    (arities-right task (s .pre .0),
-    (schema-right task (s .pre .0) (l .i) no-schema here,
-    (c .before .before .before .before .before .before .before .before .before .numbered .ensures .firsts,
-    (subst (λ (m : List ℕ). MembersGiven (s .args .spaces .groups) m (task .objects)) (sym (masks .ensures))
-    (members-given (taskOf task) (s .args .spaces) (s .pre .1 .0) (properties-few task (s .pre .0)) (objects-few task (s .pre .0))),
-    next-fits (l .inv .0) (schema-next task (s .pre .0) (s .args .spaces) (s .pre .1 .0) (masks .ensures) (l .i) no-schema here)))))
+    let here = c .before .before .before .before .loop-test .taken in (
+      arities-right task (s .pre .0),
+      (
+        schema-right task (s .pre .0) (l .i) no-schema here,
+        (
+          c .before .before .before .before .before .before .before .before .before .numbered .ensures .firsts,
+          (
+            subst (λ (m : List ℕ). MembersGiven (s .args .spaces .groups) m (task .objects)) (sym (masks .ensures))
+                (members-given (taskOf task) (s .args .spaces) (s .pre .1 .0) (properties-few task (s .pre .0)) (objects-few task (s .pre .0))),
+            next-fits (l .inv .0) (schema-next task (s .pre .0) (s .args .spaces) (s .pre .1 .0) (masks .ensures) (l .i) no-schema here),
+          ),
+        ),
+      ),
+    )
 
 add-i : tie.Need-add-i Inv-loop μ-loop
 add-i c = let s = c .before .before .before .before .before .before .before .before .before .before .before .before .before .before .before in let few = schemas-few (s .args .task) (s .pre .0) in omega arith
@@ -87,8 +94,8 @@ loop-again c =
     let s = c .before .before .before .before .before .before .before .before .before .before .before .before .before .before .before in
     let l = c .before .before .before .before .before .before .before .before .loop in (
       next (l .inv .0)
-      (schema-next (s .args .task) (s .pre .0) (s .args .spaces) (s .pre .1 .0) (c .before .before .before .before .before .before .before .before .before .before .by-label .ensures) (l .i) no-schema (c .before .before .before .before .before .before .before .loop-test .taken))
-      (c .before .before .write-schema-types .ensures),
+          (schema-next (s .args .task) (s .pre .0) (s .args .spaces) (s .pre .1 .0) (c .before .before .before .before .before .before .before .before .before .before .by-label .ensures) (l .i) no-schema (c .before .before .before .before .before .before .before .loop-test .taken))
+          (c .before .before .write-schema-types .ensures),
       search needs,
     )
 
