@@ -1,7 +1,7 @@
 -- Every value that a call answers is small: a state has at most 1,024 facts, and a card at most 5,305 bytes.
 use Prim.Native.Nat.{ℕ, _≤_}
 use native.Mathlib.Omega.{arith}
-use mathlib.Core.Path.{_≡_, refl, sym, ap, _∙_}
+use mathlib.Core.Path.{_≡_, refl, sym, ap, _∙_, subst}
 use mathlib.Core.Bool.{Bool, true, false}
 use mathlib.Core.Logic.{⊎-elim}
 use mathlib.Core.List.{List}
@@ -16,6 +16,11 @@ use Rattle.model.proofs.Answers.{one-value, by-answer, not-accepted, then-refus
 use Rattle.model.proofs.Checked.{checked}
 use Rattle.model.proofs.RoundTrip.{decode-checks, card-length}
 use Rattle.model.proofs.History.{opened, press-cases}
+use Rattle.card.specs.declared.Task.{Task as Kept}
+use Rattle.strips.specs.Answers.{Opens, Applies, appliedSays}
+use Rattle.strips.specs.declared.Applied.{Applied}
+use Rattle.writer.specs.Tables.{tableOf, writingSays, Encodes}
+use Rattle.writer.specs.declared.Writing.{Writing}
 use Rattle.capi.specs.Numbers.{Small}
 
 -- a call that has refused answers no value
@@ -32,7 +37,7 @@ module _ (card buffer : List ℕ) where
   pressing-refused count action k e = ap (λ (x : Answer Call). finish buffer x .answer) (then-refused _ e)
 
   -- the opening call answers the number of the card's facts
-  pub initial-small : Small (initial card buffer .answer)
+  initial-small : Small (initial card buffer .answer)
   initial-small = record {
     within = λ n e. by-answer (decode card)
         (λ t d. let count = opened card t d buffer n e .all-counted in
@@ -42,7 +47,7 @@ module _ (card buffer : List ℕ) where
   }
 
   -- a press answers the number of the next state's facts
-  pub press-small : (count : ℕ) (action : Action) → Small (press card buffer count action .answer)
+  press-small : (count : ℕ) (action : Action) → Small (press card buffer count action .answer)
   press-small count action = record {
     within = λ n e. by-answer (decode card)
         (λ t d. ⊎-elim (λ r. no-value _ n (r .number) e (r .answered))
@@ -54,7 +59,7 @@ module _ (card buffer : List ℕ) where
   }
 
 -- the card writer answers the length of the card
-pub encode-small : (t : Task) (out : List ℕ) → Small (encode t out .answer)
+encode-small : (t : Task) (out : List ℕ) → Small (encode t out .answer)
 unfolding encode
 encode-small t out = record { within = λ n e. go n (checkTask t) refl (leb outputBytes (length out)) e }
   where
@@ -66,3 +71,15 @@ encode-small t out = record { within = λ n e. go n (checkTask t) refl (leb outp
         let size : length (taskBytes t) ≡ n = one-value (unfold finish _>>_ need output in e) in
         let few = card-length t c in
         omega arith
+
+-- so what the functions answer is small
+pub opens-small : {card before after : List ℕ} {r : Applied} → Opens card before after r → Small (appliedSays r)
+opens-small {card} {before} opens = subst Small (sym (opens .answer)) (initial-small card before)
+
+pub applies-small :
+    {card before after : List ℕ} {count : ℕ} {action : Action} {r : Applied} → Applies card before count action after r → Small (appliedSays r)
+applies-small {card} {before} {after} {count} {action} applies =
+    subst Small (sym (applies .answer)) (press-small card before count action)
+
+pub encodes-small : {t : Kept} {out after : List ℕ} {w : Writing} → Encodes t out after w → Small (writingSays w)
+encodes-small {t} {out} encodes = subst Small (sym (encodes .answer)) (encode-small (tableOf t) out)

@@ -1,6 +1,8 @@
 // The C interface of include/stakestalk.h: each call answers a number, document 01's value or minus the refusal's number.
 use card::Refusal;
 use card::Verdict;
+use listing::Listed;
+use listing::section;
 use reader::decode;
 use strips::Applied;
 use strips::apply;
@@ -9,11 +11,15 @@ use writer::Writing;
 use writer::encode;
 ghost use mathlib.Core.Path.{_≡_};
 ghost use Rattle.model.specs.Answer.{refused};
-ghost use Rattle.model.specs.Calls.{initial, press};
+ghost use Rattle.model.specs.Calls.{initial, press, section};
 ghost use Rattle.card.specs.Represents.{refusalNumber};
+ghost use Rattle.listing.specs.Answers.{listedSays};
 ghost use Rattle.strips.specs.Answers.{appliedSays};
 ghost use Rattle.writer.specs.Tables.{writingSays};
 ghost use Rattle.capi.specs.Numbers.{signed, checks, rewrites, Small};
+
+// How many bytes every call asks of its output buffer. Document 01, refusal 21.
+const OUTPUT_BYTES: usize = 65536;
 
 fn refusal_code(refusal: Refusal) -> i32
     ensures { λ r. ⌜ r ≡ signed (refused (refusalNumber refusal)) ⌝ }
@@ -60,6 +66,18 @@ fn writing_code(writing: Writing) -> i32
         Writing::Written(length) => length as i32,
         Writing::Refused(refusal) => refusal_code(refusal),
         Writing::OutputShort => -21,
+    }
+}
+
+fn listed_code(listed: Listed) -> i32
+    requires { ⌜ Small (listedSays listed) ⌝ }
+    ensures { λ r. ⌜ r ≡ signed (listedSays listed) ⌝ }
+{
+    match listed {
+        Listed::Length(length) => length as i32,
+        Listed::CardRefused(refusal) => refusal_code(refusal),
+        Listed::OutputShort => -21,
+        Listed::SectionUnknown => -22,
     }
 }
 
@@ -116,4 +134,18 @@ pub extern "C" fn stakestalk_rewrite(card: &[u8], out: &mut [u8]) -> i32
     let task = decoded.task;
     let writing = encode(task, out);
     writing_code(writing)
+}
+
+// Writes one section of a card's listing: its length. Only the bytes that are asked for are lent on, so that the length is within them.
+#[no_mangle]
+pub extern "C" fn stakestalk_section(card: &[u8], number: usize, out: &mut [u8]) -> i32
+    ensures { λ r. ⌜ r ≡ signed (section (now (card .entry)) number (now (out .entry)) .answer) ⌝ }
+    ensures { λ _. ⌜ now (out .exit) ≡ section (now (card .entry)) number (now (out .entry)) .buffer ⌝ }
+{
+    if out.len() < OUTPUT_BYTES {
+        let listed = section(card, number, out);
+        return listed_code(listed);
+    }
+    let listed = section(card, number, &mut out[0..OUTPUT_BYTES]);
+    listed_code(listed)
 }

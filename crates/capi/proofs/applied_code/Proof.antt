@@ -3,7 +3,7 @@ use borrow.Author.Needs.{needs}
 use mathlib.Core.Path.{ap}
 use Rattle.strips.specs.Answers.{appliedSays}
 use Rattle.capi.specs.Numbers.{signed}
-use Rattle.capi.proofs.Codes.{value-fits, value-code, refusal-number, refusal-code}
+use Rattle.capi.proofs.Codes.{value-fits, value-code, refusal-code, same-code}
 use Rattle.capi.proofs.applied_code.Statement.{statement}
 use Rattle.capi.proofs.applied_code.Tie as tie
 
@@ -44,31 +44,31 @@ returns c = value-code _ _ (c .before .before .before .pre) (ap appliedSays (c .
 
 returns-2 : tie.Need-returns-2
 unfolding appliedSays
-returns-2 c = refusal-code _ _ (c .refusal-code .result) (c .refusal-code .ok) (c .refusal-code .ensures) (ap appliedSays (c .before .before .applied2 .given .1))
+returns-2 c = same-code (c .refusal-code .result) (c .refusal-code .ok) (c .refusal-code .ensures) (ap appliedSays (c .before .before .applied2 .given .1))
 
 returns-3 : tie.Need-returns-3
 unfolding signed appliedSays
-returns-3 c = refusal-number _ 15 (ap appliedSays (c .enum-told .given .1))
+returns-3 c = refusal-code _ 15 (ap appliedSays (c .enum-told .given .1))
 
 returns-4 : tie.Need-returns-4
 unfolding signed appliedSays
-returns-4 c = refusal-number _ 16 (ap appliedSays (c .enum-told2 .given .1))
+returns-4 c = refusal-code _ 16 (ap appliedSays (c .enum-told2 .given .1))
 
 returns-5 : tie.Need-returns-5
 unfolding signed appliedSays
-returns-5 c = refusal-number _ 17 (ap appliedSays (c .enum-told3 .given .1))
+returns-5 c = refusal-code _ 17 (ap appliedSays (c .enum-told3 .given .1))
 
 returns-6 : tie.Need-returns-6
 unfolding signed appliedSays
-returns-6 c = refusal-number _ 18 (ap appliedSays (c .enum-told4 .given .1))
+returns-6 c = refusal-code _ 18 (ap appliedSays (c .enum-told4 .given .1))
 
 returns-7 : tie.Need-returns-7
 unfolding signed appliedSays
-returns-7 c = refusal-number _ 19 (ap appliedSays (c .enum-told5 .given .1))
+returns-7 c = refusal-code _ 19 (ap appliedSays (c .enum-told5 .given .1))
 
 returns-8 : tie.Need-returns-8
 unfolding signed appliedSays
-returns-8 c = refusal-number _ 20 (ap appliedSays (c .enum-told6 .given .1))
+returns-8 c = refusal-code _ 20 (ap appliedSays (c .enum-told6 .given .1))
 
 pub applied-code-spec : {M : Type 1} → statement M
 applied-code-spec =

@@ -1,6 +1,6 @@
 -- The card reader's verdict as a number: 0 for an accepted card.
 use borrow.Author.Needs.{needs}
-use Rattle.capi.proofs.Codes.{refusal-code}
+use Rattle.capi.proofs.Codes.{same-code}
 use Rattle.capi.proofs.Checking.{checks-accepted, checks-refused}
 use Rattle.capi.proofs.stakestalk_check.Statement.{statement}
 use Rattle.capi.proofs.stakestalk_check.Tie as tie
@@ -18,12 +18,14 @@ refusal-code-requires : tie.Need-refusal-code-requires
 refusal-code-requires c κs = search needs
 
 returns : tie.Need-returns
-returns c = let start = c .before .before .before .before in
+returns c =
+    let start = c .before .before .before .before in
     checks-accepted (start .args .card .now) (c .before .before .decode .result) (c .before .before .decode .ensures) (c .enum-told .given .1)
 
 returns-2 : tie.Need-returns-2
-returns-2 c = let start = c .before .before .before .before .before .before in
-    refusal-code _ _ (c .refusal-code .result) (c .refusal-code .ok) (c .refusal-code .ensures)
+returns-2 c =
+    let start = c .before .before .before .before .before .before in
+    same-code (c .refusal-code .result) (c .refusal-code .ok) (c .refusal-code .ensures)
     (checks-refused (start .args .card .now) (c .before .before .before .before .decode .result) (c .before .before .before .before .decode .ensures) _ (c .before .before .verdict .given .1))
 
 pub stakestalk-check-spec : {M : Type 1} → statement M

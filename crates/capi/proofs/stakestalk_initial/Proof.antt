@@ -1,9 +1,8 @@
 -- The answer is small, so its number is read back as it is; the buffer is as the call leaves it.
 use borrow.Author.Needs.{needs}
-use mathlib.Core.Path.{sym, ap, subst, _∙_}
-use Rattle.capi.specs.Numbers.{signed, Small}
+use mathlib.Core.Path.{sym}
 use Rattle.capi.proofs.Codes.{same-code}
-use Rattle.capi.proofs.Sizes.{initial-small}
+use Rattle.capi.proofs.Sizes.{opens-small}
 use Rattle.capi.proofs.stakestalk_initial.Statement.{statement}
 use Rattle.capi.proofs.stakestalk_initial.Tie as tie
 
@@ -11,15 +10,15 @@ initial-requires : tie.Need-initial-requires
 initial-requires c κs = search needs
 
 applied-code-requires : tie.Need-applied-code-requires
-applied-code-requires c κs = let start = c .before .before .before .before .before .before in
-    subst Small (sym (c .before .before .initial .ensures .answer)) (initial-small (start .args .card .now) (start .args .state .now))
+applied-code-requires c κs = opens-small (c .before .before .initial .ensures)
 
 same-length : tie.Need-same-length
 same-length c = search needs
 
 returns : tie.Need-returns
-returns c = let done = c .before .before .before .initial .ensures in
-    (same-code _ (c .applied-code .result) (c .applied-code .ok) (c .applied-code .ensures ∙ ap signed (done .answer)), done .buffer)
+returns c =
+    let done = c .before .before .before .initial .ensures in
+    (same-code (c .applied-code .result) (c .applied-code .ok) (c .applied-code .ensures) (sym (done .answer)), done .buffer)
 
 pub stakestalk-initial-spec : {M : Type 1} → statement M
 stakestalk-initial-spec =

@@ -1,9 +1,8 @@
 -- The answer is small, so its number is read back as it is; the buffer is as the call leaves it.
 use borrow.Author.Needs.{needs}
-use mathlib.Core.Path.{sym, ap, subst, _∙_}
-use Rattle.capi.specs.Numbers.{signed, Small}
+use mathlib.Core.Path.{sym}
 use Rattle.capi.proofs.Codes.{same-code}
-use Rattle.capi.proofs.Sizes.{press-small}
+use Rattle.capi.proofs.Sizes.{applies-small}
 use Rattle.capi.proofs.stakestalk_press.Statement.{statement}
 use Rattle.capi.proofs.stakestalk_press.Tie as tie
 
@@ -11,15 +10,15 @@ apply-requires : tie.Need-apply-requires
 apply-requires c κs = search needs
 
 applied-code-requires : tie.Need-applied-code-requires
-applied-code-requires c κs = let start = c .before .before .before .before .before .before .before in
-    subst Small (sym (c .before .before .apply .ensures .answer)) (press-small (start .args .card .now) (start .args .state .now) (start .args .count) (record { schema = start .args .schema; objects = start .args .objects .now }))
+applied-code-requires c κs = applies-small (c .before .before .apply .ensures)
 
 same-length : tie.Need-same-length
 same-length c = search needs
 
 returns : tie.Need-returns
-returns c = let done = c .before .before .before .apply .ensures in
-    (same-code _ (c .applied-code .result) (c .applied-code .ok) (c .applied-code .ensures ∙ ap signed (done .answer)), done .buffer)
+returns c =
+    let done = c .before .before .before .apply .ensures in
+    (same-code (c .applied-code .result) (c .applied-code .ok) (c .applied-code .ensures) (sym (done .answer)), done .buffer)
 
 pub stakestalk-press-spec : {M : Type 1} → statement M
 stakestalk-press-spec =

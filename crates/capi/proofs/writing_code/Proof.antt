@@ -3,7 +3,7 @@ use borrow.Author.Needs.{needs}
 use mathlib.Core.Path.{ap}
 use Rattle.writer.specs.Tables.{writingSays}
 use Rattle.capi.specs.Numbers.{signed}
-use Rattle.capi.proofs.Codes.{value-fits, value-code, refusal-number, refusal-code}
+use Rattle.capi.proofs.Codes.{value-fits, value-code, refusal-code, same-code}
 use Rattle.capi.proofs.writing_code.Statement.{statement}
 use Rattle.capi.proofs.writing_code.Tie as tie
 
@@ -29,11 +29,11 @@ returns c = value-code _ _ (c .before .before .before .pre) (ap writingSays (c .
 
 returns-2 : tie.Need-returns-2
 unfolding writingSays
-returns-2 c = refusal-code _ _ (c .refusal-code .result) (c .refusal-code .ok) (c .refusal-code .ensures) (ap writingSays (c .before .before .writing2 .given .1))
+returns-2 c = same-code (c .refusal-code .result) (c .refusal-code .ok) (c .refusal-code .ensures) (ap writingSays (c .before .before .writing2 .given .1))
 
 returns-3 : tie.Need-returns-3
 unfolding signed writingSays
-returns-3 c = refusal-number _ 21 (ap writingSays (c .enum-told .given .1))
+returns-3 c = refusal-code _ 21 (ap writingSays (c .enum-told .given .1))
 
 pub writing-code-spec : {M : Type 1} → statement M
 writing-code-spec =
