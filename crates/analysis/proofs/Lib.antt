@@ -3,6 +3,7 @@ pub mod Rows
 pub mod Passing
 pub mod Sorting
 pub mod Comparing
+pub mod Seeking
 pub mod Masks
 pub mod Walking
 pub mod Seen

@@ -14,5 +14,3 @@ pub mod Exploring
 pub mod Joining
 pub mod Extending
 pub mod Repeats
-pub mod Equal
-pub mod Keeping
