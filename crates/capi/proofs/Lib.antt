@@ -1,5 +1,4 @@
 pub mod Codes
 pub mod Sizes
-pub mod Tables
 pub mod Checking
 pub mod Sections

@@ -1,6 +1,7 @@
 // The C interface of include/stakestalk.h: each call answers a number, document 01's value or minus the refusal's number.
 use card::Refusal;
 use card::Verdict;
+use card::refusal_number;
 use listing::Listed;
 use listing::section;
 use reader::decode;
@@ -24,22 +25,8 @@ const OUTPUT_BYTES: usize = 65536;
 fn refusal_code(refusal: Refusal) -> i32
     ensures { λ r. ⌜ r ≡ signed (refused (refusalNumber refusal)) ⌝ }
 {
-    match refusal {
-        Refusal::CardEnds => -1,
-        Refusal::PredicateRange => -2,
-        Refusal::ObjectRange => -3,
-        Refusal::SchemaRange => -4,
-        Refusal::HeaderRange => -5,
-        Refusal::ListRange => -6,
-        Refusal::AtomUnknown => -7,
-        Refusal::AtomOrder => -8,
-        Refusal::DeleteNotPrecondition => -9,
-        Refusal::AddIsPrecondition => -10,
-        Refusal::FactRange => -11,
-        Refusal::FactUnknown => -12,
-        Refusal::FactOrder => -13,
-        Refusal::BytesFollow => -14,
-    }
+    let number = refusal_number(refusal) as i32;
+    0 - number
 }
 
 fn applied_code(applied: Applied) -> i32

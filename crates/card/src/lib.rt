@@ -1,4 +1,6 @@
 // A planning task as a card describes it, and the reader's refusals. What each stands for is in specs/Represents.antt.
+ghost use mathlib.Core.Path.{_≡_};
+ghost use Rattle.card.specs.Represents.{refusalNumber};
 
 // A predicate with up to three arguments; those past the predicate's arity are no part of it.
 pub struct Atom {
@@ -61,6 +63,28 @@ pub enum Refusal {
     FactUnknown,
     FactOrder,
     BytesFollow,
+}
+
+// Document 01's number of a refusal.
+pub fn refusal_number(refusal: Refusal) -> u8
+    ensures { λ r. ⌜ r ≡ refusalNumber refusal ⌝ }
+{
+    match refusal {
+        Refusal::CardEnds => 1,
+        Refusal::PredicateRange => 2,
+        Refusal::ObjectRange => 3,
+        Refusal::SchemaRange => 4,
+        Refusal::HeaderRange => 5,
+        Refusal::ListRange => 6,
+        Refusal::AtomUnknown => 7,
+        Refusal::AtomOrder => 8,
+        Refusal::DeleteNotPrecondition => 9,
+        Refusal::AddIsPrecondition => 10,
+        Refusal::FactRange => 11,
+        Refusal::FactUnknown => 12,
+        Refusal::FactOrder => 13,
+        Refusal::BytesFollow => 14,
+    }
 }
 
 // What reading a card answers: the verdict, and the task beside it, since an enum holds no array. Beside a refusal the task is blank.

@@ -7,18 +7,17 @@ use mathlib.Core.List.{List, [], _∷_, _++_}
 use lib.Dec.{leb, ltb}
 use lib.ListN.{length, getD, drop}
 use borrow.Author.Tests.{le-leb, lt-leb, lt-ltb, le-ltb}
-use Rattle.model.specs.Answer.{Answer, refused, accepted, _>>=_, _>>_, need}
+use Rattle.model.specs.Answer.{Answer, accepted, _>>=_, _>>_, need}
 use Rattle.model.specs.Card as model
 use Rattle.model.specs.Spaces.{spaces}
 use Rattle.model.specs.Lines.{analyse, analysis, spaceLines, closingLines, sections}
 use Rattle.model.specs.Text.{text}
 use Rattle.model.specs.Calls.{Call, outputBytes, finish, output, section}
-use Rattle.model.proofs.RoundTrip.{decode-checks}
 use Rattle.card.specs.declared.Decoded.{Decoded}
 use Rattle.card.specs.declared.Refusal.{Refusal}
-use Rattle.card.specs.declared.Verdict.{Verdict}
 use Rattle.card.specs.declared.Verdict.the-variants.{Accepted, Refused}
-use Rattle.card.specs.Represents.{Decodes, answerOf, taskBeside, refusalNumber, taskOf, taskFor, aritiesOf}
+use Rattle.card.specs.Represents.{Decodes, taskOf, aritiesOf}
+use Rattle.card.proofs.Deciding.{refuses, accepts, task-checks, task-filled}
 use Rattle.rules.specs.Represented.{Represented}
 use Rattle.spaces.specs.declared.Spaces.{Spaces}
 use Rattle.spaces.specs.SpaceTable.{SpacesOf}
@@ -112,35 +111,23 @@ lists-with number out answer =
 module _ (card : List ℕ) (d : Decoded) (decodes : Decodes card d) where
   -- a refused card
   module _ (r : Refusal) (verdict : d .verdict ≡ Refused r) where
-    refuses : model.decode card ≡ refused (refusalNumber r)
-    unfolding answerOf
-    refuses = sym (decodes .answer) ∙ ap (λ (v : Verdict). answerOf v (d .task)) verdict
-
     pub card-refused : (number : ℕ) (out : List ℕ) → Lists card number out out (CardRefused r)
     unfolding section _>>=_ finish listedSays
     card-refused number out = record {
-      answer = sym (ap (λ (a : Answer model.Task). lists-with number out a .answer) refuses);
-      buffer = sym (ap (λ (a : Answer model.Task). lists-with number out a .buffer) refuses);
+      answer = sym (ap (λ (a : Answer model.Task). lists-with number out a .answer) (refuses card d decodes r verdict));
+      buffer = sym (ap (λ (a : Answer model.Task). lists-with number out a .buffer) (refuses card d decodes r verdict));
     }
 
   -- an accepted card
   module _ (verdict : d .verdict ≡ Accepted) where
-    accepts : model.decode card ≡ accepted (taskOf (d .task))
-    unfolding answerOf
-    accepts = sym (decodes .answer) ∙ ap (λ (v : Verdict). answerOf v (d .task)) verdict
-
     -- its task is represented
     pub represented : Represented (d .task) (taskOf (d .task))
-    unfolding taskBeside
-    represented = record {
-      stands = decodes .kept ∙ ap taskBeside accepts;
-      checked = decode-checks card (taskOf (d .task)) accepts;
-    }
+    represented = record { stands = task-filled card d decodes verdict; checked = task-checks card d decodes verdict }
 
     -- and listed
     pub card-listed : (number : ℕ) (out after : List ℕ) (r : Listed) → TaskLists (taskOf (d .task)) number out after r → Lists card number out after r
     unfolding section _>>=_ sectionOf
     card-listed number out after r l = record {
-      answer = l .answer ∙ sym (ap (λ (a : Answer model.Task). lists-with number out a .answer) accepts);
-      buffer = l .buffer ∙ sym (ap (λ (a : Answer model.Task). lists-with number out a .buffer) accepts);
+      answer = l .answer ∙ sym (ap (λ (a : Answer model.Task). lists-with number out a .answer) (accepts card d decodes verdict));
+      buffer = l .buffer ∙ sym (ap (λ (a : Answer model.Task). lists-with number out a .buffer) (accepts card d decodes verdict));
     }

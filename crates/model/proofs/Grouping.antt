@@ -44,7 +44,7 @@ merged-cases g h l =
     (λ e. inl (⊎-elim (λ p. inl (eqb-true l g p)) (λ p. inr (eqb-true l h p)) (or-cases (eqb l g) (eqb l h) e)))
     (λ e. inr (cond-false (eqb l g || eqb l h) (min g h) l e))
 
--- what holds of the two labels and of the one at hand holds of the new one
+-- what holds of the two labels and of the present one holds of the new one
 merged-holds : (Holds : ℕ → Type 0) (g h l : ℕ) → Holds g → Holds h → Holds l → Holds (merged g h l)
 merged-holds Holds g h l pg ph pl =
     ⊎-elim

@@ -9,31 +9,25 @@ use Rattle.model.specs.Card as model
 use Rattle.model.specs.Calls.{encode, outputBytes}
 use Rattle.model.proofs.CardSize.{areBytes}
 use Rattle.model.proofs.RoundTrip.{round-trip}
-use Rattle.card.specs.Represents.{Decodes, answerOf, taskBeside, taskFor, taskOf}
+use Rattle.card.specs.Represents.{Decodes, answerOf, taskOf}
+use Rattle.card.proofs.Deciding.{accepts, task-filled}
 use Rattle.card.specs.declared.Decoded.{Decoded}
 use Rattle.card.specs.declared.Task.{Task}
 use Rattle.card.specs.declared.Verdict.the-variants.{Accepted}
 use Rattle.writer.specs.Tables.{Encodes, tableOf, writingSays}
 use Rattle.writer.specs.declared.Writing.{Writing}
-use Rattle.promises.proofs.Kept.{table-is-task}
+use Rattle.writer.proofs.KeptTables.{table-kept}
 
--- what an accepted verdict says: the task beside it is the card's, and is kept as its table
-pub accepted-task : (card : List ℕ) (d : Decoded) → Decodes card d → d .verdict ≡ Accepted → model.decode card ≡ accepted (taskOf (d .task))
-unfolding answerOf
-accepted-task card d r e = sym (r .answer) ∙ ap (λ v. answerOf v (d .task)) e
-
-pub kept-table : (card : List ℕ) (d : Decoded) → Decodes card d → d .verdict ≡ Accepted → tableOf (d .task) ≡ taskOf (d .task)
-unfolding taskBeside
-kept-table card d r e =
-    let kept : d .task ≡ taskFor (taskOf (d .task)) = r .kept ∙ ap taskBeside (accepted-task card d r e) in
-    ap tableOf kept ∙ table-is-task (taskOf (d .task)) ∙ sym (ap taskOf kept)
+-- what an accepted verdict says: the task beside it is kept as its table
+kept-table : (card : List ℕ) (d : Decoded) → Decodes card d → d .verdict ≡ Accepted → tableOf (d .task) ≡ taskOf (d .task)
+kept-table card d r e = table-kept (d .task) (task-filled card d r e)
 
 -- an accepted card written again has its own bytes
 pub read-then-written : (card out after : List ℕ) (d : Decoded) (w : Writing) → areBytes card ≡ true → Decodes card d
     → d .verdict ≡ Accepted → Encodes (d .task) out after w → outputBytes ≤ length out
     → (writingSays w ≡ accepted (length card)) × (after ≡ card ++ drop (length card) out)
 read-then-written card out after d w bytes r e written room =
-    let again = round-trip .card-again card bytes (taskOf (d .task)) (accepted-task card d r e) out room in
+    let again = round-trip .card-again card bytes (taskOf (d .task)) (accepts card d r e) out room in
     let same = kept-table card d r e in (
       written .answer ∙ ap (λ t. encode t out .answer) same ∙ ap (λ c. c .answer) again,
       written .buffer ∙ ap (λ t. encode t out .buffer) same ∙ ap (λ c. c .buffer) again,

@@ -42,7 +42,7 @@ module _
   atom-refusal e t = atom-refused e ∙ ap (λ k. refused (refusalNumber k)) (sym (t ∙ ap refusalOfAtom e))
 
 -- a refused atom is the whole answer
-pub atom-hands-on : {A : Type 0} {value : Atom → A} {keep : A → Atom} {card : List ℕ} {answer : Answer (A × List ℕ)} {r : AtomRead} {k : Refusal}
+pub atom-passed-on : {A : Type 0} {value : Atom → A} {keep : A → Atom} {card : List ℕ} {answer : Answer (A × List ℕ)} {r : AtomRead} {k : Refusal}
     → r ≡ NoAtom k → answer ≡ refused (refusalNumber k) → Reads value keep blankAtom card answer (atomStep r) (atomIn r)
-atom-hands-on {value = value} {keep} {card} {answer} e a =
+atom-passed-on {value = value} {keep} {card} {answer} e a =
     subst (λ r. Reads value keep blankAtom card answer (atomStep r) (atomIn r)) (sym e) (refuses a)

@@ -92,9 +92,9 @@ pub byte-refusal : {card : List ℕ} {answer : Answer (ℕ × List ℕ)} {r : By
 byte-refusal w e t = byte-refused w e ∙ ap (λ k. refused (refusalNumber k)) (sym (t ∙ ap refusalOfByte e))
 
 -- a refused byte is the whole answer
-pub hands-on : {card : List ℕ} {answer : Answer (ℕ × List ℕ)} {r : ByteRead} {k : Refusal} → r ≡ NoByte k → answer ≡ refused (refusalNumber k)
+pub passed-on : {card : List ℕ} {answer : Answer (ℕ × List ℕ)} {r : ByteRead} {k : Refusal} → r ≡ NoByte k → answer ≡ refused (refusalNumber k)
     → ByteReads card answer r
-hands-on {card} {answer} e a = subst (λ r. ByteReads card answer r) (sym e) (refuses a)
+passed-on {card} {answer} e a = subst (λ r. ByteReads card answer r) (sym e) (refuses a)
 
 -- the byte at a place on the card
 pub byte-at : (card : List ℕ) (at : ℕ) → at < length card → byte (drop at card) ≡ accepted (getD card at 0, drop (at + 1) card)

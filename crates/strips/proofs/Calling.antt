@@ -4,16 +4,15 @@ use mathlib.Core.Path.{_≡_, refl, sym, ap, _∙_, subst}
 use mathlib.Core.List.{List}
 use lib.Dec.{leb}
 use lib.ListN.{length}
-use Rattle.model.specs.Answer.{Answer, refused, accepted, _>>=_, _>>_, need}
+use Rattle.model.specs.Answer.{Answer, accepted, _>>=_, _>>_, need}
 use Rattle.model.specs.Card as model
 use Rattle.model.specs.Strips.{Action, factsIn, wellFormed, apply}
 use Rattle.model.specs.Calls.{Call, finish, store, initial, press}
-use Rattle.model.proofs.RoundTrip.{decode-checks}
-use Rattle.card.specs.Represents.{Decodes, answerOf, taskBeside, refusalNumber, taskOf, taskFor}
+use Rattle.card.specs.Represents.{Decodes, taskOf}
 use Rattle.card.specs.declared.Decoded.{Decoded}
 use Rattle.card.specs.declared.Refusal.{Refusal}
-use Rattle.card.specs.declared.Verdict.{Verdict}
 use Rattle.card.specs.declared.Verdict.the-variants.{Accepted, Refused}
+use Rattle.card.proofs.Deciding.{refuses, accepts, task-checks, task-filled}
 use Rattle.strips.specs.Answers.{Opens, Applies, appliedSays}
 use Rattle.strips.specs.Stages.{Does, pressTask, initialTask, TaskKept}
 use Rattle.strips.specs.declared.Applied.{Applied}
@@ -43,40 +42,28 @@ applied-by card buffer after count action r call e does =
 module _ (card : List ℕ) (d : Decoded) (decodes : Decodes card d) where
   -- a refused card
   module _ (r : Refusal) (verdict : d .verdict ≡ Refused r) where
-    pub refuses : model.decode card ≡ refused (refusalNumber r)
-    unfolding answerOf
-    refuses = sym (decodes .answer) ∙ ap (λ (v : Verdict). answerOf v (d .task)) verdict
-
     pub opening-refused : (buffer : List ℕ) → Opens card buffer buffer (CardRefused r)
     unfolding initial _>>=_ finish appliedSays
     opening-refused buffer =
-        opened-by card buffer buffer (CardRefused r) _ (ap (opens-with buffer) refuses) (record { answer = refl; buffer = refl })
+        opened-by card buffer buffer (CardRefused r) _ (ap (opens-with buffer) (refuses card d decodes r verdict)) (record { answer = refl; buffer = refl })
 
     pub applying-refused : (buffer : List ℕ) (count : ℕ) (action : Action) → Applies card buffer count action buffer (CardRefused r)
     unfolding press _>>=_ finish appliedSays
     applying-refused buffer count action =
-        applied-by card buffer buffer count action (CardRefused r) _ (ap (presses-with buffer count action) refuses)
+        applied-by card buffer buffer count action (CardRefused r) _ (ap (presses-with buffer count action) (refuses card d decodes r verdict))
         (record { answer = refl; buffer = refl })
 
   -- an accepted card
   module _ (verdict : d .verdict ≡ Accepted) where
-    pub accepts : model.decode card ≡ accepted (taskOf (d .task))
-    unfolding answerOf
-    accepts = sym (decodes .answer) ∙ ap (λ (v : Verdict). answerOf v (d .task)) verdict
-
     pub task-kept : TaskKept (d .task)
-    unfolding taskBeside
-    task-kept = record {
-      checks = decode-checks card (taskOf (d .task)) accepts;
-      kept = decodes .kept ∙ ap taskBeside accepts;
-    }
+    task-kept = record { checks = task-checks card d decodes verdict; kept = task-filled card d decodes verdict }
 
     pub opening : (buffer after : List ℕ) (r : Applied) → Does (initialTask (taskOf (d .task)) buffer) after r → Opens card buffer after r
     unfolding initial initialTask _>>=_
-    opening buffer after r does = opened-by card buffer after r _ (ap (opens-with buffer) accepts) does
+    opening buffer after r does = opened-by card buffer after r _ (ap (opens-with buffer) (accepts card d decodes verdict)) does
 
     pub applying :
         (buffer after : List ℕ) (count : ℕ) (action : Action) (r : Applied) → Does (pressTask (taskOf (d .task)) buffer count action) after r
         → Applies card buffer count action after r
     unfolding press pressTask _>>=_
-    applying buffer after count action r does = applied-by card buffer after count action r _ (ap (presses-with buffer count action) accepts) does
+    applying buffer after count action r does = applied-by card buffer after count action r _ (ap (presses-with buffer count action) (accepts card d decodes verdict)) does

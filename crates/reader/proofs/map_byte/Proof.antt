@@ -5,7 +5,7 @@ use native.Mathlib.Omega.{arith}
 use borrow.Author.Tests.{lt-ltb, le-ltb}
 use Rattle.card.specs.Represents.{refusalNumber}
 use Rattle.reader_atoms.proofs.Answers.{byteThat-ends, byteThat-passes, byteThat-fails}
-use Rattle.reader_atoms.proofs.Reading.{accepts, refuses, byte-read, byte-within, byte-refused, hands-on}
+use Rattle.reader_atoms.proofs.Reading.{accepts, refuses, byte-read, byte-within, byte-refused, passed-on}
 use borrow.Author.Needs.{needs}
 use Rattle.reader.proofs.map_byte.Statement.{statement}
 use Rattle.reader.proofs.map_byte.Tie as tie
@@ -22,7 +22,7 @@ enum-told c = search needs
 returns : tie.Need-returns
 returns c =
     let told = c .enum-told .given .1 in
-    hands-on told (byteThat-ends _ _ _ (byte-refused (c .before .before .byte .ensures) told))
+    passed-on told (byteThat-ends _ _ _ (byte-refused (c .before .before .byte .ensures) told))
 
 returns-2 : tie.Need-returns-2
 returns-2 c =

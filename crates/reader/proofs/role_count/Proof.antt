@@ -5,7 +5,7 @@ use native.Mathlib.Omega.{arith}
 use borrow.Author.Tests.{not-true, not-false}
 use Rattle.card.specs.Represents.{refusalNumber}
 use Rattle.reader_atoms.proofs.Answers.{byteThat-ends, byteThat-passes, byteThat-fails, in-bounds, below-low, above-high}
-use Rattle.reader_atoms.proofs.Reading.{accepts, refuses, byte-read, byte-within, byte-refused, hands-on}
+use Rattle.reader_atoms.proofs.Reading.{accepts, refuses, byte-read, byte-within, byte-refused, passed-on}
 use Rattle.reader.proofs.Headers.{role-absent, role-present}
 use borrow.Author.Needs.{needs}
 use Rattle.reader.proofs.role_count.Statement.{statement}
@@ -29,7 +29,7 @@ returns-2 c =
     let at-byte = c .before .before in
     let at-if1 = at-byte .before in
     let told = c .enum-told .given .1 in
-    hands-on told (role-present _ _ (not-false _ (at-if1 .if1 .left)) ∙ byteThat-ends _ _ _ (byte-refused (at-byte .byte .ensures) told))
+    passed-on told (role-present _ _ (not-false _ (at-if1 .if1 .left)) ∙ byteThat-ends _ _ _ (byte-refused (at-byte .byte .ensures) told))
 
 returns-3 : tie.Need-returns-3
 unfolding refusalNumber

@@ -3,7 +3,7 @@ use mathlib.Core.Path.{refl}
 use borrow.Author.Needs.{needs}
 use borrow.Author.Tests.{lt-ltb, le-ltb}
 use Rattle.reader_atoms.proofs.Answers.{byteThat-ends, byteThat-passes, byteThat-fails}
-use Rattle.reader_atoms.proofs.Reading.{accepts, refuses, byte-read, byte-within, byte-refused, hands-on}
+use Rattle.reader_atoms.proofs.Reading.{accepts, refuses, byte-read, byte-within, byte-refused, passed-on}
 use Rattle.reader_atoms.proofs.byte_below.Statement.{statement}
 use Rattle.reader_atoms.proofs.byte_below.Tie as tie
 
@@ -18,7 +18,7 @@ enum-told c = search needs
 
 returns : tie.Need-returns
 returns c =
-    hands-on (c .enum-told .given .1) (byteThat-ends _ _ _ (byte-refused (c .before .before .byte .ensures) (c .enum-told .given .1)))
+    passed-on (c .enum-told .given .1) (byteThat-ends _ _ _ (byte-refused (c .before .before .byte .ensures) (c .enum-told .given .1)))
 
 cast-if1 : tie.Need-cast-if1
 cast-if1 c = search needs

@@ -2,7 +2,7 @@
 use mathlib.Core.Path.{refl}
 use borrow.Author.Needs.{needs}
 use Rattle.reader_atoms.proofs.Answers.{byteThat-ends, byteThat-passes, byteThat-fails, in-bounds, below-low, above-high}
-use Rattle.reader_atoms.proofs.Reading.{accepts, refuses, byte-read, byte-within, byte-refused, hands-on}
+use Rattle.reader_atoms.proofs.Reading.{accepts, refuses, byte-read, byte-within, byte-refused, passed-on}
 use Rattle.reader_atoms.proofs.byte_between.Statement.{statement}
 use Rattle.reader_atoms.proofs.byte_between.Tie as tie
 
@@ -17,7 +17,7 @@ enum-told c = search needs
 
 returns : tie.Need-returns
 returns c =
-    hands-on (c .enum-told .given .1) (byteThat-ends _ _ _ (byte-refused (c .before .before .byte .ensures) (c .enum-told .given .1)))
+    passed-on (c .enum-told .given .1) (byteThat-ends _ _ _ (byte-refused (c .before .before .byte .ensures) (c .enum-told .given .1)))
 
 returns-2 : tie.Need-returns-2
 returns-2 c =

@@ -2,7 +2,7 @@
 use mathlib.Core.Path.{sym, _∙_}
 use Rattle.card.specs.Represents.{refusalNumber}
 use Rattle.reader_atoms.proofs.Reading.{accepts, refuses}
-use Rattle.reader_atoms.proofs.AtomReading.{atom-read, atom-within, atom-kept, atom-refused, atom-hands-on}
+use Rattle.reader_atoms.proofs.AtomReading.{atom-read, atom-within, atom-kept, atom-refused, atom-passed-on}
 use Rattle.reader_atoms.proofs.Checks.{above-bytes, fact-ends, fact-passes, fact-unordered}
 use borrow.Author.Needs.{needs}
 use Rattle.reader_atoms.proofs.fact.Statement.{statement}
@@ -21,7 +21,7 @@ returns : tie.Need-returns
 unfolding refusalNumber
 returns c =
     let told = c .enum-told .given .1 in
-    atom-hands-on told (fact-ends _ _ _ _ (atom-refused (c .before .before .atom .ensures) told))
+    atom-passed-on told (fact-ends _ _ _ _ (atom-refused (c .before .before .atom .ensures) told))
 
 is-above-requires : tie.Need-is-above-requires
 is-above-requires c κs = search needs

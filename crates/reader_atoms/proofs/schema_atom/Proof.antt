@@ -4,7 +4,7 @@ use borrow.Author.Tests.{not-true, not-false}
 use Rattle.model.specs.Answer.{refused}
 use Rattle.card.specs.Represents.{refusalNumber}
 use Rattle.reader_atoms.proofs.Reading.{accepts, refuses}
-use Rattle.reader_atoms.proofs.AtomReading.{atom-read, atom-within, atom-kept, atom-refused, atom-hands-on}
+use Rattle.reader_atoms.proofs.AtomReading.{atom-read, atom-within, atom-kept, atom-refused, atom-passed-on}
 use Rattle.reader_atoms.proofs.Checks.{above-bytes, belongs-bytes, list-long, section-ends, section-unordered, section-strange, section-passes}
 use borrow.Author.Needs.{needs}
 use Rattle.reader_atoms.proofs.schema_atom.Statement.{statement}
@@ -23,7 +23,7 @@ returns : tie.Need-returns
 unfolding refusalNumber
 returns c =
     let told = c .enum-told .given .1 in
-    atom-hands-on told (section-ends _ _ _ _ _ _ (atom-refused (c .before .before .atom .ensures) told))
+    atom-passed-on told (section-ends _ _ _ _ _ _ (atom-refused (c .before .before .atom .ensures) told))
 
 is-above-requires : tie.Need-is-above-requires
 is-above-requires c κs = search needs

@@ -1,9 +1,9 @@
 -- Each refusal has its own number, which the arm of the match knows.
 use borrow.Author.Needs.{needs}
 use mathlib.Core.Path.{_≡_, sym, ap}
 use Rattle.card.specs.Represents.{refusalNumber}
-use Rattle.stakestalk.proofs.refusals.refusal_number.Statement.{statement}
-use Rattle.stakestalk.proofs.refusals.refusal_number.Tie as tie
+use Rattle.card.proofs.refusal_number.Statement.{statement}
+use Rattle.card.proofs.refusal_number.Tie as tie
 
 enum-told : tie.Need-enum-told
 enum-told c = search needs
