@@ -12,28 +12,23 @@ ghost use Rattle.spaces.specs.Tabled.{Room, Grouped};
 ghost use Rattle.spaces.specs.Steps.{bagAt, ruleAt, rulesIn, openAt, opened, enabledBy, gainBy, roundOf, roundsOf};
 
 // The object joins the space of each property that it has at first.
-fn open_object(
-    masks: [u64; 60],
-    groups: &[u8],
-    counts: &[u16],
-    object: usize,
-    size: usize,
-) -> [u64; 60]
+fn open_object(masks: &mut [u64], groups: &[u8], counts: &[u16], object: usize, size: usize)
     requires { ⌜ Grouped size (now groups) ⌝ }
     requires { ⌜ object < 64 ⌝ }
     requires { ⌜ 60 * object + 60 ≤ length (now counts) ⌝ }
-    ensures { λ r. ⌜ r ≡ openAt (now (groups .entry)) size (now (counts .entry)) object masks ⌝ }
+    requires { ⌜ 60 ≤ length (now masks) ⌝ }
+    ensures { λ _. ⌜
+        now (masks .exit) ≡ openAt (now (groups .entry)) size (now (counts .entry)) object (now (masks .entry))
+        ⌝ }
 {
     let at = 60 * object;
     let bit = 1u64 << object;
-    let mut joined = masks;
     for c in 0..size {
         if 0 < counts[at + c] {
             let l = groups[c] as usize;
-            joined[l] = joined[l] | bit;
+            masks[l] = masks[l] | bit;
         }
     }
-    joined
 }
 
 // The members that open in each space: the objects with a nonempty initial condition.
@@ -45,8 +40,7 @@ pub fn initial_members(groups: &[u8], counts: &[u16], objects: usize, size: usiz
 {
     let mut masks = [0u64; 60];
     for object in 0..objects {
-        let next = open_object(masks, groups, counts, object, size);
-        masks = next;
+        open_object(&mut masks, groups, counts, object, size);
     }
     masks
 }
@@ -105,7 +99,7 @@ pub fn enabled(
 
 // What the rule in a row brings into its space: if it is increasing, the objects that it admits, by the members `before` the round.
 fn gain(
-    masks: [u64; 60],
+    masks: &mut [u64],
     before: &[u64],
     groups: &[u8],
     enablers: &[u8],
@@ -114,26 +108,31 @@ fn gain(
     row: usize,
     size: usize,
     objects: usize,
-) -> [u64; 60]
+)
     requires { ⌜ Grouped size (now groups) ⌝ }
     requires { ⌜ objects ≤ 64 ⌝ }
     requires { ⌜ Room (row + 1) (now enablers) (now starts) (now finishes) ⌝ }
-    requires { ⌜ 60 ≤ length (now before) ⌝ }
-    ensures { λ r. ⌜ r ≡ gainBy (now (groups .entry)) objects (now (before .entry)) masks
-        (ruleAt size (now (enablers .entry)) (now (starts .entry)) (now (finishes .entry)) row) ⌝ }
+    requires { ⌜ (60 ≤ length (now before)) × (60 ≤ length (now masks)) ⌝ }
+    ensures { λ _. ⌜
+        now (masks .exit)
+        ≡ gainBy
+        (now (groups .entry))
+        objects
+        (now (before .entry))
+        (now (masks .entry))
+        (ruleAt size (now (enablers .entry)) (now (starts .entry)) (now (finishes .entry)) row)
+        ⌝ }
 {
-    let mut gained = masks;
     if !is_empty(starts, row, size) {
-        return gained;
+        return;
     }
     let c = grouping::first_moved(starts, finishes, row, size);
     if size <= c {
-        return gained;
+        return;
     }
     let those = enabled(before, groups, enablers, row, size, objects);
     let l = groups[c] as usize;
-    gained[l] = gained[l] | those;
-    gained
+    masks[l] = masks[l] | those;
 }
 
 // One round: each space gains every object that one of its own increasing rules admits.
@@ -155,8 +154,8 @@ fn round(
 {
     let mut gained = masks;
     for row in 0..count {
-        let next = gain(
-            gained,
+        gain(
+            &mut gained,
             &masks,
             groups,
             enablers,
@@ -166,7 +165,6 @@ fn round(
             size,
             objects,
         );
-        gained = next;
     }
     gained
 }

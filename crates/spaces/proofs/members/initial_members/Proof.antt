@@ -1,9 +1,9 @@
 -- The objects left, joined with the masks so far, make the whole.
 use Prim.Native.Nat.{ℕ, _≤_, _-_, zero-le}
 use native.Mathlib.Omega.{arith}
-use mathlib.Core.Path.{_≡_, refl}
+use mathlib.Core.Path.{_≡_, refl, sym, _∙_}
 use mathlib.Core.List.{List, foldl}
-use lib.ListN.{replicate}
+use lib.ListN.{length, replicate}
 use Rattle.laws.proofs.Walks.{left, walk-starts, walk-next, walk-ends}
 use Rattle.spaces.specs.Steps.{openAt, opened}
 use Rattle.spaces.proofs.members.initial_members.Statement.{statement}
@@ -14,7 +14,9 @@ openNext groups size counts masks o = openAt groups size counts o masks
 
 abbrev Inv-loop : tie.InvT-loop
 Inv-loop groups counts objects size masks₀ object₀ masks object =
-    (object ≤ objects) × (foldl (openNext groups size counts) masks (left object objects) ≡ opened groups size counts objects)
+    (object ≤ objects)
+    × (length masks ≡ 60)
+    × (foldl (openNext groups size counts) masks (left object objects) ≡ opened groups size counts objects)
 
 abbrev μ-loop : tie.MeasureT-loop
 μ-loop groups counts objects size masks₀ object₀ masks object = objects - object
@@ -24,12 +26,16 @@ unfolding opened
 loop-holds c =
     let a = c .before .before .args in
     let next = openNext (a .groups .now) (a .size) (a .counts .now) in
-    (zero-le, walk-starts next (opened (a .groups .now) (a .size) (a .counts .now) (a .objects)) (a .objects) (replicate 60 0) refl)
+    (zero-le, refl, walk-starts next (opened (a .groups .now) (a .size) (a .counts .now) (a .objects)) (a .objects) (replicate 60 0) refl)
+
+slice-aggregate-open-object : tie.Need-slice-aggregate-open-object Inv-loop μ-loop
+slice-aggregate-open-object c = sym (c .before .before .loop .inv .1)
 
 open-object-requires : tie.Need-open-object-requires Inv-loop μ-loop
 open-object-requires c κs =
-    let pre = c .before .before .before .before .pre in
-    (pre .0, (omega arith, omega arith))
+    let head = c .before .before in
+    let pre = head .before .before .before .pre in
+    (pre .0, (omega arith, (omega arith, omega (arith, head .loop .inv .1))))
 
 add-object : tie.Need-add-object Inv-loop μ-loop
 add-object c = omega arith
@@ -39,12 +45,14 @@ loop-less c = omega arith
 
 loop-again : tie.Need-loop-again Inv-loop μ-loop
 loop-again c =
-    let head = c .before .before in
+    let called = c .before in
+    let head = called .before .before .before in
     let a = head .before .before .before .args in
     let next = openNext (a .groups .now) (a .size) (a .counts .now) in (
       omega arith,
+      called .open-object .kept .0 ∙ head .loop .inv .1,
       walk-next next (opened (a .groups .now) (a .size) (a .counts .now) (a .objects)) (a .objects) (head .loop .object) (head .loop .masks)
-          (c .open-object .result) (c .before .loop-test .taken) (c .open-object .ensures) (head .loop .inv .1),
+          _ (called .before .before .loop-test .taken) (called .open-object .ensures) (head .loop .inv .2),
     )
 
 returns : tie.Need-returns Inv-loop μ-loop
@@ -52,7 +60,7 @@ returns c =
     let head = c .before in
     let a = head .before .before .before .args in
     walk-ends (openNext (a .groups .now) (a .size) (a .counts .now)) (opened (a .groups .now) (a .size) (a .counts .now) (a .objects))
-    (a .objects) (head .loop .object) (head .loop .masks) (c .loop-test .left) (head .loop .inv .1)
+    (a .objects) (head .loop .object) (head .loop .masks) (c .loop-test .left) (head .loop .inv .2)
 
 pub initial-members-spec : {M : Type 1} → statement M
 initial-members-spec =
@@ -61,6 +69,7 @@ initial-members-spec =
     Inv-loop
     μ-loop
     loop-holds
+    slice-aggregate-open-object
     open-object-requires
     add-object
     loop-less
