@@ -16,7 +16,7 @@ stride = 60
 abbrev pub mostRules : ℕ
 mostRules = 960
 
--- how many rules a schema and a task have at most: one for each argument of an added atom, and one for each parameter
+-- how many rules a schema and a task have at most: one for each argument of an added atom, three an atom, and one for each parameter
 unfoldable pub schemaRoom : Schema → ℕ
 schemaRoom s = 3 * length (s .adds) + s .parameters
 

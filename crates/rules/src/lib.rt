@@ -337,7 +337,7 @@ fn put_schema(
     count
 }
 
-// How many rules a task has at most: those of a schema take an argument of an added atom or a parameter each.
+// How many rules a task has at most: of a schema one for each argument of an added atom, three an atom, and one for each parameter.
 pub fn rules_at_most(task: Task) -> usize
     requires { ⌜ Represented task (taskOf task) ⌝ }
     ensures { λ r. ⌜ r ≡ rulesAtMost (taskOf task) ⌝ }
