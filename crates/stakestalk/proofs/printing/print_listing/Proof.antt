@@ -2,7 +2,6 @@
 use Prim.Native.Nat.{ℕ}
 use native.Mathlib.Omega.{arith}
 use lib.ListN.{length-replicate}
-use Rattle.rules.specs.Represented.{Represented}
 use Rattle.rules.proofs.RuleRoom.{at-most-few}
 use borrow.Author.Needs.{needs}
 use Rattle.stakestalk.proofs.printing.print_listing.Statement.{statement}
@@ -31,7 +30,7 @@ slice-aggregate-print-with-7 c = search needs
 
 print-with-requires : tie.Need-print-with-requires
 print-with-requires c κs =
-    let represented : Represented _ _ = search needs in
+    let represented = c .before .before .before .before .before .before .before .pre in
     let few = at-most-few _ (represented .checked) in
     let rules = length-replicate {A = ℕ} 57600 0 in
     let bags = length-replicate {A = ℕ} 3840 0 in
