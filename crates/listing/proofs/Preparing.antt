@@ -7,12 +7,14 @@ use lib.ListN.{length, drop}
 use Rattle.model.specs.Card as model
 use Rattle.model.specs.Transitions.{properties, transitions}
 use Rattle.model.proofs.Checked.{checked}
-use Rattle.model.proofs.RuleCount.{properties-few, rules-few}
+use Rattle.model.proofs.RuleCount.{properties-few}
 use Rattle.card.specs.declared.Task.{Task}
 use Rattle.card.specs.Represents.{taskOf, aritiesOf}
 use Rattle.rules.specs.declared.Numbering.{Numbering}
 use Rattle.rules.specs.Represented.{Represented, Numbers, objectBags}
-use Rattle.rules.specs.Tables.{stride, rows, rowsBefore, RuleTable}
+use Rattle.rules.specs.Tables.{stride, rows, rowsBefore, rulesAtMost, RuleTable}
+use Rattle.rules.specs.Appended.{Room}
+use Rattle.rules.proofs.RuleRoom.{rules-at-most}
 use Rattle.spaces.specs.declared.Spaces.{Spaces}
 use Rattle.spaces.specs.SpaceTable.{SpacesOf}
 use Rattle.spaces.specs.Tabled as tabled
@@ -39,10 +41,15 @@ module _ (task : Task) (r : Represented task (taskOf task)) (count size : ℕ) (
   unfolding taskOf
   sizes-few = (omega (arith, counted, few), checked t (r .checked) .few-objects)
 
-  pub room-for : 57600 ≤ length e → 57600 ≤ length s → 57600 ≤ length f → tabled.Room count e s f
-  room-for k l m =
-      let small : count ≤ 960 = omega (arith, written .counted, rules-few t (r .checked)) in
-      record { enablers-room = omega arith; starts-room = omega arith; finishes-room = omega arith }
+  pub room-for : Room (rulesAtMost t) enablers starts finishes → length e ≡ length enablers → length s ≡ length starts → length f ≡ length finishes
+      → tabled.Room count e s f
+  room-for room k l m =
+      let few-rules : count ≤ rulesAtMost t = omega (arith, written .counted, rules-at-most t (r .checked)) in
+      record {
+        enablers-room = omega (arith, room .enablers-room);
+        starts-room = omega (arith, room .starts-room);
+        finishes-room = omega (arith, room .finishes-room);
+      }
 
   -- the tables hold the task
   pub holds : tabled.TablesOf t size count (task .objects) e s f c

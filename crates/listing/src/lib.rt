@@ -11,6 +11,7 @@ use closing::write_closing;
 use reader::decode;
 use rules::numbered;
 use rules::object_bags;
+use rules::rules_at_most;
 use space_lines::write_space;
 use spaces::Spaces;
 use spaces::spaces_of;
@@ -23,7 +24,7 @@ ghost use Rattle.model.specs.Lines.{sections};
 ghost use Rattle.model.specs.Text.{text};
 ghost use Rattle.card.specs.Represents.{taskOf};
 ghost use Rattle.rules.specs.Represented.{Represented};
-ghost use Rattle.rules.specs.Tables.{mostRules};
+ghost use Rattle.rules.specs.Tables.{rulesAtMost};
 ghost use Rattle.rules.specs.Appended.{Room};
 ghost use Rattle.analysis.specs.Analysed.{Given};
 ghost use Rattle.text.specs.Written.{Writes};
@@ -54,7 +55,7 @@ pub fn prepare(
     counts: &mut [u16],
 ) -> Prepared
     requires { ⌜ Represented task (taskOf task) ⌝ }
-    requires { ⌜ Room mostRules (now enablers) (now starts) (now finishes) ⌝ }
+    requires { ⌜ Room (rulesAtMost (taskOf task)) (now enablers) (now starts) (now finishes) ⌝ }
     requires { ⌜ 3840 ≤ length (now counts) ⌝ }
     ensures { λ r. ⌜
         Given
@@ -162,7 +163,7 @@ fn list_with(
 ) -> Listed
     requires { ⌜ Represented task (taskOf task) ⌝ }
     requires { ⌜ 65536 ≤ length (now out) ⌝ }
-    requires { ⌜ Room mostRules (now enablers) (now starts) (now finishes) ⌝ }
+    requires { ⌜ Room (rulesAtMost (taskOf task)) (now enablers) (now starts) (now finishes) ⌝ }
     requires { ⌜ 3840 ≤ length (now counts) ⌝ }
     requires { ⌜ (57600 ≤ length (now origins)) × (57600 ≤ length (now targets)) ⌝ }
     ensures { λ r. ⌜ TaskLists (taskOf task) number (now (out .entry)) (now (out .exit)) r ⌝ }
@@ -185,14 +186,37 @@ fn list_with(
     Listed::Length(length)
 }
 
-// One section of a task.
-fn list_task(task: Task, number: usize, out: &mut [u8]) -> Listed
+// One section of a task of at most 64 rules.
+fn list_small(task: Task, number: usize, out: &mut [u8]) -> Listed
     requires { ⌜ Represented task (taskOf task) ⌝ }
+    requires { ⌜ (rulesAtMost (taskOf task) ≤ 64) × (65536 ≤ length (now out)) ⌝ }
     ensures { λ r. ⌜ TaskLists (taskOf task) number (now (out .entry)) (now (out .exit)) r ⌝ }
 {
-    if out.len() < 65536 {
-        return Listed::OutputShort;
-    }
+    let mut enablers = [0u8; 3840];
+    let mut starts = [0u8; 3840];
+    let mut finishes = [0u8; 3840];
+    let mut counts = [0u16; 3840];
+    let mut origins = [0u8; 57600];
+    let mut targets = [0u8; 57600];
+    list_with(
+        task,
+        number,
+        out,
+        &mut enablers,
+        &mut starts,
+        &mut finishes,
+        &mut counts,
+        &mut origins,
+        &mut targets,
+    )
+}
+
+// One section of any task.
+fn list_large(task: Task, number: usize, out: &mut [u8]) -> Listed
+    requires { ⌜ Represented task (taskOf task) ⌝ }
+    requires { ⌜ 65536 ≤ length (now out) ⌝ }
+    ensures { λ r. ⌜ TaskLists (taskOf task) number (now (out .entry)) (now (out .exit)) r ⌝ }
+{
     let mut enablers = [0u8; 57600];
     let mut starts = [0u8; 57600];
     let mut finishes = [0u8; 57600];
@@ -210,6 +234,20 @@ fn list_task(task: Task, number: usize, out: &mut [u8]) -> Listed
         &mut origins,
         &mut targets,
     )
+}
+
+// One section of a task. A task of few rules does not pay for clearing the tables of the largest.
+fn list_task(task: Task, number: usize, out: &mut [u8]) -> Listed
+    requires { ⌜ Represented task (taskOf task) ⌝ }
+    ensures { λ r. ⌜ TaskLists (taskOf task) number (now (out .entry)) (now (out .exit)) r ⌝ }
+{
+    if out.len() < 65536 {
+        return Listed::OutputShort;
+    }
+    if rules_at_most(task) <= 64 {
+        return list_small(task, number, out);
+    }
+    list_large(task, number, out)
 }
 
 // The section of a card's listing with this number, written from byte 0 of `out`; the bytes after it are left. A refusal changes no byte.

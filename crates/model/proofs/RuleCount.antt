@@ -171,9 +171,12 @@ module _ (arities : List ℕ) (right : all (between 1 3) arities ≡ true) where
 
 -- ---- all rules
 
--- at most 30 rules of a schema
+-- what bounds the number of a schema's rules: each argument of an added atom and each parameter gives at most one
+abbrev pub schemaBound : Schema → ℕ
+schemaBound s = 3 * length (s .adds) + s .parameters
+
 schema-few : (t : Task) → Checked t → (s : Schema) → CheckedSchema (t .arities) s
-    → length (flatMap (parameterRules t s) (upTo (s .parameters))) ≤ 30
+    → length (flatMap (parameterRules t s) (upTo (s .parameters))) ≤ schemaBound s
 unfolding parameterRules properties
 schema-few t c s right =
     let ks = upTo (s .parameters) in
@@ -186,25 +189,40 @@ schema-few t c s right =
       sum-at-most (λ k. 1) 1 ks (λ k i. le-refl 1),
       length-upTo (s .parameters),
       taken-in-all (t .arities) (c .arities-right) (s .parameters) (s .adds),
-      right .adds-right .few,
-      right .few-parameters,
     )
   where
     same : (k : ℕ) → length (bagOf (propertiesFrom 0 (t .arities)) (s .deletes) k) ≡ length (bagOf (propertiesFrom 0 (t .arities)) (s .adds) k)
     same k = unfold bagOf in length-map (propertiesFrom 0 (t .arities)) _ ∙ sym (length-map (propertiesFrom 0 (t .arities)) _)
 
--- at most 960 rules
-pub rules-few : (t : Task) → checkTask t ≡ accepted tt → length (transitions t) ≤ 960
-unfolding transitions
-rules-few t ok =
-    let c = checked t ok in
-    let rules : Schema → List Transition = λ s. flatMap (parameterRules t s) (upTo (s .parameters)) in
-    omega (
-      arith,
-      length-flatMap rules (t .schemas),
-      sum-at-most (λ s. length (rules s)) 30 (t .schemas) (λ s m. schema-few t c s (c .schemas-right s m)),
-      c .few-schemas,
-    )
+module _ (t : Task) (ok : checkTask t ≡ accepted tt) where
+  -- no more rules than the bounds of the schemas add up to
+  pub rules-bounded : length (transitions t) ≤ sum (map schemaBound (t .schemas))
+  unfolding transitions
+  rules-bounded =
+      let c = checked t ok in
+      let rules : Schema → List Transition = λ s. flatMap (parameterRules t s) (upTo (s .parameters)) in
+      omega (
+        arith,
+        length-flatMap rules (t .schemas),
+        sum-within (λ s. length (rules s)) schemaBound (t .schemas) (λ s m. schema-few t c s (c .schemas-right s m)),
+      )
+
+  -- 32 schemas of at most 24 added arguments and 6 parameters
+  pub bounds-few : sum (map schemaBound (t .schemas)) ≤ 960
+  bounds-few =
+      let c = checked t ok in
+      omega (
+        arith,
+        sum-at-most schemaBound 30 (t .schemas)
+            (λ s m.
+            let right = c .schemas-right s m in
+            omega (arith, right .adds-right .few, right .few-parameters)),
+        c .few-schemas,
+      )
+
+  -- at most 960 rules
+  pub rules-few : length (transitions t) ≤ 960
+  rules-few = le-trans rules-bounded bounds-few
 
 -- ---- the counts in rules
 

@@ -10,5 +10,6 @@ pub mod RuleSizes
 pub mod Widening
 pub mod SchemaRules
 pub mod TaskParts
+pub mod RuleRoom
 pub mod ObjectTable
 pub mod ObjectBags

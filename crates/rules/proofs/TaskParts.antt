@@ -54,6 +54,15 @@ atoms-right arities bound test l e c = record {
   predicates-known = predicate-known arities bound (atomsOf arities l) (c .atoms-known);
 }
 
+-- what stands past the schemas
+abbrev pub noSchema : Schema
+noSchema = record {
+  parameters = 0;
+  preconditions = record { count = 0; atoms = [] };
+  deletes = record { count = 0; atoms = [] };
+  adds = record { count = 0; atoms = [] };
+}
+
 module _ (task : Task) (r : Represented task (taskOf task)) where
   right : Checked (taskOf task)
   right = checked (taskOf task) (r .checked)
@@ -74,7 +83,7 @@ module _ (task : Task) (r : Represented task (taskOf task)) where
   pub schemas-few : task .schemas .count ≤ 32
   schemas-few = let h = right .few-schemas in omega (arith, schema-count)
 
-  schemas-inside : task .schemas .count ≤ length (task .schemas .schemas)
+  pub schemas-inside : task .schemas .count ≤ length (task .schemas .schemas)
   unfolding taskFor schemasFor
   schemas-inside =
       omega (
@@ -117,6 +126,12 @@ module _ (task : Task) (r : Represented task (taskOf task)) where
         (right .schemas-right (getD (taskOf task .schemas) i (schemaOf arities d))
         (mem-getD (taskOf task .schemas) i (schemaOf arities d) (omega (arith, h, schema-count))))
 
+    -- the added atoms are counted
+    pub adds-counted : getD (task .schemas .schemas) i d .adds .count
+        ≡ length (schemaOf (aritiesOf (task .predicates)) (getD (task .schemas .schemas) i d) .adds)
+    unfolding schemaOf schemaFor atomsFor
+    adds-counted = ap (λ (x : Schema). x .adds .count) schema-from
+
     pub schema-right : SchemaRight (aritiesOf (task .predicates)) (getD (task .schemas .schemas) i d)
     unfolding schemaOf schemaFor atomsFor
     schema-right =
@@ -127,7 +142,7 @@ module _ (task : Task) (r : Represented task (taskOf task)) where
           preconditions-right =
               atoms-right arities _ _ (s .preconditions) (ap (λ (x : Schema). x .preconditions .count) schema-from) (passed .preconditions-right);
           deletes-right = atoms-right arities _ _ (s .deletes) (ap (λ (x : Schema). x .deletes .count) schema-from) (passed .deletes-right);
-          adds-right = atoms-right arities _ _ (s .adds) (ap (λ (x : Schema). x .adds .count) schema-from) (passed .adds-right);
+          adds-right = atoms-right arities _ _ (s .adds) adds-counted (passed .adds-right);
         }
 
 -- the facts

@@ -13,7 +13,7 @@ ghost use Rattle.laws.specs.Bags.{less, meet, isEmpty, single};
 ghost use Rattle.model.specs.Transitions.{propertiesFrom, bagOf, exchanges, remaining, rulesOf, transitions};
 ghost use Rattle.card.specs.Represents.{aritiesOf, atomsOf, schemaOf, taskOf, padded};
 ghost use Rattle.rules.specs.Represented.{Represented, objectBags, Numbers, AritiesRight, AtomsRight, SchemaRight, firstProperties};
-ghost use Rattle.rules.specs.Tables.{row, rowsBefore, mostRules, RuleTable};
+ghost use Rattle.rules.specs.Tables.{row, rowsBefore, rulesAtMost, RuleTable};
 ghost use Rattle.rules.specs.Appended.{rowsAt, ruleFrom, increasing, parameterRulesOver, schemaRulesOver, Room, Appended};
 ghost use Rattle.rules.specs.Tallies.{raised, marked, tallied, entered, Enterable};
 
@@ -337,10 +337,27 @@ fn put_schema(
     count
 }
 
+// How many rules a task has at most: of a schema one for each argument of an added atom, three an atom, and one for each parameter.
+pub fn rules_at_most(task: Task) -> usize
+    requires { ⌜ Represented task (taskOf task) ⌝ }
+    ensures { λ r. ⌜ r ≡ rulesAtMost (taskOf task) ⌝ }
+{
+    let schemas = task.schemas;
+    let m = schemas.count;
+    let mut most: usize = 0;
+    let mut i: usize = 0;
+    while i < m {
+        let schema = schemas.schemas[i];
+        most = most + 3 * schema.adds.count + schema.parameters;
+        i = i + 1;
+    }
+    most
+}
+
 // The rules of a task, in schema order, from the start of the three tables, and their number.
 pub fn rules(task: Task, enablers: &mut [u8], starts: &mut [u8], finishes: &mut [u8]) -> usize
     requires { ⌜ Represented task (taskOf task) ⌝ }
-    requires { ⌜ Room mostRules (now enablers) (now starts) (now finishes) ⌝ }
+    requires { ⌜ Room (rulesAtMost (taskOf task)) (now enablers) (now starts) (now finishes) ⌝ }
     ensures { λ r. ⌜ RuleTable (transitions (taskOf task)) r (now (enablers .entry)) (now (starts .entry)) (now (finishes .entry)) (now (enablers .exit)) (now (starts .exit)) (now (finishes .exit)) ⌝ }
 {
     let predicates = task.predicates;

@@ -8,7 +8,7 @@ ghost use Prim.Native.Nat.{_≤_};
 ghost use lib.ListN.{length};
 ghost use Rattle.card.specs.Represents.{taskOf};
 ghost use Rattle.rules.specs.Represented.{Represented};
-ghost use Rattle.rules.specs.Tables.{mostRules};
+ghost use Rattle.rules.specs.Tables.{rulesAtMost};
 ghost use Rattle.rules.specs.Appended.{Room};
 ghost use Rattle.stakestalk.specs.Ready.{Ready, Lent};
 
@@ -97,7 +97,7 @@ fn print_with(
     out: &mut [u8],
 )
     requires { ⌜ Represented task (taskOf task) ⌝ }
-    requires { ⌜ Room mostRules (now enablers) (now starts) (now finishes) ⌝ }
+    requires { ⌜ Room (rulesAtMost (taskOf task)) (now enablers) (now starts) (now finishes) ⌝ }
     requires { ⌜ 3840 ≤ length (now counts) ⌝ }
     requires { ⌜ Lent (now origins) (now targets) (now out) ⌝ }
 {

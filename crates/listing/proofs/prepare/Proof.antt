@@ -28,9 +28,8 @@ spaces-of-requires c κs =
     let few = sizes-few _ rep _ _ _ _ _ _ _ _ _ _ (written .ensures) (bags .ensures) counted in (
       few,
       (
-        room-for _ rep _ _ _ _ _ _ _ _ _ _ (written .ensures) (bags .ensures) counted
-            (omega (arith, room .enablers-room, written .kept .1 .0)) (omega (arith, room .starts-room, written .kept .1 .1 .0))
-            (omega (arith, room .finishes-room, written .kept .1 .1 .1 .0)),
+        room-for _ rep _ _ _ _ _ _ _ _ _ _ (written .ensures) (bags .ensures) counted room
+            (written .kept .1 .0) (written .kept .1 .1 .0) (written .kept .1 .1 .1 .0),
         omega (arith, long, bags .kept .1 .0, few .1),
       ),
     )

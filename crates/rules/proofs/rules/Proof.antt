@@ -2,17 +2,17 @@
 use Prim.Native.Nat.{ℕ, _+_, _-_, _<_}
 use denote.Ref.{now}
 use mathlib.Core.Path.{sym, ap}
-use mathlib.Core.List.{[], flatMap}
+use mathlib.Core.List.{flatMap}
 use lib.ListN.{length}
-use Rattle.card.specs.declared.Schema.{Schema}
 use Rattle.card.specs.Represents.{aritiesOf, schemaOf, schemasOf, taskOf}
-use Rattle.model.proofs.RuleCount.{rules-few}
+use Rattle.rules.specs.Tables.{rulesAtMost}
 use Rattle.rules.specs.Appended.{schemaRulesOver}
 use Rattle.rules.proofs.Predicates.{sum-arities}
 use Rattle.rules.proofs.Appending.{room-fewer, as-rules, as-room, whole-table}
 use Rattle.rules.proofs.EachItem.{ItemsPut, ItemsGiven, items-start, items-kept, room-item, put-item, items-end}
+use Rattle.rules.proofs.RuleRoom.{rules-at-most}
 use Rattle.rules.proofs.SchemaRules.{schemas-sized}
-use Rattle.rules.proofs.TaskParts.{arities-right, schema-count, schemas-few, schema-at, schema-right, transitions-over}
+use Rattle.rules.proofs.TaskParts.{noSchema, arities-right, schema-count, schemas-few, schema-at, schema-right, transitions-over}
 use native.Mathlib.Omega.{arith}
 use Rattle.rules.proofs.rules.Statement.{statement}
 use Rattle.rules.proofs.rules.Tie as tie
@@ -39,9 +39,9 @@ given s =
       few = few;
       sized = schemas-sized (t .arities) few (t .schemas);
       room =
-          room-fewer (0 + length (flatMap (schemaRulesOver (t .arities)) (t .schemas))) 960 (now (s .args .enablers))
+          room-fewer (0 + length (flatMap (schemaRulesOver (t .arities)) (t .schemas))) (rulesAtMost t) (now (s .args .enablers))
           (now (s .args .starts)) (now (s .args .finishes))
-          (omega (arith, ap length (transitions-over t), rules-few t (s .pre .0 .checked))) (s .pre .1);
+          (omega (arith, ap length (transitions-over t), rules-at-most t (s .pre .0 .checked))) (s .pre .1);
     }
 
 -- an index of the schemas
@@ -49,15 +49,6 @@ turn : (s : tie.Start Inv-loop μ-loop) (i : ℕ) → i < s .args .task .schemas
     → i < length (schemasOf (aritiesOf (s .args .task .predicates)) (s .args .task .schemas))
 unfolding taskOf
 turn s i h = omega (arith, h, schema-count (s .args .task) (s .pre .0))
-
--- what stands past the schemas
-none : Schema
-none = record {
-  parameters = 0;
-  preconditions = record { count = 0; atoms = [] };
-  deletes = record { count = 0; atoms = [] };
-  adds = record { count = 0; atoms = [] };
-}
 
 numbered-requires : tie.Need-numbered-requires Inv-loop μ-loop
 numbered-requires c κs = arities-right (c .before .before .before .before .before .args .task) (c .before .before .before .before .before .pre .0) .few
@@ -72,7 +63,7 @@ element-copy-out-schema : tie.Need-element-copy-out-schema Inv-loop μ-loop
 element-copy-out-schema c = let few = schemas-few (c .before .before .before .before .before .before .before .before .before .args .task) (c .before .before .before .before .before .before .before .before .before .pre .0) in omega arith
 
 put-schema-requires : tie.Need-put-schema-requires Inv-loop μ-loop
-unfolding taskOf none
+unfolding taskOf
 put-schema-requires c κs =
     let s = c .before .before .before .before .before .before .before .before .before .before .before .before .before in
     let at = c .before .before .before .before .before .loop in
@@ -81,11 +72,11 @@ put-schema-requires c κs =
     let arities = aritiesOf (task .predicates) in (
       arities-right task (s .pre .0),
       (
-        schema-right task (s .pre .0) (at .i) none h,
+        schema-right task (s .pre .0) (at .i) noSchema h,
         (
           c .before .before .before .before .before .before .before .numbered .ensures .firsts,
-          as-room (ap (schemaRulesOver arities) (schema-at task (s .pre .0) (at .i) none h)) (at .count)
-              (room-item (given s) (at .inv) (schemaOf arities none) (turn s (at .i) h)),
+          as-room (ap (schemaRulesOver arities) (schema-at task (s .pre .0) (at .i) noSchema h)) (at .count)
+              (room-item (given s) (at .inv) (schemaOf arities noSchema) (turn s (at .i) h)),
         ),
       ),
     )
@@ -101,15 +92,15 @@ loop-less : tie.Need-loop-less Inv-loop μ-loop
 loop-less c = omega arith
 
 loop-again : tie.Need-loop-again Inv-loop μ-loop
-unfolding taskOf none
+unfolding taskOf
 loop-again c =
     let s = c .before .before .before .before .before .before .before .before .before .before .before .before .before .before .before .before .before .before .before .before in
     let at = c .before .before .before .before .before .before .before .before .before .before .before .before .loop in
     let h = c .before .before .before .before .before .before .before .before .before .before .before .loop-test .taken in
     let task = s .args .task in
     let arities = aritiesOf (task .predicates) in
-    put-item (given s) (at .inv) (schemaOf arities none) (turn s (at .i) h)
-    (as-rules (ap (schemaRulesOver arities) (sym (schema-at task (s .pre .0) (at .i) none h))) (c .before .before .before .before .before .before .put-schema .ensures))
+    put-item (given s) (at .inv) (schemaOf arities noSchema) (turn s (at .i) h)
+    (as-rules (ap (schemaRulesOver arities) (sym (schema-at task (s .pre .0) (at .i) noSchema h))) (c .before .before .before .before .before .before .put-schema .ensures))
 
 same-length : tie.Need-same-length Inv-loop μ-loop
 same-length c = items-kept (given (c .before .before .before .before .before .before .before .before .before)) (c .before .loop .inv) .enablers-kept

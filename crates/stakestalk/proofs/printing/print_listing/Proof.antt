@@ -2,6 +2,7 @@
 use Prim.Native.Nat.{ℕ}
 use native.Mathlib.Omega.{arith}
 use lib.ListN.{length-replicate}
+use Rattle.rules.proofs.RuleRoom.{at-most-few}
 use borrow.Author.Needs.{needs}
 use Rattle.stakestalk.proofs.printing.print_listing.Statement.{statement}
 use Rattle.stakestalk.proofs.printing.print_listing.Tie as tie
@@ -29,12 +30,14 @@ slice-aggregate-print-with-7 c = search needs
 
 print-with-requires : tie.Need-print-with-requires
 print-with-requires c κs =
+    let represented = c .before .before .before .before .before .before .before .pre in
+    let few = at-most-few _ (represented .checked) in
     let rules = length-replicate {A = ℕ} 57600 0 in
     let bags = length-replicate {A = ℕ} 3840 0 in
     let text = length-replicate {A = ℕ} 65536 0 in (
-      search needs,
+      represented,
       (
-        record { enablers-room = omega (arith, rules); starts-room = omega (arith, rules); finishes-room = omega (arith, rules) },
+        record { enablers-room = omega (arith, rules, few); starts-room = omega (arith, rules, few); finishes-room = omega (arith, rules, few) },
         (omega (arith, bags), record { origins-long = omega (arith, rules); targets-long = omega (arith, rules); out-long = omega (arith, text) }),
       ),
     )
