@@ -11,7 +11,7 @@ use Rattle.card.specs.Represents.{Decodes, refusalNumber}
 use Rattle.card.specs.declared.Decoded.{Decoded}
 use Rattle.card.specs.declared.Refusal.{Refusal}
 use Rattle.card.specs.declared.Verdict.the-variants.{Accepted, Refused}
-use Rattle.card.proofs.Deciding.{refuses, accepts, task-filled}
+use Rattle.card.proofs.Deciding.{refuses, accepts, represented}
 use Rattle.writer.specs.Tables.{tableOf}
 use Rattle.capi.specs.Numbers.{signed, checks, rewritten, rewrites}
 use Rattle.writer.proofs.KeptTables.{table-kept}
@@ -35,4 +35,4 @@ module _ (card : List ℕ) (d : Decoded) (decodes : Decodes card d) where
     unfolding rewrites rewritten
     rewrites-accepted out =
         ap (rewritten out) (accepts card d decodes verdict)
-        ∙ ap (λ (t : model.Task). encode t out) (sym (table-kept (d .task) (task-filled card d decodes verdict)))
+        ∙ ap (λ (t : model.Task). encode t out) (sym (table-kept (d .task) (represented card d decodes verdict .stands)))

@@ -4,13 +4,12 @@ use mathlib.Core.List.{List}
 use Prim.Native.Nat.{ℕ}
 use Rattle.model.specs.Answer.{refused, accepted}
 use Rattle.model.specs.Card as model
-use Rattle.model.specs.Writer.{checkTask}
 use Rattle.model.proofs.RoundTrip.{decode-checks}
 use Rattle.card.specs.declared.Decoded.{Decoded}
 use Rattle.card.specs.declared.Refusal.{Refusal}
 use Rattle.card.specs.declared.Verdict.{Verdict}
 use Rattle.card.specs.declared.Verdict.the-variants.{Accepted, Refused}
-use Rattle.card.specs.Represents.{Decodes, answerOf, taskBeside, refusalNumber, taskOf, taskFor}
+use Rattle.card.specs.Represents.{Decodes, answerOf, taskBeside, refusalNumber, taskOf, Represented}
 
 module _ (card : List ℕ) (d : Decoded) (decodes : Decodes card d) where
   pub refuses : (r : Refusal) → d .verdict ≡ Refused r → model.decode card ≡ refused (refusalNumber r)
@@ -22,11 +21,10 @@ module _ (card : List ℕ) (d : Decoded) (decodes : Decodes card d) where
     unfolding answerOf
     accepts = sym (decodes .answer) ∙ ap (λ (v : Verdict). answerOf v (d .task)) verdict
 
-    -- the task is one that a card can carry
-    pub task-checks : checkTask (taskOf (d .task)) ≡ accepted tt
-    task-checks = decode-checks card (taskOf (d .task)) accepts
-
-    -- and is kept with its blanks
-    pub task-filled : d .task ≡ taskFor (taskOf (d .task))
+    -- the task is kept with its blanks, and is one that a card can carry
+    pub represented : Represented (d .task) (taskOf (d .task))
     unfolding taskBeside
-    task-filled = decodes .kept ∙ ap taskBeside accepts
+    represented = record {
+      stands = decodes .kept ∙ ap taskBeside accepts;
+      checked = decode-checks card (taskOf (d .task)) accepts;
+    }

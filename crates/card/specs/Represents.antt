@@ -5,6 +5,7 @@ use lib.ListN.{length, getD, take, replicate}
 use mathlib.Core.Path.{_≡_}
 use Rattle.model.specs.Answer.{Answer, refused, accepted}
 use Rattle.model.specs.Card as model
+use Rattle.model.specs.Writer.{checkTask}
 use Rattle.card.specs.declared.Atom.{Atom}
 use Rattle.card.specs.declared.AtomList.{AtomList}
 use Rattle.card.specs.declared.ArityList.{ArityList}
@@ -16,7 +17,8 @@ use Rattle.card.specs.declared.Decoded.{Decoded}
 use Rattle.card.specs.declared.Verdict.{Verdict}
 use Rattle.card.specs.declared.Verdict.the-variants.{Accepted, Refused}
 use Rattle.card.specs.declared.Refusal.{Refusal}
-use Rattle.card.specs.declared.Refusal.the-variants.{CardEnds, PredicateRange, ObjectRange, SchemaRange, HeaderRange, ListRange, AtomUnknown, AtomOrder, DeleteNotPrecondition, AddIsPrecondition, FactRange, FactUnknown, FactOrder, BytesFollow}
+use Rattle.card.specs.declared.Refusal.the-variants.{CardEnds, PredicateRange, ObjectRange, SchemaRange, HeaderRange, ListRange, AtomUnknown}
+use Rattle.card.specs.declared.Refusal.the-variants.{AtomOrder, DeleteNotPrecondition, AddIsPrecondition, FactRange, FactUnknown, FactOrder, BytesFollow}
 
 -- the number of a refusal in document 01
 unfoldable pub refusalNumber : Refusal → ℕ
@@ -125,6 +127,11 @@ taskFor t =
       schemas = schemasFor (t .schemas);
       facts = factsFor (t .facts);
     }
+
+-- the struct stands for the task, and a card can carry the task
+pub record Represented (task : Task) (t : model.Task) : Type 0 where
+  pub stands : task ≡ taskFor t
+  pub checked : checkTask t ≡ accepted tt
 
 -- no predicates, no objects, no schemas, no facts: the task beside a refusal
 unfoldable pub blankTask : Task

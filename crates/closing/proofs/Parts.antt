@@ -7,8 +7,7 @@ use Rattle.model.specs.Transitions.{properties}
 use Rattle.model.proofs.RuleCount.{length-properties}
 use Rattle.model.proofs.Checked.{Checked, checked}
 use Rattle.card.specs.declared.Task.{Task}
-use Rattle.card.specs.Represents.{taskOf, taskFor, aritiesOf, aritiesFor, factsFor, padded}
-use Rattle.rules.specs.Represented.{Represented}
+use Rattle.card.specs.Represents.{taskOf, taskFor, aritiesOf, aritiesFor, factsFor, padded, Represented}
 use Rattle.rules.proofs.Predicates.{sum-arities}
 use Rattle.rules.proofs.TaskParts.{arities-right, schemas-few, schema-right}
 use Rattle.closing.specs.Fitting.{SchemasFit}

@@ -13,8 +13,7 @@ use Rattle.model.specs.Lines.{Line, typesOf, typeLines}
 use Rattle.model.specs.Text.{text}
 use Rattle.card.specs.declared.Task as code
 use Rattle.card.specs.declared.Schema as code-schema
-use Rattle.card.specs.Represents.{aritiesOf, schemaOf, taskOf}
-use Rattle.rules.specs.Represented.{Represented}
+use Rattle.card.specs.Represents.{aritiesOf, schemaOf, taskOf, Represented}
 use Rattle.rules.proofs.TaskParts.{schema-count, schema-at}
 use Rattle.spaces.specs.declared.Spaces as code-spaces
 use Rattle.spaces.specs.SpaceTable.{SpacesOf}

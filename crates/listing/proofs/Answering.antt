@@ -17,8 +17,7 @@ use Rattle.card.specs.declared.Decoded.{Decoded}
 use Rattle.card.specs.declared.Refusal.{Refusal}
 use Rattle.card.specs.declared.Verdict.the-variants.{Accepted, Refused}
 use Rattle.card.specs.Represents.{Decodes, taskOf, aritiesOf}
-use Rattle.card.proofs.Deciding.{refuses, accepts, task-checks, task-filled}
-use Rattle.rules.specs.Represented.{Represented}
+use Rattle.card.proofs.Deciding.{refuses, accepts}
 use Rattle.spaces.specs.declared.Spaces.{Spaces}
 use Rattle.spaces.specs.SpaceTable.{SpacesOf}
 use Rattle.analysis.specs.declared.Analysed.{Analysed}
@@ -120,10 +119,6 @@ module _ (card : List ℕ) (d : Decoded) (decodes : Decodes card d) where
 
   -- an accepted card
   module _ (verdict : d .verdict ≡ Accepted) where
-    -- its task is represented
-    pub represented : Represented (d .task) (taskOf (d .task))
-    represented = record { stands = task-filled card d decodes verdict; checked = task-checks card d decodes verdict }
-
     -- and listed
     pub card-listed : (number : ℕ) (out after : List ℕ) (r : Listed) → TaskLists (taskOf (d .task)) number out after r → Lists card number out after r
     unfolding section _>>=_ sectionOf

@@ -34,5 +34,5 @@ pub record Enterable (groups : List ℕ) (properties lowest count members : ℕ)
 pub record TablesGiven (spaces : Spaces) (properties rules : ℕ) (starts finishes counts origins targets : List ℕ) : Type 0 where
   pub task : Task
   pub given : Given task spaces properties rules starts finishes counts
-  pub origins-long : 57600 ≤ length origins
-  pub targets-long : 57600 ≤ length targets
+  pub origins-long : 60 * rules ≤ length origins
+  pub targets-long : 60 * rules ≤ length targets

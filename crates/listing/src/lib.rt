@@ -18,12 +18,11 @@ use spaces::spaces_of;
 use totals::fixed_totals;
 ghost use mathlib.Core.Path.{_≡_};
 ghost use mathlib.Core.List.{[]};
-ghost use Prim.Native.Nat.{_≤_};
+ghost use Prim.Native.Nat.{_*_, _≤_};
 ghost use lib.ListN.{length, getD};
 ghost use Rattle.model.specs.Lines.{sections};
 ghost use Rattle.model.specs.Text.{text};
-ghost use Rattle.card.specs.Represents.{taskOf};
-ghost use Rattle.rules.specs.Represented.{Represented};
+ghost use Rattle.card.specs.Represents.{taskOf, Represented};
 ghost use Rattle.rules.specs.Tables.{rulesAtMost};
 ghost use Rattle.rules.specs.Appended.{Room};
 ghost use Rattle.analysis.specs.Analysed.{Given};
@@ -113,7 +112,7 @@ pub fn write_section(
         (now counts)
         ⌝ }
     requires { ⌜ (number ≤ prepared .spaces .count) × (65536 ≤ length (now out)) ⌝ }
-    requires { ⌜ (57600 ≤ length (now origins)) × (57600 ≤ length (now targets)) ⌝ }
+    requires { ⌜ (60 * prepared .rules ≤ length (now origins)) × (60 * prepared .rules ≤ length (now targets)) ⌝ }
     ensures { λ r. ⌜
         Writes (text (getD (sections (taskOf task)) number [])) (now (out .entry)) (now (out .exit)) r
         ⌝ }
@@ -165,7 +164,9 @@ fn list_with(
     requires { ⌜ 65536 ≤ length (now out) ⌝ }
     requires { ⌜ Room (rulesAtMost (taskOf task)) (now enablers) (now starts) (now finishes) ⌝ }
     requires { ⌜ 3840 ≤ length (now counts) ⌝ }
-    requires { ⌜ (57600 ≤ length (now origins)) × (57600 ≤ length (now targets)) ⌝ }
+    requires { ⌜
+        (60 * rulesAtMost (taskOf task) ≤ length (now origins)) × (60 * rulesAtMost (taskOf task) ≤ length (now targets))
+        ⌝ }
     ensures { λ r. ⌜ TaskLists (taskOf task) number (now (out .entry)) (now (out .exit)) r ⌝ }
 {
     let prepared = prepare(task, enablers, starts, finishes, counts);
@@ -196,8 +197,8 @@ fn list_small(task: Task, number: usize, out: &mut [u8]) -> Listed
     let mut starts = [0u8; 3840];
     let mut finishes = [0u8; 3840];
     let mut counts = [0u16; 3840];
-    let mut origins = [0u8; 57600];
-    let mut targets = [0u8; 57600];
+    let mut origins = [0u8; 3840];
+    let mut targets = [0u8; 3840];
     list_with(
         task,
         number,

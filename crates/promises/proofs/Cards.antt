@@ -10,7 +10,7 @@ use Rattle.model.specs.Calls.{encode, outputBytes}
 use Rattle.model.proofs.CardSize.{areBytes}
 use Rattle.model.proofs.RoundTrip.{round-trip}
 use Rattle.card.specs.Represents.{Decodes, answerOf, taskOf}
-use Rattle.card.proofs.Deciding.{accepts, task-filled}
+use Rattle.card.proofs.Deciding.{accepts, represented}
 use Rattle.card.specs.declared.Decoded.{Decoded}
 use Rattle.card.specs.declared.Task.{Task}
 use Rattle.card.specs.declared.Verdict.the-variants.{Accepted}
@@ -20,7 +20,7 @@ use Rattle.writer.proofs.KeptTables.{table-kept}
 
 -- what an accepted verdict says: the task beside it is kept as its table
 kept-table : (card : List ℕ) (d : Decoded) → Decodes card d → d .verdict ≡ Accepted → tableOf (d .task) ≡ taskOf (d .task)
-kept-table card d r e = table-kept (d .task) (task-filled card d r e)
+kept-table card d r e = table-kept (d .task) (represented card d r e .stands)
 
 -- an accepted card written again has its own bytes
 pub read-then-written : (card out after : List ℕ) (d : Decoded) (w : Writing) → areBytes card ≡ true → Decodes card d

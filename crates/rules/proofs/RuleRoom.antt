@@ -16,8 +16,8 @@ use Rattle.model.specs.Transitions.{transitions}
 use Rattle.model.proofs.RuleCount.{rules-bounded, bounds-few}
 use Rattle.card.specs.declared.Schema.{Schema}
 use Rattle.card.specs.declared.Task.{Task}
-use Rattle.card.specs.Represents.{taskOf, aritiesOf, schemaOf}
-use Rattle.rules.specs.Represented.{Represented, SchemaRight}
+use Rattle.card.specs.Represents.{taskOf, aritiesOf, schemaOf, Represented}
+use Rattle.rules.specs.Represented.{SchemaRight}
 use Rattle.rules.specs.Tables.{schemaRoom, rulesAtMost, mostRules}
 use Rattle.rules.proofs.TaskParts.{noSchema, schema-count, schemas-inside, schema-at, adds-counted}
 

@@ -20,9 +20,9 @@ use Rattle.card.specs.declared.Atom.{Atom}
 use Rattle.card.specs.declared.Schema.{Schema}
 use Rattle.card.specs.declared.AtomList.{AtomList}
 use Rattle.card.specs.declared.Task.{Task}
-use Rattle.card.specs.Represents.{taskFor, factsFor, atomFor, atomOf, blankAtom, aritiesFor, schemasFor, schemaFor, atomsFor, padded, blankSchema}
+use Rattle.card.specs.Represents.{taskFor, factsFor, atomFor, atomOf, blankAtom, aritiesFor, schemasFor, schemaFor, atomsFor, padded, blankSchema, Represented}
 use Rattle.card.specs.Represents.{taskOf, schemasOf, aritiesOf, schemaOf, atomsOf, factsOf}
-use Rattle.rules.specs.Represented.{Represented, AritiesRight, AtomsRight, SchemaRight, firstProperties}
+use Rattle.rules.specs.Represented.{AritiesRight, AtomsRight, SchemaRight, firstProperties}
 use Rattle.rules.proofs.Predicates.{Placed, placed, atom-at}
 use Rattle.rules.specs.Appended.{parameterRulesOver, schemaRulesOver}
 

@@ -1,4 +1,4 @@
--- A task as the code has it: the struct of an accepted task of the model, and what that says of its parts.
+-- The parts of a task as the code has it: its properties numbered, its objects' bags, and what is asked of its lists.
 use Prim.Native.Nat.{ℕ, _≤_}
 use mathlib.Core.Path.{_≡_}
 use mathlib.Core.Bool.{true}
@@ -7,22 +7,14 @@ use lib.Dec.{ltb}
 use lib.ListN.{length, take}
 use Rattle.laws.specs.Lists.{all, sum, upTo}
 use Rattle.laws.specs.Bags.{Bag}
-use Rattle.model.specs.Answer.{accepted}
 use Rattle.model.specs.Card as model
 use Rattle.model.specs.Card.{between}
-use Rattle.model.specs.Writer.{checkTask}
 use Rattle.model.specs.Transitions.{propertiesFrom, properties, bagOf}
 use Rattle.card.specs.declared.ArityList.{ArityList}
 use Rattle.card.specs.declared.AtomList.{AtomList}
 use Rattle.card.specs.declared.Schema.{Schema}
-use Rattle.card.specs.declared.Task.{Task}
-use Rattle.card.specs.Represents.{taskFor, padded, aritiesOf, atomsOf}
+use Rattle.card.specs.Represents.{padded, aritiesOf, atomsOf}
 use Rattle.rules.specs.declared.Numbering.{Numbering}
-
--- the struct stands for the task, and a card can carry the task
-pub record Represented (task : Task) (t : model.Task) : Type 0 where
-  pub stands : task ≡ taskFor t
-  pub checked : checkTask t ≡ accepted tt
 
 -- the bags of all objects over the task's facts, object by object
 unfoldable pub objectBags : model.Task → List Bag

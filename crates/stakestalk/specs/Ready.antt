@@ -3,9 +3,8 @@ use Prim.Native.Nat.{ℕ, _≤_}
 use mathlib.Core.List.{List}
 use lib.ListN.{length}
 use Rattle.model.specs.Calls.{outputBytes}
-use Rattle.card.specs.Represents.{taskOf}
+use Rattle.card.specs.Represents.{taskOf, Represented}
 use Rattle.card.specs.declared.Task.{Task}
-use Rattle.rules.specs.Represented.{Represented}
 use Rattle.analysis.specs.Analysed.{Given}
 use Rattle.listing.specs.declared.Prepared.{Prepared}
 

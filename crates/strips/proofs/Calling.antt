@@ -12,9 +12,9 @@ use Rattle.card.specs.Represents.{Decodes, taskOf}
 use Rattle.card.specs.declared.Decoded.{Decoded}
 use Rattle.card.specs.declared.Refusal.{Refusal}
 use Rattle.card.specs.declared.Verdict.the-variants.{Accepted, Refused}
-use Rattle.card.proofs.Deciding.{refuses, accepts, task-checks, task-filled}
+use Rattle.card.proofs.Deciding.{refuses, accepts}
 use Rattle.strips.specs.Answers.{Opens, Applies, appliedSays}
-use Rattle.strips.specs.Stages.{Does, pressTask, initialTask, TaskKept}
+use Rattle.strips.specs.Stages.{Does, pressTask, initialTask}
 use Rattle.strips.specs.declared.Applied.{Applied}
 use Rattle.strips.specs.declared.Applied.the-variants.{CardRefused}
 
@@ -55,9 +55,6 @@ module _ (card : List ℕ) (d : Decoded) (decodes : Decodes card d) where
 
   -- an accepted card
   module _ (verdict : d .verdict ≡ Accepted) where
-    pub task-kept : TaskKept (d .task)
-    task-kept = record { checks = task-checks card d decodes verdict; kept = task-filled card d decodes verdict }
-
     pub opening : (buffer after : List ℕ) (r : Applied) → Does (initialTask (taskOf (d .task)) buffer) after r → Opens card buffer after r
     unfolding initial initialTask _>>=_
     opening buffer after r does = opened-by card buffer after r _ (ap (opens-with buffer) (accepts card d decodes verdict)) does

@@ -10,19 +10,19 @@ use lib.Seq.{take-at}
 use Rattle.model.specs.Card as model
 use Rattle.model.specs.Strips.{State, Action, factsIn, wellFormed, schemaAt, written}
 use Rattle.model.specs.Calls.{Call}
-use Rattle.card.specs.Represents.{schemaOf, aritiesOf, factsOf, taskOf, blankSchema}
+use Rattle.card.specs.Represents.{schemaOf, aritiesOf, factsOf, taskOf, blankSchema, Represented}
 use Rattle.card.specs.declared.Schema.{Schema}
 use Rattle.card.specs.declared.Task.{Task}
 use Rattle.state.specs.Rows.{factNumber, signature, inRange, stored, Shape}
 use Rattle.state.proofs.FactNumbers.{stored-written}
 use Rattle.actions.specs.Grounds.{FactsRight}
-use Rattle.strips.specs.Stages.{Does, leaving, bound, pressTask, initialTask, SchemaKept, StateKept, TaskKept}
+use Rattle.strips.specs.Stages.{Does, leaving, bound, pressTask, initialTask, SchemaKept, StateKept}
 use Rattle.strips.specs.declared.Applied.{Applied}
 use Rattle.strips.specs.declared.Applied.the-variants.{Count, StateMalformed, SchemaUnknown}
 use Rattle.strips.proofs.Tasks.{modelTask, arities, task-shape, arities-part, formed-shaped, schema-count, few-schemas, chosen-is, chosen-kept, getD-default, fact-count, few-facts, facts-kept, facts-known}
 use Rattle.strips.proofs.Refusing.{state-malformed, schema-unknown, schema-named, task-opened}
 
-module _ (task : Task) (kept : TaskKept task) where
+module _ (task : Task) (kept : Represented task (taskOf task)) where
   -- the arities as they are lent
   abbrev pub part : List ℕ
   part = take (task .predicates .count - 0) (task .predicates .arities)

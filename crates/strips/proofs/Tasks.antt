@@ -18,14 +18,15 @@ use Rattle.model.specs.Strips.{State, factsIn, rowRight, rowsRight, ascending, 
 use Rattle.model.proofs.Order.{known-predicate}
 use Rattle.model.proofs.Answers.{first-passed, need-then}
 use Rattle.model.proofs.Checked.{Checked, checked, CheckedSchema, schemaAt-right, each-passed}
-use Rattle.card.specs.Represents.{atomOf, atomsOf, schemaOf, aritiesOf, schemasOf, factsOf, taskOf, padded, atomFor, blankAtom, atomsFor, schemaFor, blankSchema, aritiesFor, schemasFor, factsFor, taskFor}
+use Rattle.card.specs.Represents.{atomOf, atomsOf, schemaOf, aritiesOf, schemasOf, factsOf, taskOf, Represented}
+use Rattle.card.specs.Represents.{padded, atomFor, blankAtom, atomsFor, schemaFor, blankSchema, aritiesFor, schemasFor, factsFor, taskFor}
 use Rattle.card.specs.declared.Atom.{Atom as Kept}
 use Rattle.card.specs.declared.AtomList.{AtomList}
 use Rattle.card.specs.declared.Schema.{Schema}
 use Rattle.card.specs.declared.Task.{Task}
 use Rattle.state.specs.Rows.{signature, inRange, Shape}
 use Rattle.actions.specs.Grounds.{FactsRight}
-use Rattle.strips.specs.Stages.{ListKept, SchemaKept, StateKept, TaskKept}
+use Rattle.strips.specs.Stages.{ListKept, SchemaKept, StateKept}
 
 -- 15 looks at a task's arities and objects alone
 rows-shaped : (t : model.Task) (n : ℕ) (buffer : List ℕ) → rowsRight t n buffer ≡ rowsRight (signature (t .arities) (t .objects)) n buffer
@@ -57,7 +58,7 @@ list-kept atoms h = record {
   size = length-padded 8 blankAtom (map atomFor atoms) (let n = length-map atoms atomFor in omega arith);
 }
 
-module _ (task : Task) (kept : TaskKept task) where
+module _ (task : Task) (kept : Represented task (taskOf task)) where
   abbrev pub modelTask : model.Task
   modelTask = taskOf task
 
@@ -65,7 +66,7 @@ module _ (task : Task) (kept : TaskKept task) where
   arities = aritiesOf (task .predicates)
 
   right : Checked modelTask
-  right = checked modelTask (kept .checks)
+  right = checked modelTask (kept .checked)
 
   pub task-shape : Shape arities (task .objects)
   unfolding taskOf inRange
@@ -75,9 +76,9 @@ module _ (task : Task) (kept : TaskKept task) where
   pub predicates-within : task .predicates .count ≤ length (task .predicates .arities)
   unfolding taskOf taskFor aritiesFor
   predicates-within =
-      let count : task .predicates .count ≡ length arities = ap (λ (t : Task). t .predicates .count) (kept .kept) in
+      let count : task .predicates .count ≡ length arities = ap (λ (t : Task). t .predicates .count) (kept .stands) in
       let size : length (task .predicates .arities) ≡ 20 =
-      (ap (λ (t : Task). length (t .predicates .arities)) (kept .kept) ∙ length-padded 20 0 arities (right .few-predicates)) in
+      (ap (λ (t : Task). length (t .predicates .arities)) (kept .stands) ∙ length-padded 20 0 arities (right .few-predicates)) in
       let few = right .few-predicates in
       omega arith
 
@@ -87,12 +88,12 @@ module _ (task : Task) (kept : TaskKept task) where
 
   pub schema-count : task .schemas .count ≡ length (modelTask .schemas)
   unfolding taskOf taskFor schemasFor
-  schema-count = ap (λ (t : Task). t .schemas .count) (kept .kept)
+  schema-count = ap (λ (t : Task). t .schemas .count) (kept .stands)
 
   pub schema-size : length (task .schemas .schemas) ≡ 32
   unfolding taskOf taskFor schemasFor
   schema-size =
-      ap (λ (t : Task). length (t .schemas .schemas)) (kept .kept)
+      ap (λ (t : Task). length (t .schemas .schemas)) (kept .stands)
       ∙ length-padded 32 blankSchema (map schemaFor (modelTask .schemas)) (let n = length-map (modelTask .schemas) schemaFor in let few = right .few-schemas in omega arith)
 
   pub few-schemas : (n : ℕ) → n < task .schemas .count → n < length (task .schemas .schemas)
@@ -121,7 +122,7 @@ module _ (task : Task) (kept : TaskKept task) where
     chosen-for =
         let schemas : List model.Schema = modelTask .schemas in
         let within-kept : n < length (map schemaFor schemas) = (let l = length-map schemas schemaFor in let i = inside in omega arith) in
-        ap (λ (t : Task). getD (t .schemas .schemas) n blankSchema) (kept .kept)
+        ap (λ (t : Task). getD (t .schemas .schemas) n blankSchema) (kept .stands)
         ∙ List·getD-append (map schemaFor schemas) _ blankSchema n within-kept
         ∙ getD-default (map schemaFor schemas) n blankSchema (schemaFor _) within-kept
         ∙ List·getD-map schemaFor schemas n (record { parameters = 0; preconditions = []; deletes = []; adds = [] })
@@ -129,7 +130,7 @@ module _ (task : Task) (kept : TaskKept task) where
     passes : checkSchema arities (schemaAt modelTask n) ≡ accepted tt
     unfolding checkTask taskOf schemaAt
     passes =
-        let e₂ = need-then _ 2 _ tt (kept .checks) in
+        let e₂ = need-then _ 2 _ tt (kept .checked) in
         let e₃ = need-then _ 2 _ tt e₂ in
         let e₄ = need-then _ 3 _ tt e₃ in
         let e₅ = need-then _ 4 _ tt e₄ in
@@ -149,7 +150,7 @@ module _ (task : Task) (kept : TaskKept task) where
   -- the facts, and room for their numbers
   pub fact-count : task .facts .count ≡ length (modelTask .facts)
   unfolding taskOf taskFor factsFor
-  fact-count = ap (λ (t : Task). t .facts .count) (kept .kept)
+  fact-count = ap (λ (t : Task). t .facts .count) (kept .stands)
 
   pub few-facts : task .facts .count ≤ 512
   few-facts = let n = fact-count in let few = right .few-facts in omega arith
@@ -160,7 +161,7 @@ module _ (task : Task) (kept : TaskKept task) where
     right = task-shape .right;
     few = few-facts;
     size =
-        ap (λ (t : Task). length (t .facts .facts)) (kept .kept)
+        ap (λ (t : Task). length (t .facts .facts)) (kept .stands)
         ∙ length-padded 512 blankAtom (map atomFor (modelTask .facts)) (let n = length-map (modelTask .facts) atomFor in let few = right .few-facts in omega arith);
     predicates-known =
         all-intro _ (modelTask .facts) (λ f m. known-predicate arities (task .objects) f

@@ -8,13 +8,12 @@ use lib.ListN.{length}
 use Rattle.laws.specs.Lists.{all, member, distinct}
 use Rattle.model.specs.Answer.{Answer, refused, accepted, _>>=_, _>>_, need}
 use Rattle.model.specs.Card as model
-use Rattle.model.specs.Writer.{checkTask, checkSchema}
+use Rattle.model.specs.Writer.{checkSchema}
 use Rattle.model.specs.Strips.{State, Action, mostFacts, factsIn, wellFormed, ground, applicable, takenOut, putIn, successor, apply}
 use Rattle.model.specs.Calls.{Call, finish, store}
-use Rattle.card.specs.Represents.{schemaOf, taskOf, taskFor}
+use Rattle.card.specs.Represents.{schemaOf}
 use Rattle.card.specs.declared.AtomList.{AtomList}
 use Rattle.card.specs.declared.Schema.{Schema}
-use Rattle.card.specs.declared.Task.{Task}
 use Rattle.sets.specs.Numbers.{withoutAll, insertedAll, Holds}
 use Rattle.state.specs.Rows.{factNumber, signature, Shape}
 use Rattle.actions.specs.Grounds.{Bound}
@@ -100,8 +99,3 @@ pub record Ready (arities objects : List ℕ) (schema : Schema) (buffer : List �
   pub schema-kept : SchemaKept arities schema
   pub one-for-each : length objects ≡ schema .parameters
   pub objects-known : all (λ o. ltb o known-objects) objects ≡ true
-
--- A checked task, as the code keeps it.
-pub record TaskKept (task : Task) : Type 0 where
-  pub checks : checkTask (taskOf task) ≡ accepted tt
-  pub kept : task ≡ taskFor (taskOf task)

@@ -22,11 +22,11 @@ ghost use mathlib.Core.Path.{_≡_};
 ghost use mathlib.Core.List.{map, _++_};
 ghost use lib.ListN.{length, getD, take, drop};
 ghost use Rattle.model.specs.Strips.{factsIn};
-ghost use Rattle.card.specs.Represents.{schemaOf, taskOf};
+ghost use Rattle.card.specs.Represents.{schemaOf, taskOf, Represented};
 ghost use Rattle.sets.specs.Numbers.{rising, Becomes};
 ghost use Rattle.strips.specs.Answers.{Opens, Applies};
 ghost use Rattle.strips.specs.Stages.{Does, leaving, changed, bound, pressTask, initialTask, allHeld, nextNumbers};
-ghost use Rattle.strips.specs.Stages.{Ready, NextReady, StateKept, SchemaKept, TaskKept};
+ghost use Rattle.strips.specs.Stages.{Ready, NextReady, StateKept, SchemaKept};
 ghost use Rattle.actions.specs.Grounds.{Bound};
 
 // What the opening call and applying an action answer: the number of facts, or why not. A refusal of the card is handed through.
@@ -125,7 +125,7 @@ fn apply_schema(
 
 // 15 to 20, for a task: the state first, then the schema.
 fn apply_task(task: Task, state: &mut [u8], count: usize, schema: usize, objects: &[u8]) -> Applied
-    requires { ⌜ TaskKept task ⌝ }
+    requires { ⌜ Represented task (taskOf task) ⌝ }
     ensures { λ r. ⌜ Does (pressTask (taskOf task) (now (state .entry)) count (record { schema = schema; objects = now (objects .entry) })) (now (state .exit)) r ⌝ }
 {
     let predicates = task.predicates;
@@ -153,7 +153,7 @@ fn apply_task(task: Task, state: &mut [u8], count: usize, schema: usize, objects
 
 // The opening call for a task: its facts are stored.
 fn open_task(task: Task, state: &mut [u8]) -> Applied
-    requires { ⌜ TaskKept task ⌝ }
+    requires { ⌜ Represented task (taskOf task) ⌝ }
     ensures { λ r. ⌜ Does (initialTask (taskOf task) (now (state .entry))) (now (state .exit)) r ⌝ }
 {
     if state.len() < 4096 {

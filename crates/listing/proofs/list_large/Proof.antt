@@ -36,7 +36,7 @@ list-with-requires c κs =
         pre .1,
         (
           record { enablers-room = omega (arith, rules, few); starts-room = omega (arith, rules, few); finishes-room = omega (arith, rules, few) },
-          (omega (arith, bags), (omega (arith, rules), omega (arith, rules))),
+          (omega (arith, bags), (omega (arith, rules, few), omega (arith, rules, few))),
         ),
       ),
     )

@@ -28,14 +28,13 @@ list-with-requires : tie.Need-list-with-requires
 list-with-requires c κs =
     let pre = c .before .before .before .before .before .before .before .before .pre in
     let few = pre .1 .0 in
-    let rules = length-replicate {A = ℕ} 3840 0 in
-    let moves = length-replicate {A = ℕ} 57600 0 in (
+    let rows = length-replicate {A = ℕ} 3840 0 in (
       pre .0,
       (
         pre .1 .1,
         (
-          record { enablers-room = omega (arith, rules, few); starts-room = omega (arith, rules, few); finishes-room = omega (arith, rules, few) },
-          (omega (arith, rules), (omega (arith, moves), omega (arith, moves))),
+          record { enablers-room = omega (arith, rows, few); starts-room = omega (arith, rows, few); finishes-room = omega (arith, rows, few) },
+          (omega (arith, rows), (omega (arith, rows, few), omega (arith, rows, few))),
         ),
       ),
     )

@@ -1,8 +1,17 @@
 -- No section past the closing one; the others are written.
+use Prim.Native.Nat.{ℕ, _*_, _≤_}
+use native.Mathlib.Omega.{arith}
+use mathlib.Core.List.{List}
+use lib.ListN.{length}
+use Rattle.rules.proofs.RuleRoom.{rules-at-most}
 use Rattle.listing.proofs.Answering.{list-unknown, list-written}
 use borrow.Author.Needs.{needs}
 use Rattle.listing.proofs.list_with.Statement.{statement}
 use Rattle.listing.proofs.list_with.Tie as tie
+
+-- a table with room for the most rules has room for those that there are
+moves-fit : (rules most : ℕ) (table : List ℕ) → rules ≤ most → 60 * most ≤ length table → 60 * rules ≤ length table
+moves-fit rules most table h k = omega arith
 
 prepare-requires : tie.Need-prepare-requires
 prepare-requires c κs = search needs
@@ -25,8 +34,12 @@ returns c =
 
 write-section-requires : tie.Need-write-section-requires
 write-section-requires c κs =
-    let pre = c .before .before .before .before .before .before .before .before .before .before .before .before .before .before .before .before .before .before .before .before .before .before .before .before .before .before .before .before .pre in
-    (pre .0, (c .before .before .before .before .before .before .before .before .before .before .before .before .before .before .before .before .prepare .ensures, ((c .before .before .before .before .before .before .if1 .left, pre .1 .0), pre .1 .1 .1 .1)))
+    let tested = c .before .before .before .before .before .before in
+    let called = tested .before .before .before .before .before .before .before .before .before .before in
+    let pre = called .before .before .before .before .before .before .before .before .before .before .before .before .pre in
+    let given = called .prepare .ensures in
+    let few = omega (arith, given .rules-counted, rules-at-most _ (pre .0 .checked)) in
+    (pre .0, (given, ((tested .if1 .left, pre .1 .0), (moves-fit _ _ _ few (pre .1 .1 .1 .1 .0), moves-fit _ _ _ few (pre .1 .1 .1 .1 .1)))))
 
 same-length-5 : tie.Need-same-length-5
 same-length-5 c = search needs

@@ -1,5 +1,6 @@
 -- The card's refusal is handed through; an accepted card's task is listed.
-use Rattle.listing.proofs.Answering.{card-refused, represented, card-listed}
+use Rattle.card.proofs.Deciding.{represented}
+use Rattle.listing.proofs.Answering.{card-refused, card-listed}
 use borrow.Author.Needs.{needs}
 use Rattle.listing.proofs.section.Statement.{statement}
 use Rattle.listing.proofs.section.Tie as tie

@@ -1,6 +1,6 @@
 -- A refused card's line is printed, and an accepted card's listing.
 use borrow.Author.Needs.{needs}
-use Rattle.listing.proofs.Answering.{represented}
+use Rattle.card.proofs.Deciding.{represented}
 use Rattle.stakestalk.proofs.print_card.Statement.{statement}
 use Rattle.stakestalk.proofs.print_card.Tie as tie
 

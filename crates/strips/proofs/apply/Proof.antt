@@ -1,7 +1,8 @@
 -- The card's refusal is handed through; the action is applied to an accepted card's task.
 use borrow.Author.Needs.{needs}
 use Prim.Native.Nat.{ℕ}
-use Rattle.strips.proofs.Calling.{applying-refused, task-kept, applying}
+use Rattle.card.proofs.Deciding.{represented}
+use Rattle.strips.proofs.Calling.{applying-refused, applying}
 use Rattle.strips.proofs.apply.Statement.{statement}
 use Rattle.strips.proofs.apply.Tie as tie
 
@@ -15,7 +16,7 @@ enum-told : tie.Need-enum-told
 enum-told c = search needs
 
 apply-task-requires : tie.Need-apply-task-requires
-apply-task-requires c κs = let start = c .before .before .before .before .before .before .before .before in task-kept (start .args .card .now) (c .before .before .before .before .decode .result) (c .before .before .before .before .decode .ensures) (c .before .enum-told .given .1)
+apply-task-requires c κs = let start = c .before .before .before .before .before .before .before .before in represented (start .args .card .now) (c .before .before .before .before .decode .result) (c .before .before .before .before .decode .ensures) (c .before .enum-told .given .1)
 
 returns : tie.Need-returns
 returns c =

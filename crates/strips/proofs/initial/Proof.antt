@@ -1,7 +1,8 @@
 -- The card's refusal is handed through; an accepted card's task is opened.
 use borrow.Author.Needs.{needs}
 use Prim.Native.Nat.{ℕ}
-use Rattle.strips.proofs.Calling.{opening-refused, task-kept, opening}
+use Rattle.card.proofs.Deciding.{represented}
+use Rattle.strips.proofs.Calling.{opening-refused, opening}
 use Rattle.strips.proofs.initial.Statement.{statement}
 use Rattle.strips.proofs.initial.Tie as tie
 
@@ -15,7 +16,7 @@ enum-told : tie.Need-enum-told
 enum-told c = search needs
 
 open-task-requires : tie.Need-open-task-requires
-open-task-requires c κs = let start = c .before .before .before .before .before .before .before in task-kept (start .args .card .now) (c .before .before .before .before .decode .result) (c .before .before .before .before .decode .ensures) (c .before .enum-told .given .1)
+open-task-requires c κs = let start = c .before .before .before .before .before .before .before in represented (start .args .card .now) (c .before .before .before .before .decode .result) (c .before .before .before .before .decode .ensures) (c .before .enum-told .given .1)
 
 returns : tie.Need-returns
 returns c =

@@ -1,16 +1,25 @@
 -- The section is written, and its text is within the buffer.
+use Prim.Native.Nat.{ℕ, _*_, _≤_}
+use mathlib.Core.List.{List}
+use lib.ListN.{length}
 use borrow.Author.Needs.{needs}
 use native.Mathlib.Omega.{arith}
+use Rattle.model.proofs.RuleCount.{rules-few}
 use Rattle.stakestalk.proofs.Within.{written-within}
 use Rattle.stakestalk.proofs.printing.print_section.Statement.{statement}
 use Rattle.stakestalk.proofs.printing.print_section.Tie as tie
+
+-- a table of the largest size has room for a task's moves
+fits : (rules : ℕ) (table : List ℕ) → rules ≤ 960 → 57600 ≤ length table → 60 * rules ≤ length table
+fits rules table h k = omega arith
 
 write-section-requires : tie.Need-write-section-requires
 write-section-requires c κs =
     let pre = c .before .before .before .before .before .before .before .before .before .pre in
     let ready = pre .0 in
     let lent = pre .1 .0 in
-    (ready .represented, (ready .given, ((pre .1 .1, lent .out-long), (lent .origins-long, lent .targets-long))))
+    let few = omega (arith, ready .given .rules-counted, rules-few _ (ready .represented .checked)) in
+    (ready .represented, (ready .given, ((pre .1 .1, lent .out-long), (fits _ _ few (lent .origins-long), fits _ _ few (lent .targets-long)))))
 
 sub-write-all : tie.Need-sub-write-all
 sub-write-all c = search needs
