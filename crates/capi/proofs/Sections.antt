@@ -28,7 +28,11 @@ module _ (number : ℕ) where
   -- no section without room
   pub short-small : (card out : List ℕ) → length out < outputBytes → Small (section card number out .answer)
   unfolding section
-  short-small card out h = record { within = λ n e. go (decode card) n (subst (λ (b : Bool). listed number out b (decode card) .answer ≡ accepted n) (lt-leb outputBytes (length out) h) e) }
+  short-small card out h =
+      record {
+        within =
+            λ n e. go (decode card) n (subst (λ (b : Bool). listed number out b (decode card) .answer ≡ accepted n) (lt-leb outputBytes (length out) h) e);
+      }
     where
       go : (answer : Answer Task) (n : ℕ) → listed number out false answer .answer ≡ accepted n → n ≤ outputBytes
       go (refused k) n e = not-accepted k n (unfold finish _>>=_ in e)

@@ -101,7 +101,9 @@ pub extern "C" fn stakestalk_press(
     objects: &[u8],
 ) -> i32
     ensures { λ r. ⌜ r ≡ signed (press (now (card .entry)) (now (state .entry)) count (record { schema = schema; objects = now (objects .entry) }) .answer) ⌝ }
-    ensures { λ _. ⌜ now (state .exit) ≡ press (now (card .entry)) (now (state .entry)) count (record { schema = schema; objects = now (objects .entry) }) .buffer ⌝ }
+    ensures { λ _. ⌜
+        now (state .exit) ≡ press (now (card .entry)) (now (state .entry)) count (record { schema = schema; objects = now (objects .entry) }) .buffer
+        ⌝ }
 {
     let applied = apply(card, state, count, schema, objects);
     applied_code(applied)

@@ -148,7 +148,8 @@ module _ (t : Task) (sp : code.Spaces) (of : SpacesOf t sp) (narrow : length (pr
       ap (λ (x : ℕ). getD masks x 0) (sym at)
       ∙ mask-at-label (sp .lowest) (sp .members) lowest-known (sp .count) different k (omega (arith, count-is, place .1))
       ∙ ap (λ (ms : List ℕ). getD ms k 0) (of .members)
-      ∙ padded-at 60 0 (map (λ s. maskOf (s .members)) (spaces t)) k 0 (omega (arith, length-map (spaces t) (λ s. maskOf (s .members)), of .count, count-is, place .1))
+      ∙ padded-at 60 0 (map (λ s. maskOf (s .members)) (spaces t)) k 0
+      (omega (arith, length-map (spaces t) (λ s. maskOf (s .members)), of .count, count-is, place .1))
       ∙ ap (λ (ss : List Space). getD (map (λ s. maskOf (s .members)) ss) k 0) (spaces-alone t)
       ∙ ap (λ (ms : List ℕ). getD ms k 0) (map-map (λ s. maskOf (s .members)) (spaceWith t (belongs t)) (labels t))
       ∙ getD-map (λ x. mask (keep (λ o. belongs t o x) (upTo (t .objects)))) (labels t) k 0 0 (place .1)

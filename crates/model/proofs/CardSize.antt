@@ -15,7 +15,8 @@ use Rattle.laws.proofs.Lists.{all-at, mem-getD}
 use Rattle.laws.proofs.Reading.{all-append, all-weaken, all-flatMap, length-flatMap}
 use Rattle.model.specs.Answer.{Answer, accepted}
 use Rattle.model.specs.Card.{Atom, Schema, Task, between}
-use Rattle.model.specs.Writer.{known, checkSchemaAtom, checkList, checkSchema, checkFact, checkTask, atomBytes, listBytes, roleBytes, bitFor, schemaBytes, taskBytes}
+use Rattle.model.specs.Writer.{known, checkSchemaAtom, checkList, checkSchema, checkFact, checkTask, atomBytes, listBytes, roleBytes, bitFor}
+use Rattle.model.specs.Writer.{schemaBytes, taskBytes}
 use Rattle.model.proofs.Answers.{need-both-inv}
 use Rattle.model.proofs.CheckParts.{between-parts, known-parts, each-at, schema-parts, task-parts}
 

@@ -13,7 +13,8 @@ use Rattle.laws.proofs.Tests.{and-left, and-right, and-intro}
 use Rattle.model.specs.Answer.{Answer, accepted}
 use Rattle.model.specs.Card.{Atom, Schema, Task, between, has}
 use Rattle.model.specs.Writer.{each, known, checkSchemaAtom, checkList, checkSchema, checkFact, checkTask}
-use Rattle.model.proofs.Answers.{RefusedWithin, accepted-not-refused, need-within, both-within, need-both-within, both-inv, both-accepted, need-both, need-both-inv}
+use Rattle.model.proofs.Answers.{RefusedWithin, accepted-not-refused, need-within, both-within, need-both-within, both-inv, both-accepted}
+use Rattle.model.proofs.Answers.{need-both, need-both-inv}
 
 -- low ≤ n ≤ high, as a test and as a fact
 pub between-parts : (low high n : ℕ) → between low high n ≡ true → (low ≤ n) × (n ≤ high)

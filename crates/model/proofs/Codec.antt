@@ -10,7 +10,8 @@ use Rattle.laws.proofs.Reading.{flatMap-single}
 use Rattle.model.specs.Answer.{Answer, accepted, _>>=_, _>>_, need}
 use Rattle.model.specs.Card.{Reader, byte, byteThat, many}
 use Rattle.model.specs.Writer.{each}
-use Rattle.model.proofs.Answers.{accepted-not-refused, one-value, then-inv, then-accepted, both-inv, both-accepted, need-inv, need-accepted, need-both, need-both-inv}
+use Rattle.model.proofs.Answers.{accepted-not-refused, one-value, then-inv, then-accepted, both-inv, both-accepted, need-inv, need-accepted}
+use Rattle.model.proofs.Answers.{need-both, need-both-inv}
 
 -- what was read fits, and its bytes were in front of those that are left
 abbrev pub Parsed : {A : Type 0} → (A → Type 0) → (A → List ℕ) → List ℕ → A × List ℕ → Type 0

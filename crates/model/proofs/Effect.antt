@@ -10,7 +10,8 @@ use lib.ListN.{length, getD, length-map}
 use Rattle.laws.specs.Lists.{all, keep, count, member, distinct}
 use Rattle.laws.specs.Bags.{Bag, plus, less, meet, contains}
 use Rattle.laws.proofs.Lists.{all-at, keep-at}
-use Rattle.laws.proofs.Counting.{NoRepeat, count-within, count-split, count-removed, count-joined, count-map, no-repeat-keep, less-map, plus-map, meet-map, contains-map}
+use Rattle.laws.proofs.Counting.{NoRepeat, count-within, count-split, count-removed, count-joined, count-map, no-repeat-keep, less-map, plus-map}
+use Rattle.laws.proofs.Counting.{meet-map, contains-map}
 use Rattle.laws.proofs.Mapped.{map-ext}
 use Rattle.model.specs.Answer.{accepted}
 use Rattle.model.specs.Card.{Atom, Schema, Task, has}

@@ -17,7 +17,9 @@ use Rattle.laws.proofs.Sums.{count-members, standsAt-member}
 use Rattle.laws.proofs.Counting.{count-most}
 use Rattle.laws.proofs.Mapped.{getD-map}
 use Rattle.laws.proofs.Numbers.{distinct-places}
-use Rattle.laws.proofs.Bags.{length-less, getD-plus, getD-less, getD-meet, length-plus, contains-at, isEmpty-at, isEmpty-intro, isEmpty-not, length-single, single-here, support-at, length-restrict, getD-restrict, restrict-plus, restrict-less, restrict-meet, restrict-contains, restrict-isEmpty, restrict-single}
+use Rattle.laws.proofs.Bags.{length-less, getD-plus, getD-less, getD-meet, length-plus, contains-at, isEmpty-at, isEmpty-intro, isEmpty-not}
+use Rattle.laws.proofs.Bags.{length-single, single-here, support-at, length-restrict, getD-restrict, restrict-plus, restrict-less, restrict-meet}
+use Rattle.laws.proofs.Bags.{restrict-contains, restrict-isEmpty, restrict-single}
 use Rattle.model.specs.Answer.{accepted}
 use Rattle.model.specs.Card.{Atom, Task, Schema}
 use Rattle.model.specs.Writer.{known, checkTask}
@@ -32,11 +34,13 @@ use Rattle.model.proofs.Order.{known-arguments}
 use Rattle.model.proofs.Checked.{checked, CheckedAction, checked-action}
 use Rattle.model.proofs.ListedSpace.{Listed, extensionOf}
 use Rattle.model.proofs.Sections.{Capped}
-use Rattle.model.proofs.SpaceFacts.{rule-in-one-space, increasing-members, initial-members, members-known, members-distinct, properties-distinct, properties-known, property-rules}
+use Rattle.model.proofs.SpaceFacts.{rule-in-one-space, increasing-members, initial-members, members-known, members-distinct}
+use Rattle.model.proofs.SpaceFacts.{properties-distinct, properties-known, property-rules}
 use Rattle.model.proofs.OwnLists.{own-list-at, adjoin-all-has, adjoin-all-length}
 use Rattle.model.proofs.Chain.{chain, exchange, rest}
 use Rattle.model.proofs.Effect.{Effect, effect-on-parameter, effect-elsewhere, effect-on-predicate}
-use Rattle.model.proofs.ParameterRules.{length-bagOf, length-common, length-start, length-finish, moved-start, moved-finish, needed, deleted, added, common, exchangeRule, restRule, increasingRule, exchange-there, rest-there, increasing-there}
+use Rattle.model.proofs.ParameterRules.{length-bagOf, length-common, length-start, length-finish, moved-start, moved-finish, needed, deleted}
+use Rattle.model.proofs.ParameterRules.{added, common, exchangeRule, restRule, increasingRule, exchange-there, rest-there, increasing-there}
 
 -- an object's condition is on the own list of its own initial condition
 pub record OnOwnList (t : Task) (u : Space) (s : State) (o : ℕ) : Type 0 where

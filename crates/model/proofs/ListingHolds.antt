@@ -24,7 +24,8 @@ use Rattle.model.specs.Writer.{checkTask}
 use Rattle.model.specs.Strips.{State, Action, schemaAt}
 use Rattle.model.specs.Transitions.{properties, bagOf}
 use Rattle.model.specs.Spaces.{Space, Kind, property, condition, spaces, hasMember}
-use Rattle.model.specs.Lines.{Line, space, state, limit, membership, exclusion, total, ceiling, Analysis, analysis, analyse, countOf, largest, minimal, excluded, spaceLines, propertyNumber, oneNumber, ofPredicate}
+use Rattle.model.specs.Lines.{Line, space, state, limit, membership, exclusion, total, ceiling, Analysis, analysis, analyse, countOf, largest}
+use Rattle.model.specs.Lines.{minimal, excluded, spaceLines, propertyNumber, oneNumber, ofPredicate}
 use Rattle.model.specs.Calls.{initial, history, stateOf}
 use Rattle.model.specs.Truth.{_isOn_, _isSectionOf_, statesOf, countIn, Allowed, Holds}
 use Rattle.model.proofs.Valid.{Valid}
@@ -34,7 +35,8 @@ use Rattle.model.proofs.RoundTrip.{decode-checks}
 use Rattle.model.proofs.ListedSpace.{extensionOf, listed-as-property, conditions-listed, space-of-analysis, analysed, spaces-of-analysis}
 use Rattle.model.proofs.OwnLists.{joined-has, own-lists-length}
 use Rattle.model.proofs.SpaceFacts.{space-of, members-known, members-distinct}
-use Rattle.model.proofs.Sections.{on-space, on-limit, on-exclusion, on-total, on-ceiling, on-types, types-on, typed, states-of-space, state-on, membership-on}
+use Rattle.model.proofs.Sections.{on-space, on-limit, on-exclusion, on-total, on-ceiling, on-types, types-on, typed, states-of-space, state-on}
+use Rattle.model.proofs.Sections.{membership-on}
 use Rattle.model.proofs.Totals.{total-by-members, count-of-condition}
 use Rattle.model.proofs.Effect.{effect-on-parameter}
 use Rattle.model.proofs.ParameterRules.{length-bagOf}

@@ -13,7 +13,8 @@ use Rattle.laws.specs.Lists.{all, from, upTo}
 use Rattle.laws.proofs.Lists.{all-at, upTo-intro}
 use Rattle.laws.proofs.Tests.{never, not-true, not-false, cond-false}
 use Rattle.model.specs.Answer.{Answer, accepted, _>>=_, _>>_, need}
-use Rattle.model.specs.Card.{Atom, Schema, Reader, above, between, has, byte, byteThat, many, atom, schemaAtom, list, roleCount, bit, schema, fact, factCount}
+use Rattle.model.specs.Card.{Atom, Schema, Reader, above, between, has, byte, byteThat, many, atom, schemaAtom, list, roleCount, bit, schema}
+use Rattle.model.specs.Card.{fact, factCount}
 use Rattle.model.specs.Writer.{each, known, checkSchemaAtom, checkList, checkSchema, checkFact, atomBytes, listBytes, roleBytes, bitFor, schemaBytes}
 use Rattle.model.proofs.Answers.{accepted-not-refused, one-value, need-inv, need-accepted, need-both-inv, need-both}
 use Rattle.model.proofs.CheckParts.{known-parts, known-intro, between-parts, between-intro, schema-parts, checkSchema-intro}

@@ -17,7 +17,8 @@ use Rattle.model.specs.Answer.{refused, accepted}
 use Rattle.model.specs.Card.{Task, between, factCount, isEnd, decode}
 use Rattle.model.specs.Writer.{checkTask, atomBytes, schemaBytes, taskBytes}
 use Rattle.model.specs.Calls.{Call, outputBytes, finish, output, encode}
-use Rattle.model.proofs.Answers.{then-inv, then-accepted, both-accepted, need-both-inv, need-both, one-value, one-number, accepted-not-refused, by-answer, both-refused, need-refused}
+use Rattle.model.proofs.Answers.{then-inv, then-accepted, both-accepted, need-both-inv, need-both, one-value, one-number, accepted-not-refused}
+use Rattle.model.proofs.Answers.{by-answer, both-refused, need-refused}
 use Rattle.model.proofs.CheckParts.{TaskParts, task-parts, checkTask-intro, checkTask-within}
 use Rattle.model.proofs.CardSize.{areBytes, card-size}
 use Rattle.model.proofs.Codec.{reads-then, back-then, back-end, byteThat-codec, many-codec, bytes-codec}

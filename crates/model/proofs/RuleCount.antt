@@ -20,7 +20,8 @@ use Rattle.laws.proofs.Columns.{sum-plus, sum-within, sum-at-most, length-flatM
 use Rattle.model.specs.Answer.{accepted}
 use Rattle.model.specs.Card.{Atom, Schema, Task, between}
 use Rattle.model.specs.Writer.{checkTask}
-use Rattle.model.specs.Transitions.{Property, propertiesFrom, properties, occurs, bagOf, Transition, exchanges, remaining, rulesOf, parameterRules, transitions}
+use Rattle.model.specs.Transitions.{Property, propertiesFrom, properties, occurs, bagOf, Transition, exchanges, remaining, rulesOf}
+use Rattle.model.specs.Transitions.{parameterRules, transitions}
 use Rattle.model.proofs.Checked.{Checked, CheckedSchema, checked, between-high}
 
 -- the properties of one predicate
@@ -41,7 +42,8 @@ length-properties p (arity ∷ arities) =
 
 -- a sum of small numbers
 pub sum-all : (n : ℕ) (xs : List ℕ) → all (between 1 n) xs ≡ true → sum xs ≤ n * length xs
-sum-all n xs h = subst (λ (l : List ℕ). sum l ≤ n * length xs) (map-same xs) (sum-at-most (λ x. x) n xs (λ x m. between-high 1 n x (all-at (between 1 n) xs h x m)))
+sum-all n xs h =
+    subst (λ (l : List ℕ). sum l ≤ n * length xs) (map-same xs) (sum-at-most (λ x. x) n xs (λ x m. between-high 1 n x (all-at (between 1 n) xs h x m)))
   where
     map-same : (xs : List ℕ) → map (λ x. x) xs ≡ xs
     map-same [] = refl

@@ -5,7 +5,8 @@ use native.Mathlib.Omega.{arith}
 use mathlib.Core.Path.{_≡_, refl, sym, ap, _∙_, subst}
 use mathlib.Core.Bool.{Bool, true, false, cond}
 use mathlib.Core.Logic.{⊎-elim}
-use mathlib.Core.List.{List, [], _∷_, _++_, map, flatMap, List·Memᴰ, List·Memᴰ·head, List·Memᴰ·tail, List·Memᴰ·cases-cons, List·Memᴰ·not-nil, List·Memᴰ·append-cases, List·Memᴰ·eq-of-singleton, Memᴰ·append-left, Memᴰ·append-right, Memᴰ·map, Memᴰ·of-map, append-nil}
+use mathlib.Core.List.{List, [], _∷_, _++_, map, flatMap, List·Memᴰ, List·Memᴰ·head, List·Memᴰ·tail, List·Memᴰ·cases-cons, List·Memᴰ·not-nil}
+use mathlib.Core.List.{List·Memᴰ·append-cases, List·Memᴰ·eq-of-singleton, Memᴰ·append-left, Memᴰ·append-right, Memᴰ·map, Memᴰ·of-map, append-nil}
 use lib.Dec.{leb, eqb}
 use lib.ListN.{length, getD, take}
 use borrow.Author.Tests.{eq-eqb}
@@ -18,7 +19,9 @@ use Rattle.model.specs.Strips.{schemaAt}
 use Rattle.model.specs.Transitions
 use Rattle.model.specs.Transitions.{bagOf}
 use Rattle.model.specs.Spaces.{Space, Kind, property, hasMember}
-use Rattle.model.specs.Lines.{Line, space, state, limit, membership, exclusion, total, ceiling, types, Analysis, analysis, countOf, largest, arityOf, limits, minimal, excluded, exclusions, spaceLines, spaceSections, propertyNumber, oneNumber, totalsBy, totals, ofPredicate, ceilings, typesOf, typeLines, closingLines, sections}
+use Rattle.model.specs.Lines.{Line, space, state, limit, membership, exclusion, total, ceiling, types, Analysis, analysis, countOf, largest}
+use Rattle.model.specs.Lines.{arityOf, limits, minimal, excluded, exclusions, spaceLines, spaceSections, propertyNumber, oneNumber, totalsBy}
+use Rattle.model.specs.Lines.{totals, ofPredicate, ceilings, typesOf, typeLines, closingLines, sections}
 use Rattle.model.specs.Truth.{_isOn_, _isSectionOf_, statesOf}
 
 -- a line of the section of a space

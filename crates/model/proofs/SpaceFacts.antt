@@ -19,7 +19,8 @@ use Rattle.model.specs.Card.{Task}
 use Rattle.model.specs.Transitions.{Transition, properties, transitions}
 use Rattle.model.specs.Spaces.{Space, static, attribute, property, moved, moves, condition, hasMember, admits, gain, round, spaces, kindOf}
 use Rattle.model.proofs.Grouping.{label, Lowest, label-known, grouping-joins, grouping-lowest, transitions-sized, moved-known}
-use Rattle.model.proofs.Closing.{groups, labels, propertiesAt, rulesAt, opens, spaceWith, spacesWith, admitted, step, step-adds, belongs, spaces-alone, closing-fixed}
+use Rattle.model.proofs.Closing.{groups, labels, propertiesAt, rulesAt, opens, spaceWith, spacesWith, admitted, step, step-adds, belongs}
+use Rattle.model.proofs.Closing.{spaces-alone, closing-fixed}
 
 -- "Some rule with empty start or finish: attribute"
 one-sided-attribute : (rules : List Transition) (r : Transition) → List·Memᴰ r rules

@@ -20,7 +20,8 @@ use Rattle.model.specs.Strips.{State, Action, ascending}
 use Rattle.model.specs.Strips.{ground, put, takenOut, putIn, successor, schemaAt, checkAction}
 use Rattle.model.specs.Calls.{initial}
 use Rattle.model.proofs.Valid.{Valid}
-use Rattle.model.proofs.Order.{known-predicate, known-arity, known-arguments, known-intro, sameAtom-eq, below-otherwise, ascending-head, ascending-tail, ascending-cons, ascending-skip}
+use Rattle.model.proofs.Order.{known-predicate, known-arity, known-arguments, known-intro, sameAtom-eq, below-otherwise, ascending-head}
+use Rattle.model.proofs.Order.{ascending-tail, ascending-cons, ascending-skip}
 use Rattle.model.proofs.Checked.{checked, schemaAt-right, checked-action}
 
 -- facts that are kept stay in order

@@ -179,7 +179,10 @@ fn put_rule(
     finish: [u8; 60],
 ) -> usize
     requires { ⌜ Room (n + 1) (now enablers) (now starts) (now finishes) ⌝ }
-    ensures { λ r. ⌜ Appended (ruleFrom p start finish ∷ []) n r (now (enablers .entry)) (now (starts .entry)) (now (finishes .entry)) (now (enablers .exit)) (now (starts .exit)) (now (finishes .exit)) ⌝ }
+    ensures { λ r. ⌜
+        Appended (ruleFrom p start finish ∷ []) n r (now (enablers .entry)) (now (starts .entry)) (now (finishes .entry)) (now (enablers .exit))
+        (now (starts .exit)) (now (finishes .exit))
+        ⌝ }
 {
     put_row(enablers, n, less_row(p, start));
     put_row(starts, n, start);
@@ -197,7 +200,10 @@ fn put_exchanges(
     x: [u8; 60],
 ) -> usize
     requires { ⌜ Room (n + length (exchanges p x)) (now enablers) (now starts) (now finishes) ⌝ }
-    ensures { λ r. ⌜ Appended (exchanges p x) n r (now (enablers .entry)) (now (starts .entry)) (now (finishes .entry)) (now (enablers .exit)) (now (starts .exit)) (now (finishes .exit)) ⌝ }
+    ensures { λ r. ⌜
+        Appended (exchanges p x) n r (now (enablers .entry)) (now (starts .entry)) (now (finishes .entry)) (now (enablers .exit)) (now (starts .exit))
+        (now (finishes .exit))
+        ⌝ }
 {
     let mut count = n;
     for c in 0..60 {
@@ -221,7 +227,10 @@ fn put_increasing(
     finish: [u8; 60],
 ) -> usize
     requires { ⌜ Room (n + length (increasing p start finish)) (now enablers) (now starts) (now finishes) ⌝ }
-    ensures { λ r. ⌜ Appended (increasing p start finish) n r (now (enablers .entry)) (now (starts .entry)) (now (finishes .entry)) (now (enablers .exit)) (now (starts .exit)) (now (finishes .exit)) ⌝ }
+    ensures { λ r. ⌜
+        Appended (increasing p start finish) n r (now (enablers .entry)) (now (starts .entry)) (now (finishes .entry)) (now (enablers .exit))
+        (now (starts .exit)) (now (finishes .exit))
+        ⌝ }
 {
     let mut count = n;
     for c in 0..60 {
@@ -245,7 +254,10 @@ fn put_remaining(
     finish: [u8; 60],
 ) -> usize
     requires { ⌜ Room (n + length (remaining p start finish)) (now enablers) (now starts) (now finishes) ⌝ }
-    ensures { λ r. ⌜ Appended (remaining p start finish) n r (now (enablers .entry)) (now (starts .entry)) (now (finishes .entry)) (now (enablers .exit)) (now (starts .exit)) (now (finishes .exit)) ⌝ }
+    ensures { λ r. ⌜
+        Appended (remaining p start finish) n r (now (enablers .entry)) (now (starts .entry)) (now (finishes .entry)) (now (enablers .exit))
+        (now (starts .exit)) (now (finishes .exit))
+        ⌝ }
 {
     if is_empty(start) {
         return put_increasing(enablers, starts, finishes, n, p, start, finish);
@@ -264,7 +276,10 @@ fn put_parameter(
     a: [u8; 60],
 ) -> usize
     requires { ⌜ Room (n + length (rulesOf p d a)) (now enablers) (now starts) (now finishes) ⌝ }
-    ensures { λ r. ⌜ Appended (rulesOf p d a) n r (now (enablers .entry)) (now (starts .entry)) (now (finishes .entry)) (now (enablers .exit)) (now (starts .exit)) (now (finishes .exit)) ⌝ }
+    ensures { λ r. ⌜
+        Appended (rulesOf p d a) n r (now (enablers .entry)) (now (starts .entry)) (now (finishes .entry)) (now (enablers .exit)) (now (starts .exit))
+        (now (finishes .exit))
+        ⌝ }
 {
     let x = meet_row(d, a);
     let m = put_exchanges(enablers, starts, finishes, n, p, x);
@@ -293,8 +308,13 @@ fn put_parameter_of(
     requires { ⌜ AritiesRight predicates ⌝ }
     requires { ⌜ SchemaRight (aritiesOf predicates) schema ⌝ }
     requires { ⌜ firsts ≡ padded 20 0 (firstProperties (aritiesOf predicates)) ⌝ }
-    requires { ⌜ Room (n + length (parameterRulesOver (aritiesOf predicates) (schemaOf (aritiesOf predicates) schema) k)) (now enablers) (now starts) (now finishes) ⌝ }
-    ensures { λ r. ⌜ Appended (parameterRulesOver (aritiesOf predicates) (schemaOf (aritiesOf predicates) schema) k) n r (now (enablers .entry)) (now (starts .entry)) (now (finishes .entry)) (now (enablers .exit)) (now (starts .exit)) (now (finishes .exit)) ⌝ }
+    requires { ⌜
+        Room (n + length (parameterRulesOver (aritiesOf predicates) (schemaOf (aritiesOf predicates) schema) k)) (now enablers) (now starts) (now finishes)
+        ⌝ }
+    ensures { λ r. ⌜
+        Appended (parameterRulesOver (aritiesOf predicates) (schemaOf (aritiesOf predicates) schema) k) n r (now (enablers .entry))
+        (now (starts .entry)) (now (finishes .entry)) (now (enablers .exit)) (now (starts .exit)) (now (finishes .exit))
+        ⌝ }
 {
     let p = bag_of_parameter(schema.preconditions, predicates, firsts, k);
     let d = bag_of_parameter(schema.deletes, predicates, firsts, k);
@@ -315,8 +335,13 @@ fn put_schema(
     requires { ⌜ AritiesRight predicates ⌝ }
     requires { ⌜ SchemaRight (aritiesOf predicates) schema ⌝ }
     requires { ⌜ firsts ≡ padded 20 0 (firstProperties (aritiesOf predicates)) ⌝ }
-    requires { ⌜ Room (n + length (schemaRulesOver (aritiesOf predicates) (schemaOf (aritiesOf predicates) schema))) (now enablers) (now starts) (now finishes) ⌝ }
-    ensures { λ r. ⌜ Appended (schemaRulesOver (aritiesOf predicates) (schemaOf (aritiesOf predicates) schema)) n r (now (enablers .entry)) (now (starts .entry)) (now (finishes .entry)) (now (enablers .exit)) (now (starts .exit)) (now (finishes .exit)) ⌝ }
+    requires { ⌜
+        Room (n + length (schemaRulesOver (aritiesOf predicates) (schemaOf (aritiesOf predicates) schema))) (now enablers) (now starts) (now finishes)
+        ⌝ }
+    ensures { λ r. ⌜
+        Appended (schemaRulesOver (aritiesOf predicates) (schemaOf (aritiesOf predicates) schema)) n r (now (enablers .entry)) (now (starts .entry))
+        (now (finishes .entry)) (now (enablers .exit)) (now (starts .exit)) (now (finishes .exit))
+        ⌝ }
 {
     let parameters = schema.parameters;
     let mut count = n;
@@ -358,7 +383,10 @@ pub fn rules_at_most(task: Task) -> usize
 pub fn rules(task: Task, enablers: &mut [u8], starts: &mut [u8], finishes: &mut [u8]) -> usize
     requires { ⌜ Represented task (taskOf task) ⌝ }
     requires { ⌜ Room (rulesAtMost (taskOf task)) (now enablers) (now starts) (now finishes) ⌝ }
-    ensures { λ r. ⌜ RuleTable (transitions (taskOf task)) r (now (enablers .entry)) (now (starts .entry)) (now (finishes .entry)) (now (enablers .exit)) (now (starts .exit)) (now (finishes .exit)) ⌝ }
+    ensures { λ r. ⌜
+        RuleTable (transitions (taskOf task)) r (now (enablers .entry)) (now (starts .entry)) (now (finishes .entry)) (now (enablers .exit))
+        (now (starts .exit)) (now (finishes .exit))
+        ⌝ }
 {
     let predicates = task.predicates;
     let schemas = task.schemas;

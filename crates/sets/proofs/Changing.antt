@@ -15,7 +15,8 @@ use Rattle.laws.proofs.Tests.{never, by-test}
 use Rattle.sets.specs.Numbers.{rising, place, found, without, inserted, closed, opened, filled, Holds, Becomes}
 use Rattle.sets.specs.declared.Found.{Found}
 use Rattle.sets.specs.declared.Found.the-variants.{At, Missing}
-use Rattle.sets.proofs.Ascending.{place-within, member-past-end, without-rising, inserted-rising, length-without, length-inserted, without-absent, without-there, inserted-absent, inserted-there}
+use Rattle.sets.proofs.Ascending.{place-within, member-past-end, without-rising, inserted-rising, length-without, length-inserted}
+use Rattle.sets.proofs.Ascending.{without-absent, without-there, inserted-absent, inserted-there}
 
 -- a part from the front on
 pub part-front : (count : ℕ) (xs : List ℕ) → take (count - 0) xs ≡ take count xs

@@ -184,7 +184,8 @@ module _ {number : ℕ} {spaces₀ : Spaces} {size : ℕ} {arities : List ℕ} {
                   ap length members-are,
                   members-few,
                   conditions-length bags arities own
-                      (omega (arith, length-bagsIn (analysed .size) (analysed .count) (analysed .bags), rows-few full)) (omega (arith, ap length own-is, narrow))
+                      (omega (arith, length-bagsIn (analysed .size) (analysed .count) (analysed .bags), rows-few full))
+                      (omega (arith, ap length own-is, narrow))
                       properties
                       (λ b m.
                       let s = bag-of-table 65536 (analysed .size) (analysed .count) (analysed .bags) small b m in

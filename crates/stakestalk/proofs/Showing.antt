@@ -9,7 +9,9 @@ use Rattle.model.specs.Text.{decimal}
 use Rattle.model.specs.Calls.{printed}
 use Rattle.card.specs.Represents.{refusalNumber}
 use Rattle.card.specs.declared.Refusal.{Refusal}
-use Rattle.card.specs.declared.Refusal.the-variants.{CardEnds, PredicateRange, ObjectRange, SchemaRange, HeaderRange, ListRange, AtomUnknown, AtomOrder, DeleteNotPrecondition, AddIsPrecondition, FactRange, FactUnknown, FactOrder, BytesFollow}
+use Rattle.card.specs.declared.Refusal.the-variants.{CardEnds, PredicateRange, ObjectRange, SchemaRange, HeaderRange, ListRange, AtomUnknown}
+use Rattle.card.specs.declared.Refusal.the-variants.{AtomOrder, DeleteNotPrecondition, AddIsPrecondition, FactRange, FactUnknown, FactOrder}
+use Rattle.card.specs.declared.Refusal.the-variants.{BytesFollow}
 use Rattle.text.proofs.Decimal.{decimal-digit, decimal-more}
 use Rattle.stakestalk.specs.Shown.{Shows}
 

@@ -4,7 +4,8 @@ use native.Mathlib.Omega.{arith}
 use native.Mathlib.Numerals.{add-one}
 use mathlib.Core.Path.{_≡_, refl, sym, ap, _∙_, subst}
 use mathlib.Core.List.{List, [], _∷_, _++_, map, flatMap, append-assoc}
-use lib.ListN.{length, getD, take, drop, set, replicate, length-append, length-take, length-drop, length-replicate, take-append-drop, replicate-append-replicate}
+use lib.ListN.{length, getD, take, drop, set, replicate, length-append, length-take, length-drop, length-replicate, take-append-drop}
+use lib.ListN.{replicate-append-replicate}
 use lib.Seq.{take-suc, take-all, take-at, drop-at, drop-cons, drop-drop, drop-append-add, set-at, length-take-le}
 use Rattle.laws.proofs.Lists.{flatMap-append}
 use Rattle.state.specs.Rows.{rowNumber, rowBytes, rowAt, numbersIn, stored}

@@ -131,7 +131,8 @@ module _ (arities objects : List ℕ) (schema : Schema) (buffer : List ℕ) (cou
   adds-bound = bound-list (schema .adds) (ready .schema-kept .adds) (right .adds-right .atoms-known)
 
   -- ground facts are known
-  grounds-known : (atoms : List Atom) → all (known arities (length objects)) atoms ≡ true → allKnown arities (ready .known-objects) shape (map (ground objects) atoms)
+  grounds-known : (atoms : List Atom) → all (known arities (length objects)) atoms ≡ true
+      → allKnown arities (ready .known-objects) shape (map (ground objects) atoms)
   grounds-known atoms e =
       all-map (ground objects) (known arities (ready .known-objects)) atoms
       ∙ all-intro _ atoms (λ a m. ground-known arities (length objects) (ready .known-objects) objects a refl (ready .objects-known)

@@ -63,4 +63,5 @@ module _ (card : List ℕ) (d : Decoded) (decodes : Decodes card d) where
         (buffer after : List ℕ) (count : ℕ) (action : Action) (r : Applied) → Does (pressTask (taskOf (d .task)) buffer count action) after r
         → Applies card buffer count action after r
     unfolding press pressTask _>>=_
-    applying buffer after count action r does = applied-by card buffer after count action r _ (ap (presses-with buffer count action) (accepts card d decodes verdict)) does
+    applying buffer after count action r does =
+        applied-by card buffer after count action r _ (ap (presses-with buffer count action) (accepts card d decodes verdict)) does

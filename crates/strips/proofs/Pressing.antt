@@ -19,7 +19,8 @@ use Rattle.actions.specs.Grounds.{FactsRight}
 use Rattle.strips.specs.Stages.{Does, leaving, bound, pressTask, initialTask, SchemaKept, StateKept}
 use Rattle.strips.specs.declared.Applied.{Applied}
 use Rattle.strips.specs.declared.Applied.the-variants.{Count, StateMalformed, SchemaUnknown}
-use Rattle.strips.proofs.Tasks.{modelTask, arities, task-shape, arities-part, formed-shaped, schema-count, few-schemas, chosen-is, chosen-kept, getD-default, fact-count, few-facts, facts-kept, facts-known}
+use Rattle.strips.proofs.Tasks.{modelTask, arities, task-shape, arities-part, formed-shaped, schema-count, few-schemas, chosen-is, chosen-kept}
+use Rattle.strips.proofs.Tasks.{getD-default, fact-count, few-facts, facts-kept, facts-known}
 use Rattle.strips.proofs.Refusing.{state-malformed, schema-unknown, schema-named, task-opened}
 
 module _ (task : Task) (kept : Represented task (taskOf task)) where

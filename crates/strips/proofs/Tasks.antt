@@ -94,7 +94,8 @@ module _ (task : Task) (kept : Represented task (taskOf task)) where
   unfolding taskOf taskFor schemasFor
   schema-size =
       ap (λ (t : Task). length (t .schemas .schemas)) (kept .stands)
-      ∙ length-padded 32 blankSchema (map schemaFor (modelTask .schemas)) (let n = length-map (modelTask .schemas) schemaFor in let few = right .few-schemas in omega arith)
+      ∙ length-padded 32 blankSchema (map schemaFor (modelTask .schemas))
+      (let n = length-map (modelTask .schemas) schemaFor in let few = right .few-schemas in omega arith)
 
   pub few-schemas : (n : ℕ) → n < task .schemas .count → n < length (task .schemas .schemas)
   few-schemas n h = let size = schema-size in let count = schema-count in let few = right .few-schemas in omega arith
@@ -162,7 +163,8 @@ module _ (task : Task) (kept : Represented task (taskOf task)) where
     few = few-facts;
     size =
         ap (λ (t : Task). length (t .facts .facts)) (kept .stands)
-        ∙ length-padded 512 blankAtom (map atomFor (modelTask .facts)) (let n = length-map (modelTask .facts) atomFor in let few = right .few-facts in omega arith);
+        ∙ length-padded 512 blankAtom (map atomFor (modelTask .facts))
+        (let n = length-map (modelTask .facts) atomFor in let few = right .few-facts in omega arith);
     predicates-known =
         all-intro _ (modelTask .facts) (λ f m. known-predicate arities (task .objects) f
         (all-at (known arities (task .objects)) (modelTask .facts) (right .facts-right .facts-known) f m));

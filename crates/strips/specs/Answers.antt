@@ -7,7 +7,8 @@ use Rattle.model.specs.Strips.{Action}
 use Rattle.model.specs.Calls.{initial, press}
 use Rattle.card.specs.Represents.{refusalNumber}
 use Rattle.strips.specs.declared.Applied.{Applied}
-use Rattle.strips.specs.declared.Applied.the-variants.{Count, CardRefused, StateMalformed, SchemaUnknown, ObjectsWrong, ObjectsRepeated, PreconditionMissing, StateFull}
+use Rattle.strips.specs.declared.Applied.the-variants.{Count, CardRefused, StateMalformed, SchemaUnknown, ObjectsWrong, ObjectsRepeated}
+use Rattle.strips.specs.declared.Applied.the-variants.{PreconditionMissing, StateFull}
 
 unfoldable pub appliedSays : Applied → Answer ℕ
 appliedSays (Count n) = accepted n

@@ -50,7 +50,10 @@ fn next_numbers(
     objects: &[u8],
 ) -> usize
     requires { ⌜ NextReady (now arities) (now objects) schema (now numbers) count ⌝ }
-    ensures { λ r. ⌜ Becomes (nextNumbers (schemaOf (now (arities .entry)) schema) (now (objects .entry)) (take count (now (numbers .entry)))) (now (numbers .entry)) (now (numbers .exit)) r ⌝ }
+    ensures { λ r. ⌜
+        Becomes (nextNumbers (schemaOf (now (arities .entry)) schema) (now (objects .entry)) (take count (now (numbers .entry))))
+        (now (numbers .entry)) (now (numbers .exit)) r
+        ⌝ }
 {
     let out = taken_out(schema, arities, objects);
     let out_count = out.count;
@@ -83,7 +86,10 @@ fn apply_bound(
     objects: &[u8],
 ) -> Applied
     requires { ⌜ Ready (now arities) (now objects) schema (now state) count ⌝ }
-    ensures { λ r. ⌜ Does (leaving (now (state .entry)) (changed (schemaOf (now (arities .entry)) schema) (now (objects .entry)) (factsIn (now (arities .entry)) count (now (state .entry))))) (now (state .exit)) r ⌝ }
+    ensures { λ r. ⌜
+        Does (leaving (now (state .entry)) (changed (schemaOf (now (arities .entry)) schema) (now (objects .entry))
+        (factsIn (now (arities .entry)) count (now (state .entry))))) (now (state .exit)) r
+        ⌝ }
 {
     let mut numbers = [0u32; 1032];
     load(state, count, &mut numbers);
@@ -108,7 +114,10 @@ fn apply_schema(
     objects: &[u8],
 ) -> Applied
     requires { ⌜ (StateKept (now arities) known (now state) count) × (SchemaKept (now arities) schema) ⌝ }
-    ensures { λ r. ⌜ Does (leaving (now (state .entry)) (bound known (schemaOf (now (arities .entry)) schema) (now (objects .entry)) (factsIn (now (arities .entry)) count (now (state .entry))))) (now (state .exit)) r ⌝ }
+    ensures { λ r. ⌜
+        Does (leaving (now (state .entry)) (bound known (schemaOf (now (arities .entry)) schema) (now (objects .entry))
+        (factsIn (now (arities .entry)) count (now (state .entry))))) (now (state .exit)) r
+        ⌝ }
 {
     let parameters = schema.parameters;
     if objects.len() != parameters {
@@ -126,7 +135,9 @@ fn apply_schema(
 // 15 to 20, for a task: the state first, then the schema.
 fn apply_task(task: Task, state: &mut [u8], count: usize, schema: usize, objects: &[u8]) -> Applied
     requires { ⌜ Represented task (taskOf task) ⌝ }
-    ensures { λ r. ⌜ Does (pressTask (taskOf task) (now (state .entry)) count (record { schema = schema; objects = now (objects .entry) })) (now (state .exit)) r ⌝ }
+    ensures { λ r. ⌜
+        Does (pressTask (taskOf task) (now (state .entry)) count (record { schema = schema; objects = now (objects .entry) })) (now (state .exit)) r
+        ⌝ }
 {
     let predicates = task.predicates;
     let predicate_count = predicates.count;
@@ -185,7 +196,9 @@ pub fn initial(card: &[u8], state: &mut [u8]) -> Applied
 
 // An action is applied to the state in the buffer, and the next state's count is answered. A refusal alters no byte.
 pub fn apply(card: &[u8], state: &mut [u8], count: usize, schema: usize, objects: &[u8]) -> Applied
-    ensures { λ r. ⌜ Applies (now (card .entry)) (now (state .entry)) count (record { schema = schema; objects = now (objects .entry) }) (now (state .exit)) r ⌝ }
+    ensures { λ r. ⌜
+        Applies (now (card .entry)) (now (state .entry)) count (record { schema = schema; objects = now (objects .entry) }) (now (state .exit)) r
+        ⌝ }
 {
     let decoded = decode(card);
     let verdict = decoded.verdict;

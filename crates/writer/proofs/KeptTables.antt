@@ -55,7 +55,8 @@ module _ (t : model.Task) where
       let schemas : List Schema = map schemaFor (t .schemas) in
       let facts : List Atom = map atomFor (t .facts) in
       let first : List ℕ = entries (length (t .arities)) 0 (padded 20 0 (t .arities)) in
-      let same-schemas = (ap (map (schemaTable first)) (kept-entries 32 (length (t .schemas)) blankSchema schemas (length-map (t .schemas) schemaFor) ∙ keeps-schemas)
+      let same-schemas = (ap (map (schemaTable first)) (kept-entries 32 (length (t .schemas)) blankSchema schemas (length-map (t .schemas) schemaFor)
+      ∙ keeps-schemas)
       ∙ kept-schemas first (t .schemas)
       ∙ ap (map (schemaOf first)) (sym keeps-schemas)
       ∙ ap (λ (l : List ℕ). map (schemaOf l) (take (length (t .schemas)) (padded 32 blankSchema schemas))) kept-arities) in

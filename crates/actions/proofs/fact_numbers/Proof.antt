@@ -29,8 +29,11 @@ element-copy-out-f c = let few = c .before .before .before .before .pre .few in 
 fact-number-requires : tie.Need-fact-number-requires Inv-loop μ-loop
 unfolding blankAtom
 fact-number-requires c κs =
-    let start = c .before .before .before .before .before in
-    (start .pre .right, fact-predicate (start .args .arities .now) (start .args .t1) (start .args .numbers .now) (start .pre) (c .before .before .loop .i) (omega arith))
+    let start = c .before .before .before .before .before in (
+      start .pre .right,
+      fact-predicate (start .args .arities .now) (start .args .t1) (start .args .numbers .now) (start .pre)
+          (c .before .before .loop .i) (omega arith),
+    )
 
 mul-numbers : tie.Need-mul-numbers Inv-loop μ-loop
 mul-numbers c = omega arith
@@ -67,4 +70,5 @@ returns c =
 pub fact-numbers-spec : {M : Type 1} → statement M
 fact-numbers-spec =
     tie.close
-    (tie.spec Inv-loop μ-loop loop-holds mul-f element-copy-out-f fact-number-requires mul-numbers slice-write-numbers add-i loop-less loop-again same-length returns)
+    (tie.spec Inv-loop μ-loop loop-holds mul-f element-copy-out-f fact-number-requires mul-numbers slice-write-numbers add-i loop-less loop-again
+    same-length returns)

@@ -32,8 +32,11 @@ element-copy-out-a c = let few = c .before .before .before .before .pre .few in 
 ground-requires : tie.Need-ground-requires Inv-loop μ-loop
 unfolding blankAtom
 ground-requires c κs =
-    let start = c .before .before .before .before .before in
-    (start .pre .right, atom-known (start .args .arities .now) (start .args .objects .now) (start .args .t1) (start .pre) (c .before .before .loop .i) (omega arith))
+    let start = c .before .before .before .before .before in (
+      start .pre .right,
+      atom-known (start .args .arities .now) (start .args .objects .now) (start .args .t1) (start .pre) (c .before .before .loop .i)
+          (omega arith),
+    )
 
 mul-numbers : tie.Need-mul-numbers Inv-loop μ-loop
 mul-numbers c = omega arith

@@ -26,7 +26,8 @@ returns-2 : tie.Need-returns-2
 returns-2 c =
     let start = c .before .before .before .before .before .before in
     same-code (c .refusal-code .result) (c .refusal-code .ok) (c .refusal-code .ensures)
-    (checks-refused (start .args .card .now) (c .before .before .before .before .decode .result) (c .before .before .before .before .decode .ensures) _ (c .before .before .verdict .given .1))
+    (checks-refused (start .args .card .now) (c .before .before .before .before .decode .result) (c .before .before .before .before .decode .ensures)
+    _ (c .before .before .verdict .given .1))
 
 pub stakestalk-check-spec : {M : Type 1} → statement M
 stakestalk-check-spec =

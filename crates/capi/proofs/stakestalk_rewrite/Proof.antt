@@ -20,7 +20,8 @@ refusal-code-requires c κs = search needs
 returns : tie.Need-returns
 returns c =
     let start = c .before .before .before .before .before .before .before in
-    let refused = rewrites-refused (start .args .card .now) (c .before .before .before .before .decode .result) (c .before .before .before .before .decode .ensures) _ (c .before .before .verdict .given .1) (start .args .out .now) in (
+    let refused = rewrites-refused (start .args .card .now) (c .before .before .before .before .decode .result)
+    (c .before .before .before .before .decode .ensures) _ (c .before .before .verdict .given .1) (start .args .out .now) in (
       same-code (c .refusal-code .result) (c .refusal-code .ok) (c .refusal-code .ensures) (ap (λ (call : Call). call .answer) refused),
       sym (ap (λ (call : Call). call .buffer) refused),
     )
@@ -41,7 +42,9 @@ returns-2 : tie.Need-returns-2
 returns-2 c =
     let start = c .before .before .before .before .before .before .before .before .before .before .before in
     let done = c .before .before .before .encode .ensures in
-    let accepted = rewrites-accepted (start .args .card .now) (c .before .before .before .before .before .before .before .before .decode .result) (c .before .before .before .before .before .before .before .before .decode .ensures) (c .before .before .before .before .before .before .enum-told .given .1) (start .args .out .now) in (
+    let accepted = rewrites-accepted (start .args .card .now) (c .before .before .before .before .before .before .before .before .decode .result)
+    (c .before .before .before .before .before .before .before .before .decode .ensures)
+    (c .before .before .before .before .before .before .enum-told .given .1) (start .args .out .now) in (
       same-code (c .writing-code .result) (c .writing-code .ok) (c .writing-code .ensures)
           (ap (λ (call : Call). call .answer) accepted ∙ sym (done .answer)),
       done .buffer ∙ ap (λ (call : Call). call .buffer) (sym accepted),

@@ -24,29 +24,54 @@ room s known =
     (s .args .out .now) (s .pre .1 .1 .1)
 
 write-front-requires : tie.Need-write-front-requires
-write-front-requires c κs = let s = c .before .before .before in (s .pre .0, (s .pre .1 .1 .0, first-fits (closing-parts _) (room (c .before .before .before) (c .before .shared-slice-known .given))))
+write-front-requires c κs =
+    let s = c .before .before .before in (
+      s .pre .0,
+      (
+        s .pre .1 .1 .0,
+        first-fits (closing-parts _)
+            (room (c .before .before .before) (c .before .shared-slice-known .given)),
+      ),
+    )
 
 sub-write-type-lines : tie.Need-sub-write-type-lines
-sub-write-type-lines c = rest-inside (closing-parts _) (room (c .before .before .before .before .before .before) (c .before .before .before .before .shared-slice-known .given)) (c .before .before .write-front .ensures)
+sub-write-type-lines c =
+    rest-inside (closing-parts _) (room (c .before .before .before .before .before .before)
+    (c .before .before .before .before .shared-slice-known .given)) (c .before .before .write-front .ensures)
 
 part-write-type-lines-start : tie.Need-part-write-type-lines-start
-part-write-type-lines-start c = omega (arith, rest-inside (closing-parts _) (room (c .before .before .before .before .before .before) (c .before .before .before .before .shared-slice-known .given)) (c .before .before .write-front .ensures))
+part-write-type-lines-start c =
+    omega (
+      arith,
+      rest-inside (closing-parts _) (room (c .before .before .before .before .before .before)
+          (c .before .before .before .before .shared-slice-known .given)) (c .before .before .write-front .ensures),
+    )
 
 part-write-type-lines-end : tie.Need-part-write-type-lines-end
 part-write-type-lines-end c = search needs
 
 write-type-lines-requires : tie.Need-write-type-lines-requires
-write-type-lines-requires c κs =
-    (c .before .before .before .before .before .before .before .pre .0, (c .before .before .before .before .before .before .before .pre .1 .0, second-fits (closing-parts _) (room (c .before .before .before .before .before .before .before) (c .before .before .before .before .before .shared-slice-known .given)) (c .before .before .before .write-front .ensures)))
+write-type-lines-requires c κs = (
+  c .before .before .before .before .before .before .before .pre .0,
+  (
+    c .before .before .before .before .before .before .before .pre .1 .0,
+    second-fits (closing-parts _)
+        (room (c .before .before .before .before .before .before .before) (c .before .before .before .before .before .shared-slice-known .given))
+        (c .before .before .before .write-front .ensures),
+  ),
+)
 
 returns : tie.Need-returns
 returns c =
-    both (closing-parts _) (room (c .before .before .before .before .before .before .before .before .before .before) (c .before .before .before .before .before .before .before .before .shared-slice-known .given)) (c .before .before .before .before .before .before .write-front .ensures) (c .before .before .write-type-lines .ensures)
+    both (closing-parts _) (room (c .before .before .before .before .before .before .before .before .before .before)
+    (c .before .before .before .before .before .before .before .before .shared-slice-known .given))
+    (c .before .before .before .before .before .before .write-front .ensures) (c .before .before .write-type-lines .ensures)
 
 add-result : tie.Need-add-result
 add-result c =
     let whole = returns c in
-    let fits = room (c .before .before .before .before .before .before .before .before .before .before) (c .before .before .before .before .before .before .before .before .shared-slice-known .given) in
+    let fits = room (c .before .before .before .before .before .before .before .before .before .before)
+    (c .before .before .before .before .before .before .before .before .shared-slice-known .given) in
     omega arith
 
 same-length : tie.Need-same-length

@@ -13,7 +13,8 @@ sub-write-ceilings : tie.Need-sub-write-ceilings
 sub-write-ceilings c = rest-inside (front-parts _) (c .before .before .before .before .before .before .pre .1 .1) (c .before .before .write-totals .ensures)
 
 part-write-ceilings-start : tie.Need-part-write-ceilings-start
-part-write-ceilings-start c = omega (arith, rest-inside (front-parts _) (c .before .before .before .before .before .before .pre .1 .1) (c .before .before .write-totals .ensures))
+part-write-ceilings-start c =
+    omega (arith, rest-inside (front-parts _) (c .before .before .before .before .before .before .pre .1 .1) (c .before .before .write-totals .ensures))
 
 part-write-ceilings-end : tie.Need-part-write-ceilings-end
 part-write-ceilings-end c = search needs
@@ -26,7 +27,8 @@ write-ceilings-requires c κs = (
 
 returns : tie.Need-returns
 returns c =
-    both (front-parts _) (c .before .before .before .before .before .before .before .before .before .before .pre .1 .1) (c .before .before .before .before .before .before .write-totals .ensures) (c .before .before .write-ceilings .ensures)
+    both (front-parts _) (c .before .before .before .before .before .before .before .before .before .before .pre .1 .1)
+    (c .before .before .before .before .before .before .write-totals .ensures) (c .before .before .write-ceilings .ensures)
 
 add-result : tie.Need-add-result
 add-result c = let whole = returns c in omega arith

@@ -30,7 +30,9 @@ same-length-4 c = search needs
 
 returns : tie.Need-returns
 returns c =
-    list-unknown _ _ _ _ (c .before .before .before .before .before .before .before .before .before .before .prepare .ensures .spaces-are) (c .before .before .before .before .before .before .before .before .before .before .before .before .before .before .before .before .before .before .before .before .before .before .pre .1 .0) (c .if1 .taken)
+    list-unknown _ _ _ _ (c .before .before .before .before .before .before .before .before .before .before .prepare .ensures .spaces-are)
+    (c .before .before .before .before .before .before .before .before .before .before .before .before .before .before .before .before .before .before
+    .before .before .before .before .pre .1 .0) (c .if1 .taken)
 
 write-section-requires : tie.Need-write-section-requires
 write-section-requires c κs =
@@ -64,7 +66,11 @@ same-length-11 c = search needs
 
 returns-2 : tie.Need-returns-2
 returns-2 c =
-    list-written _ _ _ _ (c .before .before .before .before .before .before .before .before .before .before .before .before .before .before .before .before .before .before .before .before .before .before .before .prepare .ensures .spaces-are) (c .before .before .before .before .before .before .before .before .before .before .before .before .before .before .before .before .before .before .before .before .before .before .before .before .before .before .before .before .before .before .before .before .before .before .before .pre .1 .0) (c .before .before .before .before .before .before .before .before .before .before .before .before .before .if1 .left) _ _
+    list-written _ _ _ _ (c .before .before .before .before .before .before .before .before .before .before .before .before .before .before .before
+    .before .before .before .before .before .before .before .before .prepare .ensures .spaces-are)
+    (c .before .before .before .before .before .before .before .before .before .before .before .before .before .before .before .before .before
+    .before .before .before .before .before .before .before .before .before .before .before .before .before .before .before .before .before
+    .before .pre .1 .0) (c .before .before .before .before .before .before .before .before .before .before .before .before .before .if1 .left) _ _
     (c .before .before .before .before .before .before .write-section .ensures)
 
 pub list-with-spec : {M : Type 1} → statement M

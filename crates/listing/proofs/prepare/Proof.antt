@@ -19,9 +19,12 @@ numbered-requires c κs =
 
 spaces-of-requires : tie.Need-spaces-of-requires
 spaces-of-requires c κs =
-    let rep = c .before .before .before .before .before .before .before .before .before .before .before .before .before .before .before .before .before .before .before .before .before .before .before .pre .0 in
-    let room = c .before .before .before .before .before .before .before .before .before .before .before .before .before .before .before .before .before .before .before .before .before .before .before .pre .1 .0 in
-    let long = c .before .before .before .before .before .before .before .before .before .before .before .before .before .before .before .before .before .before .before .before .before .before .before .pre .1 .1 in
+    let rep = c .before .before .before .before .before .before .before .before .before .before .before .before .before .before .before .before
+    .before .before .before .before .before .before .before .pre .0 in
+    let room = c .before .before .before .before .before .before .before .before .before .before .before .before .before .before .before .before
+    .before .before .before .before .before .before .before .pre .1 .0 in
+    let long = c .before .before .before .before .before .before .before .before .before .before .before .before .before .before .before .before
+    .before .before .before .before .before .before .before .pre .1 .1 in
     let written = c .before .before .before .before .before .before .before .before .before .before .before .before .before .before .before .rules in
     let bags = c .before .before .before .before .before .before .before .object-bags in
     let counted = properties-counted _ _ (c .before .before .before .before .numbered .ensures) in
@@ -48,8 +51,10 @@ same-length-4 c = search needs
 
 returns : tie.Need-returns
 returns c =
-    let rep = c .before .before .before .before .before .before .before .before .before .before .before .before .before .before .before .before .before .before .before .before .before .before .before .before .pre .0 in
-    let long = c .before .before .before .before .before .before .before .before .before .before .before .before .before .before .before .before .before .before .before .before .before .before .before .before .pre .1 .1 in
+    let rep = c .before .before .before .before .before .before .before .before .before .before .before .before .before .before .before .before
+    .before .before .before .before .before .before .before .before .pre .0 in
+    let long = c .before .before .before .before .before .before .before .before .before .before .before .before .before .before .before .before
+    .before .before .before .before .before .before .before .before .pre .1 .1 in
     let written = c .before .before .before .before .before .before .before .before .before .before .before .before .before .before .before .before .rules .ensures in
     let bags = c .before .before .before .before .before .before .before .before .object-bags in
     let counted = properties-counted _ _ (c .before .before .before .before .before .numbered .ensures) in

@@ -24,7 +24,8 @@ write-space-requires c κs =
     let long : length (c .before .before .property-arities .result) ≡ 60 = search needs in (
       record {
         task = _;
-        given = listed-space _ _ _ _ _ _ _ _ given _ long (c .before .before .property-arities .ensures) _ (c .before .before .before .before .before .before .before .analyse .ensures _ given);
+        given = listed-space _ _ _ _ _ _ _ _ given _ long (c .before .before .property-arities .ensures) _
+            (c .before .before .before .before .before .before .before .analyse .ensures _ given);
         known = c .before .before .before .before .before .before .before .before .before .before .if1 .taken;
       },
       pre .1 .1 .0 .1,
@@ -41,11 +42,13 @@ same-length-3 c = search needs
 
 returns : tie.Need-returns
 returns c =
-    let given = c .before .before .before .before .before .before .before .before .before .before .before .before .before .before .before .before .before .before .before .before .before .before .pre .1 .0 in
+    let given = c .before .before .before .before .before .before .before .before .before .before .before .before .before .before .before .before
+    .before .before .before .before .before .before .pre .1 .0 in
     let long : length (c .before .before .before .before .before .property-arities .result) ≡ 60 = search needs in
     space-written _ _ (given .spaces-are) _ (c .before .before .before .before .before .before .before .before .before .before .before .before .before .if1 .taken)
     (c .before .before .write-space .ensures _
-    (listed-space _ _ _ _ _ _ _ _ given _ long (c .before .before .before .before .before .property-arities .ensures) _ (c .before .before .before .before .before .before .before .before .before .before .analyse .ensures _ given)))
+    (listed-space _ _ _ _ _ _ _ _ given _ long (c .before .before .before .before .before .property-arities .ensures) _
+    (c .before .before .before .before .before .before .before .before .before .before .analyse .ensures _ given)))
 
 fixed-totals-requires : tie.Need-fixed-totals-requires
 fixed-totals-requires c κs = search needs
@@ -71,7 +74,8 @@ same-length-6 c = search needs
 returns-2 : tie.Need-returns-2
 returns-2 c =
     let pre = c .before .before .before .before .before .before .before .before .before .before .before .before .before .before .before .before .before .before .before .before .before .pre in
-    closing-written _ _ (pre .1 .0 .spaces-are) _ (pre .1 .1 .0 .0) (c .before .before .before .before .before .before .before .before .before .before .before .before .if1 .left) (c .before .before .write-closing .ensures)
+    closing-written _ _ (pre .1 .0 .spaces-are) _ (pre .1 .1 .0 .0)
+    (c .before .before .before .before .before .before .before .before .before .before .before .before .if1 .left) (c .before .before .write-closing .ensures)
 
 pub write-section-spec : {M : Type 1} → statement M
 write-section-spec =

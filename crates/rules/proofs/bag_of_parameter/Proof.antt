@@ -60,7 +60,8 @@ small s bag i passed j =
     )
 
 loop-holds : tie.Need-loop-holds Inv-loop μ-loop
-loop-holds c = record { inside = omega arith; sized = refl; bag-is = nothing-counted (aritiesOf (c .args .t2)) (c .args .k) (sum-arities (c .args .t2) (c .pre .0)) }
+loop-holds c =
+    record { inside = omega arith; sized = refl; bag-is = nothing-counted (aritiesOf (c .args .t2)) (c .args .k) (sum-arities (c .args .t2) (c .pre .0)) }
 
 mul-a : tie.Need-mul-a Inv-loop μ-loop
 mul-a c = omega arith

@@ -35,7 +35,8 @@ abbrev μ-loop : tie.MeasureT-loop
 μ-loop counts₀ predicates facts firsts m objects i₀ counts i = m - i
 
 -- the rows of all objects are in the table that was emptied
-room : (c : tie.At-loop Inv-loop μ-loop) → 60 * c .before .before .before .before .before .before .before .before .before .before .args .task .objects ≤ length (c .before .before .before .clear-rows .last .0)
+room : (c : tie.At-loop Inv-loop μ-loop) → 60 * c .before .before .before .before .before .before .before .before .before
+    .before .args .task .objects ≤ length (c .before .before .before .clear-rows .last .0)
 room c =
     let s = c .before .before .before .before .before .before .before .before .before .before in
     let few = objects-few (s .args .task) (s .pre .0) in
@@ -55,10 +56,13 @@ emptied s =
 
 -- the fact that a turn takes: its predicate is known
 here : (c : tie.After-fact Inv-loop μ-loop)
-    → (getD (c .before .before .before .before .before .before .before .before .before .before .before .before .args .task .facts .facts) (c .before .before .loop .i) blankAtom .predicate < length (aritiesOf (c .before .before .before .before .before .before .before .before .before .before .before .before .args .task .predicates)))
+    → (getD (c .before .before .before .before .before .before .before .before .before .before .before .before .args .task .facts .facts)
+    (c .before .before .loop .i) blankAtom .predicate < length
+    (aritiesOf (c .before .before .before .before .before .before .before .before .before .before .before .before .args .task .predicates)))
     × Placed (c .before .before .before .before .before .before .before .before .before .before .before .before .args .task .predicates)
     (c .before .before .before .before .before .before .before .before .numbered .result .firsts)
-    (getD (c .before .before .before .before .before .before .before .before .before .before .before .before .args .task .facts .facts) (c .before .before .loop .i) blankAtom .predicate)
+    (getD (c .before .before .before .before .before .before .before .before .before .before .before .before .args .task .facts .facts)
+    (c .before .before .loop .i) blankAtom .predicate)
 here c =
     let s = c .before .before .before .before .before .before .before .before .before .before .before .before in
     let e : length (c .before .before .before .before .before .before .before .before .before .before .before .before .args .task .predicates .arities) ≡ 20 = search needs in
@@ -69,7 +73,8 @@ here c =
 -- no more facts are passed than there are
 few : (c : tie.At-loop Inv-loop μ-loop)
     → length
-    (take (c .loop .i) (factsOf (aritiesOf (c .before .before .before .before .before .before .before .before .before .before .args .task .predicates)) (c .before .before .before .before .before .before .before .before .before .before .args .task .facts))) ≤ 512
+    (take (c .loop .i) (factsOf (aritiesOf (c .before .before .before .before .before .before .before .before .before
+    .before .args .task .predicates)) (c .before .before .before .before .before .before .before .before .before .before .args .task .facts))) ≤ 512
 unfolding taskOf
 few c =
     let s = c .before .before .before .before .before .before .before .before .before .before in
@@ -104,10 +109,14 @@ loop-holds c =
     }
 
 mul-fact : tie.Need-mul-fact Inv-loop μ-loop
-mul-fact c = let few = facts-few (c .before .before .before .before .before .before .before .before .before .before .before .args .task) (c .before .before .before .before .before .before .before .before .before .before .before .pre .0) in omega arith
+mul-fact c =
+    let few = facts-few (c .before .before .before .before .before .before .before .before .before .before .before .args .task)
+    (c .before .before .before .before .before .before .before .before .before .before .before .pre .0) in omega arith
 
 element-copy-out-fact : tie.Need-element-copy-out-fact Inv-loop μ-loop
-element-copy-out-fact c = let few = facts-few (c .before .before .before .before .before .before .before .before .before .before .before .args .task) (c .before .before .before .before .before .before .before .before .before .before .before .pre .0) in omega arith
+element-copy-out-fact c =
+    let few = facts-few (c .before .before .before .before .before .before .before .before .before .before .before .args .task)
+    (c .before .before .before .before .before .before .before .before .before .before .before .pre .0) in omega arith
 
 wide-requires : tie.Need-wide-requires Inv-loop μ-loop
 wide-requires c κs = tt
@@ -147,7 +156,9 @@ enter-fact-requires c κs =
 
 add-i : tie.Need-add-i Inv-loop μ-loop
 add-i c =
-    let few = facts-few (c .before .before .before .before .before .before .before .before .before .before .before .before .before .before .before .before .before .before .before .args .task) (c .before .before .before .before .before .before .before .before .before .before .before .before .before .before .before .before .before .before .before .pre .0) in
+    let few = facts-few (c .before .before .before .before .before .before .before .before .before .before .before .before .before .before .before
+    .before .before .before .before .args .task) (c .before .before .before .before .before .before .before .before .before .before .before
+    .before .before .before .before .before .before .before .before .pre .0) in
     let h = c .before .before .before .before .before .before .before .before .loop-test .taken in
     omega arith
 
@@ -167,10 +178,13 @@ loop-again c =
       inside = omega arith;
       holds =
           subst
-          (λ (l : List model.Atom). BagTable (bagOf (propertiesFrom 0 arities) l) (task .objects) (c .before .before .before .before .before .before .before .before .before .before .before .before .clear-rows .last .0) (c .before .before .enter-fact .last .0))
+          (λ (l : List model.Atom). BagTable (bagOf (propertiesFrom 0 arities) l) (task .objects)
+          (c .before .before .before .before .before .before .before .before .before .before .before .before .clear-rows .last .0)
+          (c .before .before .enter-fact .last .0))
           (sym (atoms-next arities (task .facts .facts) (task .facts .count) (at .i) blankAtom (facts-inside task (s .pre .0)) h)
           ∙ ap (λ (k : ℕ). take k (factsOf arities (task .facts))) (sym (add-one (at .i))))
-          (fact-counted (task .predicates) (c .before .before .before .before .before .before .before .before .before .before .before .before .before .before .before .numbered .result .firsts) (arities-right task (s .pre .0)) (task .objects) _ (at .counts) _ a
+          (fact-counted (task .predicates) (c .before .before .before .before .before .before .before .before .before .before .before .before .before
+          .before .before .numbered .result .firsts) (arities-right task (s .pre .0)) (task .objects) _ (at .counts) _ a
           (c .before .before .before .before .before .before .wide .result) (c .before .before .before .before .wide2 .result)
           (at .inv .holds) (room (c .before .before .before .before .before .before .before .before .before))
           (few (c .before .before .before .before .before .before .before .before .before))

@@ -13,7 +13,8 @@ put-increasing-requires : tie.Need-put-increasing-requires
 put-increasing-requires c κs =
     let s = c .before .before .before .before .before .before .before .before in
     as-room
-    (remaining-increasing (s .args .p) (s .args .start) (s .args .finish) (sym (c .before .before .before .before .is-empty .ensures) ∙ c .before .before .before .if1 .taken))
+    (remaining-increasing (s .args .p) (s .args .start) (s .args .finish)
+    (sym (c .before .before .before .before .is-empty .ensures) ∙ c .before .before .before .if1 .taken))
     (s .args .n) (s .pre)
 
 same-length : tie.Need-same-length
@@ -29,14 +30,17 @@ returns : tie.Need-returns
 returns c =
     let s = c .before .before .before .before .before .before .before .before .before .before .before .before .before .before .before in
     as-rules
-    (sym (remaining-increasing (s .args .p) (s .args .start) (s .args .finish) (sym (c .before .before .before .before .before .before .before .before .before .before .before .is-empty .ensures) ∙ c .before .before .before .before .before .before .before .before .before .before .if1 .taken)))
+    (sym (remaining-increasing (s .args .p) (s .args .start) (s .args .finish)
+    (sym (c .before .before .before .before .before .before .before .before .before .before .before .is-empty .ensures) ∙
+    c .before .before .before .before .before .before .before .before .before .before .if1 .taken)))
     (c .before .before .before .before .before .before .put-increasing .ensures)
 
 put-rule-requires : tie.Need-put-rule-requires
 put-rule-requires c κs =
     let s = c .before .before .before .before .before .before .before .before in
     as-room
-    (remaining-one (s .args .p) (s .args .start) (s .args .finish) (sym (c .before .before .before .before .is-empty .ensures) ∙ c .before .before .before .if1 .left))
+    (remaining-one (s .args .p) (s .args .start) (s .args .finish)
+    (sym (c .before .before .before .before .is-empty .ensures) ∙ c .before .before .before .if1 .left))
     (s .args .n) (s .pre)
 
 same-length-4 : tie.Need-same-length-4
@@ -52,7 +56,9 @@ returns-2 : tie.Need-returns-2
 returns-2 c =
     let s = c .before .before .before .before .before .before .before .before .before .before .before .before .before .before .before in
     as-rules
-    (sym (remaining-one (s .args .p) (s .args .start) (s .args .finish) (sym (c .before .before .before .before .before .before .before .before .before .before .before .is-empty .ensures) ∙ c .before .before .before .before .before .before .before .before .before .before .if1 .left)))
+    (sym (remaining-one (s .args .p) (s .args .start) (s .args .finish)
+    (sym (c .before .before .before .before .before .before .before .before .before .before .before .is-empty .ensures) ∙
+    c .before .before .before .before .before .before .before .before .before .before .if1 .left)))
     (c .before .before .before .before .before .before .put-rule .ensures)
 
 pub put-remaining-spec : {M : Type 1} → statement M

@@ -73,7 +73,9 @@ put-parameter-of-requires c κs =
     )
 
 add-k : tie.Need-add-k Inv-loop μ-loop
-add-k c = let few = c .before .before .before .before .before .before .before .before .before .before .before .before .before .before .before .pre .1 .0 .few-parameters in let h = c .before .before .before .before .before .before .before .before .before .before .loop-test .taken in omega arith
+add-k c =
+    let few = c .before .before .before .before .before .before .before .before .before .before .before .before .before .before
+    .before .pre .1 .0 .few-parameters in let h = c .before .before .before .before .before .before .before .before .before .before .loop-test .taken in omega arith
 
 loop-less : tie.Need-loop-less Inv-loop μ-loop
 loop-less c = omega arith
@@ -86,7 +88,8 @@ loop-again c =
     let h = c .before .before .before .before .before .before .before .before .before .before .loop-test .taken in
     let m = s .args .schema .parameters in
     put-item (given s) (at .inv) 0 (turn m (at .k) h)
-    (as-rules (ap (ofParameter (s .args .schema) (s .args .predicates)) (sym (getD-upTo m (at .k) 0 h))) (c .before .before .before .before .before .before .put-parameter-of .ensures))
+    (as-rules (ap (ofParameter (s .args .schema) (s .args .predicates)) (sym (getD-upTo m (at .k) 0 h)))
+    (c .before .before .before .before .before .before .put-parameter-of .ensures))
 
 same-length : tie.Need-same-length Inv-loop μ-loop
 same-length c = items-kept (given (c .before .before .before .before .before)) (c .before .loop .inv) .enablers-kept

@@ -57,10 +57,14 @@ loop-holds : tie.Need-loop-holds Inv-loop μ-loop
 loop-holds c = items-start (given (c .before .before .before .before .before .before .before))
 
 mul-schema : tie.Need-mul-schema Inv-loop μ-loop
-mul-schema c = let few = schemas-few (c .before .before .before .before .before .before .before .before .before .args .task) (c .before .before .before .before .before .before .before .before .before .pre .0) in omega arith
+mul-schema c =
+    let few = schemas-few (c .before .before .before .before .before .before .before .before .before .args .task)
+    (c .before .before .before .before .before .before .before .before .before .pre .0) in omega arith
 
 element-copy-out-schema : tie.Need-element-copy-out-schema Inv-loop μ-loop
-element-copy-out-schema c = let few = schemas-few (c .before .before .before .before .before .before .before .before .before .args .task) (c .before .before .before .before .before .before .before .before .before .pre .0) in omega arith
+element-copy-out-schema c =
+    let few = schemas-few (c .before .before .before .before .before .before .before .before .before .args .task)
+    (c .before .before .before .before .before .before .before .before .before .pre .0) in omega arith
 
 put-schema-requires : tie.Need-put-schema-requires Inv-loop μ-loop
 unfolding taskOf
@@ -100,7 +104,8 @@ loop-again c =
     let task = s .args .task in
     let arities = aritiesOf (task .predicates) in
     put-item (given s) (at .inv) (schemaOf arities noSchema) (turn s (at .i) h)
-    (as-rules (ap (schemaRulesOver arities) (sym (schema-at task (s .pre .0) (at .i) noSchema h))) (c .before .before .before .before .before .before .put-schema .ensures))
+    (as-rules (ap (schemaRulesOver arities) (sym (schema-at task (s .pre .0) (at .i) noSchema h)))
+    (c .before .before .before .before .before .before .put-schema .ensures))
 
 same-length : tie.Need-same-length Inv-loop μ-loop
 same-length c = items-kept (given (c .before .before .before .before .before .before .before .before .before)) (c .before .loop .inv) .enablers-kept

@@ -64,4 +64,5 @@ returns c =
 pub close-gap-spec : {M : Type 1} → statement M
 close-gap-spec =
     tie.close
-    (tie.spec Inv-loop μ-loop loop-holds add-loop add-numbers mul-numbers slice-read-numbers mul-numbers-2 slice-write-numbers add-i loop-less loop-again mul-numbers-3 slice-write-numbers-2 same-length returns)
+    (tie.spec Inv-loop μ-loop loop-holds add-loop add-numbers mul-numbers slice-read-numbers mul-numbers-2 slice-write-numbers add-i loop-less
+    loop-again mul-numbers-3 slice-write-numbers-2 same-length returns)

@@ -85,4 +85,5 @@ returns-2 c =
 pub insert-spec : {M : Type 1} → statement M
 insert-spec =
     tie.close
-    (tie.spec sub-find part-find-start part-find-end find-requires enum-known-there enum-told same-length returns make-room-requires add-result same-length-2 returns-2)
+    (tie.spec sub-find part-find-start part-find-end find-requires enum-known-there enum-told same-length returns make-room-requires add-result
+    same-length-2 returns-2)

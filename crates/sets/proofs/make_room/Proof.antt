@@ -56,9 +56,11 @@ returns : tie.Need-returns Inv-loop μ-loop
 returns c =
     let start = c .before .before in
     let head = c .before .loop in
-    opening-end (start .args .at) (start .args .count) (start .args .n) (start .args .numbers .now) (head .i) (head .numbers) (head .inv) (omega arith) (start .pre .1)
+    opening-end (start .args .at) (start .args .count) (start .args .n) (start .args .numbers .now) (head .i) (head .numbers) (head .inv)
+    (omega arith) (start .pre .1)
 
 pub make-room-spec : {M : Type 1} → statement M
 make-room-spec =
     tie.close
-    (tie.spec Inv-loop μ-loop loop-holds sub-numbers mul-numbers slice-read-numbers mul-numbers-2 slice-write-numbers sub-i loop-less loop-again mul-numbers-3 slice-write-numbers-2 same-length returns)
+    (tie.spec Inv-loop μ-loop loop-holds sub-numbers mul-numbers slice-read-numbers mul-numbers-2 slice-write-numbers sub-i loop-less loop-again
+    mul-numbers-3 slice-write-numbers-2 same-length returns)

@@ -85,4 +85,5 @@ returns-2 c =
 pub remove-spec : {M : Type 1} → statement M
 remove-spec =
     tie.close
-    (tie.spec sub-find part-find-start part-find-end find-requires enum-known-there enum-told same-length returns close-gap-requires sub-result same-length-2 returns-2)
+    (tie.spec sub-find part-find-start part-find-end find-requires enum-known-there enum-told same-length returns close-gap-requires sub-result
+    same-length-2 returns-2)

@@ -2,7 +2,9 @@
 use Prim.Native.Nat.{_<_}
 use native.Mathlib.Omega.{arith}
 use lib.ListN.{length}
-use Rattle.space_lines.proofs.Writing.{states-fit, states-inside, limits-fit, with-limits, limits-within, limits-inside, memberships-fit, with-memberships, memberships-within, memberships-inside, exclusions-fit, with-exclusions, indices-below, indices-inside, has-rows-as}
+use Rattle.space_lines.proofs.Writing.{states-fit, states-inside, limits-fit, with-limits, limits-within, limits-inside, memberships-fit}
+use Rattle.space_lines.proofs.Writing.{with-memberships, memberships-within, memberships-inside, exclusions-fit, with-exclusions}
+use Rattle.space_lines.proofs.Writing.{indices-below, indices-inside, has-rows-as}
 use borrow.Author.Needs.{needs}
 use Rattle.space_lines.proofs.write_conditions.Statement.{statement}
 use Rattle.space_lines.proofs.write_conditions.Tie as tie
@@ -78,7 +80,8 @@ add-at-2 : tie.Need-add-at-2
 add-at-2 c =
     let pre = c .before .before .before .before .before .before .before .before .before .before .before .before .before .before .before .before .before .before .before .before .pre in
     let states = c .before .before .before .before .before .before .before .before .before .before .before .before .before .before .write-states .ensures in
-    let limits = with-limits _ _ _ _ _ (pre .5) states (pre .2) (c .before .before .before .before .before .before .before .before .before .before .write-limits .ensures) in
+    let limits = with-limits _ _ _ _ _ (pre .5) states (pre .2)
+    (c .before .before .before .before .before .before .before .before .before .before .write-limits .ensures) in
     let indices = c .before .before .before .before .before .before .before .minimal-of .ensures in
     let memberships = with-memberships _ _ _ _ _ (pre .5) limits indices (c .before .before .write-memberships .ensures) in
     omega (arith, memberships-within _ _ _ _ _ (pre .5) memberships)
@@ -87,7 +90,8 @@ sub-write-exclusions : tie.Need-sub-write-exclusions
 sub-write-exclusions c =
     let pre = c .before .before .before .before .before .before .before .before .before .before .before .before .before .before .before .before .before .before .before .before .pre in
     let states = c .before .before .before .before .before .before .before .before .before .before .before .before .before .before .write-states .ensures in
-    let limits = with-limits _ _ _ _ _ (pre .5) states (pre .2) (c .before .before .before .before .before .before .before .before .before .before .write-limits .ensures) in
+    let limits = with-limits _ _ _ _ _ (pre .5) states (pre .2)
+    (c .before .before .before .before .before .before .before .before .before .before .write-limits .ensures) in
     let indices = c .before .before .before .before .before .before .before .minimal-of .ensures in
     let memberships = with-memberships _ _ _ _ _ (pre .5) limits indices (c .before .before .write-memberships .ensures) in
     omega (arith, memberships-inside _ _ _ _ _ (pre .5) memberships)
@@ -109,9 +113,11 @@ part-write-exclusions-end-2 c = indices-inside (c .before .before .before .befor
 
 write-exclusions-requires : tie.Need-write-exclusions-requires
 write-exclusions-requires c κs =
-    let pre = c .before .before .before .before .before .before .before .before .before .before .before .before .before .before .before .before .before .before .before .before .before .before .before .pre in
+    let pre = c .before .before .before .before .before .before .before .before .before .before .before .before .before .before .before .before
+    .before .before .before .before .before .before .before .pre in
     let states = c .before .before .before .before .before .before .before .before .before .before .before .before .before .before .before .before .before .write-states .ensures in
-    let limits = with-limits _ _ _ _ _ (pre .5) states (pre .2) (c .before .before .before .before .before .before .before .before .before .before .before .before .before .write-limits .ensures) in
+    let limits = with-limits _ _ _ _ _ (pre .5) states (pre .2)
+    (c .before .before .before .before .before .before .before .before .before .before .before .before .before .write-limits .ensures) in
     let indices = c .before .before .before .before .before .before .before .before .before .before .minimal-of .ensures in
     let memberships = with-memberships _ _ _ _ _ (pre .5) limits indices (c .before .before .before .before .before .write-memberships .ensures) in
     (pre .0, indices-below _ _ _ indices, exclusions-fit _ _ _ _ _ (pre .5) memberships indices)
@@ -121,16 +127,21 @@ same-length c = search needs
 
 returns : tie.Need-returns
 returns c =
-    let pre = c .before .before .before .before .before .before .before .before .before .before .before .before .before .before .before .before .before .before .before .before .before .before .before .before .before .before .pre in
-    let states = c .before .before .before .before .before .before .before .before .before .before .before .before .before .before .before .before .before .before .before .before .write-states .ensures in
-    let limits = with-limits _ _ _ _ _ (pre .5) states (pre .2) (c .before .before .before .before .before .before .before .before .before .before .before .before .before .before .before .before .write-limits .ensures) in
+    let pre = c .before .before .before .before .before .before .before .before .before .before .before .before .before .before .before .before
+    .before .before .before .before .before .before .before .before .before .before .pre in
+    let states = c .before .before .before .before .before .before .before .before .before .before .before .before .before .before .before .before
+    .before .before .before .before .write-states .ensures in
+    let limits = with-limits _ _ _ _ _ (pre .5) states (pre .2)
+    (c .before .before .before .before .before .before .before .before .before .before .before .before .before .before .before .before .write-limits .ensures) in
     let indices = c .before .before .before .before .before .before .before .before .before .before .before .before .before .minimal-of .ensures in
-    let memberships = with-memberships _ _ _ _ _ (pre .5) limits indices (c .before .before .before .before .before .before .before .before .write-memberships .ensures) in
+    let memberships = with-memberships _ _ _ _ _ (pre .5) limits indices
+    (c .before .before .before .before .before .before .before .before .write-memberships .ensures) in
     with-exclusions _ _ _ _ _ (pre .5) memberships indices (c .before .before .write-exclusions .ensures)
 
 add-result : tie.Need-add-result
 add-result c =
-    let entry = c .before .before .before .before .before .before .before .before .before .before .before .before .before .before .before .before .before .before .before .before .before .before .before .before .before in
+    let entry = c .before .before .before .before .before .before .before .before .before .before .before .before .before .before .before .before
+    .before .before .before .before .before .before .before .before .before in
     omega (arith, returns c .count, entry .before .pre .5 .fits, output-small entry)
 
 pub write-conditions-spec : {M : Type 1} → statement M

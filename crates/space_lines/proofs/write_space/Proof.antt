@@ -67,7 +67,11 @@ write-space-requires c κs =
 sub-write-conditions : tie.Need-sub-write-conditions
 sub-write-conditions c =
     let s = c .before .before .before .before .before .before .before .before .before .before .before .before in
-    omega (arith, rest-inside (first-line _ _) (room s (c .before .before .before .before .before .before .before .kind-of .result)) (c .before .before .before .write-space .ensures))
+    omega (
+      arith,
+      rest-inside (first-line _ _) (room s (c .before .before .before .before .before .before .before .kind-of .result))
+          (c .before .before .before .write-space .ensures),
+    )
 
 part-write-conditions-start : tie.Need-part-write-conditions-start
 part-write-conditions-start c = sub-write-conditions c
@@ -90,7 +94,8 @@ write-conditions-requires c κs =
       own-counted (g .task) (g .given) (g .known) (groups-full s),
       groups-long s,
       g .given .arities-are .long,
-      second-fits (first-line _ _) (room s (c .before .before .before .before .before .before .before .before .before .before .kind-of .result)) (c .before .before .before .before .before .before .write-space .ensures),
+      second-fits (first-line _ _) (room s (c .before .before .before .before .before .before .before .before .before .before .kind-of .result))
+          (c .before .before .before .before .before .before .write-space .ensures),
     )
 
 same-length : tie.Need-same-length
@@ -99,14 +104,19 @@ same-length c = search needs
 add-result : tie.Need-add-result
 add-result c =
     let s = c .before .before .before .before .before .before .before .before .before .before .before .before .before .before .before .before .before .before in
-    let w = both (first-line _ _) (room s (c .before .before .before .before .before .before .before .before .before .before .before .before .before .kind-of .result)) (c .before .before .before .before .before .before .before .before .before .write-space .ensures) (c .before .before .write-conditions .ensures) in
+    let w = both (first-line _ _) (room s (c .before .before .before .before .before .before .before .before .before .before .before .before
+    .before .kind-of .result)) (c .before .before .before .before .before .before .before .before .before .write-space .ensures)
+    (c .before .before .write-conditions .ensures) in
     omega (arith, w .count, room s (c .before .before .before .before .before .before .before .before .before .before .before .before .before .kind-of .result) .fits)
 
 returns : tie.Need-returns
 returns c t g =
     let s = c .before .before .before .before .before .before .before .before .before .before .before .before .before .before .before .before .before .before in
-    section-written t g (s .pre .0 .known) (groups-full s) (c .before .before .before .before .before .before .before .before .before .before .before .before .before .kind-of .result) (c .before .before .before .before .before .before .before .before .before .before .before .before .before .kind-of .ensures)
-    (both (first-line _ _) (room s (c .before .before .before .before .before .before .before .before .before .before .before .before .before .kind-of .result)) (c .before .before .before .before .before .before .before .before .before .write-space .ensures) (c .before .before .write-conditions .ensures))
+    section-written t g (s .pre .0 .known) (groups-full s) (c .before .before .before .before .before .before .before .before .before .before .before
+    .before .before .kind-of .result) (c .before .before .before .before .before .before .before .before .before .before .before .before .before .kind-of .ensures)
+    (both (first-line _ _) (room s (c .before .before .before .before .before .before .before .before .before .before .before .before
+    .before .kind-of .result)) (c .before .before .before .before .before .before .before .before .before .write-space .ensures)
+    (c .before .before .write-conditions .ensures))
 
 pub write-space-spec : {M : Type 1} → statement M
 write-space-spec =

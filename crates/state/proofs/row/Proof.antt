@@ -44,4 +44,5 @@ returns c =
 pub row-spec : {M : Type 1} → statement M
 row-spec =
     tie.close
-    (tie.spec mul-at shared-slice-read-row-number add-row-number shared-slice-read-row-number-2 add-row-number-2 shared-slice-read-row-number-3 add-row-number-3 shared-slice-read-row-number-4 row-number-requires returns)
+    (tie.spec mul-at shared-slice-read-row-number add-row-number shared-slice-read-row-number-2 add-row-number-2 shared-slice-read-row-number-3
+    add-row-number-3 shared-slice-read-row-number-4 row-number-requires returns)

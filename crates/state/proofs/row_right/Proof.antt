@@ -71,7 +71,8 @@ returns-4 : tie.Need-returns-4
 returns-4 c =
     let start = c .before .before .before .before .before .before .before .before .before .before .before .before .before in
     c .place-right3 .ensures
-    ∙ third-decides _ _ _ (sym (c .before .before .before .before .before .before .place-right .ensures) ∙ not-false _ (c .before .before .before .before .before .if2 .left))
+    ∙ third-decides _ _ _ (sym (c .before .before .before .before .before .before .place-right .ensures) ∙ not-false _
+    (c .before .before .before .before .before .if2 .left))
     (sym (c .before .before .before .place-right2 .ensures) ∙ not-false _ (c .before .before .if3 .left))
     ∙ row-places (start .args .arities .now) (start .args .objects) (start .args .i) (start .args .state .now) (start .pre .0) (start .pre .1)
     (c .before .before .before .before .before .before .before .before .before .if1 .left)
@@ -79,4 +80,6 @@ returns-4 c =
 pub row-right-spec : {M : Type 1} → statement M
 row-right-spec =
     tie.close
-    (tie.spec mul-at shared-slice-read-predicate cast-predicate returns shared-slice-read-arity add-place-right shared-slice-read-place-right place-right-requires returns-2 add-place-right-2 shared-slice-read-place-right-2 place-right-requires-2 returns-3 add-place-right-3 shared-slice-read-place-right-3 place-right-requires-3 returns-4)
+    (tie.spec mul-at shared-slice-read-predicate cast-predicate returns shared-slice-read-arity add-place-right shared-slice-read-place-right
+    place-right-requires returns-2 add-place-right-2 shared-slice-read-place-right-2 place-right-requires-2 returns-3 add-place-right-3
+    shared-slice-read-place-right-3 place-right-requires-3 returns-4)

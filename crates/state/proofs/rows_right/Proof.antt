@@ -10,7 +10,8 @@ use Rattle.state.proofs.rows_right.Statement.{statement}
 use Rattle.state.proofs.rows_right.Tie as tie
 
 abbrev Inv-loop : tie.InvT-loop
-Inv-loop state count arities objects least₀ i₀ least i = (i ≤ count) × (rowsIn (signature arities objects) least (count - i) (drop (4 * i) state) ≡ rowsIn (signature arities objects) 0 count state)
+Inv-loop state count arities objects least₀ i₀ least i =
+    (i ≤ count) × (rowsIn (signature arities objects) least (count - i) (drop (4 * i) state) ≡ rowsIn (signature arities objects) 0 count state)
 
 abbrev μ-loop : tie.MeasureT-loop
 μ-loop state count arities objects least₀ i₀ least i = count - i
@@ -67,7 +68,8 @@ returns-3 : tie.Need-returns-3 Inv-loop μ-loop
 returns-3 c =
     let start = c .before .before .before .before in
     let head = c .before .loop in
-    rows-end (signature (start .args .arities .now) (start .args .objects)) (start .args .count) (start .args .state .now) (head .least) (head .i) (c .loop-test .left)
+    rows-end (signature (start .args .arities .now) (start .args .objects)) (start .args .count) (start .args .state .now) (head .least) (head .i)
+    (c .loop-test .left)
     ∙ head .inv .1
 
 pub rows-right-spec : {M : Type 1} → statement M

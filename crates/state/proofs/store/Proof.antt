@@ -20,7 +20,8 @@ same-length c = omega arith
 returns : tie.Need-returns
 returns c =
     let start = c .before .before .before .before .before .before .before .before .before .before in
-    rows-stored (start .args .numbers .now) (start .args .state .now) _ _ (c .before .before .before .before .before .before .write-rows .ensures) (start .pre .0)
+    rows-stored (start .args .numbers .now) (start .args .state .now) _ _ (c .before .before .before .before .before .before .write-rows .ensures)
+    (start .pre .0)
     (c .before .before .clear .ensures)
 
 pub store-spec : {M : Type 1} → statement M

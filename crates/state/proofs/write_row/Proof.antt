@@ -54,4 +54,5 @@ returns c = four-stored (4 * c .args .i) (c .args .state .now) _ _ _ _ (c .pre)
 pub write-row-spec : {M : Type 1} → statement M
 write-row-spec =
     tie.close
-    (tie.spec mul-at cast-state slice-write-state cast-state-2 add-state slice-write-state-2 cast-state-3 add-state-2 slice-write-state-3 cast-state-4 add-state-3 slice-write-state-4 same-length returns)
+    (tie.spec mul-at cast-state slice-write-state cast-state-2 add-state slice-write-state-2 cast-state-3 add-state-2 slice-write-state-3 cast-state-4
+    add-state-3 slice-write-state-4 same-length returns)

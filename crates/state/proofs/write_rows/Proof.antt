@@ -39,7 +39,8 @@ loop-again : tie.Need-loop-again Inv-loop μ-loop
 loop-again c =
     let start = c .before .before .before .before .before .before .before .before .before in
     let head = c .before .before .before .before .before .before .loop in
-    let more = rows-written (start .args .numbers .now) (start .args .state .now) (head .state) _ (head .i) (head .inv .2) (omega arith) (c .before .before .write-row .ensures) in
+    let more = rows-written (start .args .numbers .now) (start .args .state .now) (head .state) _ (head .i) (head .inv .2) (omega arith)
+    (c .before .before .write-row .ensures) in
     (omega arith, rows-length (start .args .numbers .now) (start .args .state .now) _ (head .i + 1) more (omega arith) (start .pre), more)
 
 same-length : tie.Need-same-length Inv-loop μ-loop
@@ -51,7 +52,8 @@ returns c =
     let head = c .before .loop in
     let all : head .i ≡ length (start .args .numbers .now) = omega arith in
     head .inv .2 ∙ ap (λ (k : ℕ). flatMap rowBytes (take k (start .args .numbers .now)) ++ drop (4 * k) (start .args .state .now)) all
-    ∙ ap (λ (l : List ℕ). flatMap rowBytes l ++ drop (4 * length (start .args .numbers .now)) (start .args .state .now)) (take-length (start .args .numbers .now))
+    ∙ ap (λ (l : List ℕ). flatMap rowBytes l ++ drop (4 * length (start .args .numbers .now)) (start .args .state .now))
+    (take-length (start .args .numbers .now))
 
 pub write-rows-spec : {M : Type 1} → statement M
 write-rows-spec =

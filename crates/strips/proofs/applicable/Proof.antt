@@ -39,7 +39,8 @@ returns : tie.Need-returns
 unfolding allHeld schemaOf
 returns c =
     let start = c .before .before .before .before .before .before .before .before .before in
-    c .all-in .ensures ∙ ap (all (λ n. member n (start .args .numbers .now))) (kept-numbers _ _ (c .before .before .before .before .grounded .ensures) (few start))
+    c .all-in .ensures ∙ ap (all (λ n. member n (start .args .numbers .now)))
+    (kept-numbers _ _ (c .before .before .before .before .grounded .ensures) (few start))
 
 pub applicable-spec : {M : Type 1} → statement M
 applicable-spec =

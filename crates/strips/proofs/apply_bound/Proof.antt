@@ -11,7 +11,8 @@ use Rattle.model.specs.Strips.{factsIn, applicable}
 use Rattle.card.specs.Represents.{schemaOf}
 use Rattle.sets.specs.Numbers.{rising}
 use Rattle.state.specs.Rows.{numbersIn}
-use Rattle.strips.proofs.Applying.{state-formed, preconditions-bound, held, next-ready, test-says, next-count, next-stored, next-length, refused-missing, refused-full, accepted-next}
+use Rattle.strips.proofs.Applying.{state-formed, preconditions-bound, held, next-ready, test-says, next-count, next-stored, next-length}
+use Rattle.strips.proofs.Applying.{refused-missing, refused-full, accepted-next}
 use Rattle.sets.proofs.Changing.{part-front}
 use Rattle.strips.proofs.apply_bound.Statement.{statement}
 use Rattle.strips.proofs.apply_bound.Tie as tie
@@ -45,13 +46,18 @@ applicable-requires c κs =
       ap (rising 0) (part-front (start .args .count) _)
           ∙ held (start .args .arities .now) (start .args .objects .now) (start .args .schema) (start .args .state .now) (start .args .count) (start .pre)
           (c .before .before .before .load .last .1 .1 .0) (c .before .before .before .load .ensures) .ascends,
-      preconditions-bound (start .args .arities .now) (start .args .objects .now) (start .args .schema) (start .args .state .now) (start .args .count) (start .pre),
+      preconditions-bound (start .args .arities .now) (start .args .objects .now) (start .args .schema) (start .args .state .now) (start .args .count)
+          (start .pre),
     )
 
 -- the test of the preconditions was passed
 tested : (c : tie.After-applicable) → c .applicable .result ≡ true
-    → applicable (schemaOf (c .before .before .before .before .before .before .before .before .before .before .args .arities .now) (c .before .before .before .before .before .before .before .before .before .before .args .schema)) (c .before .before .before .before .before .before .before .before .before .before .args .objects .now)
-    (factsIn (c .before .before .before .before .before .before .before .before .before .before .args .arities .now) (c .before .before .before .before .before .before .before .before .before .before .args .count) (c .before .before .before .before .before .before .before .before .before .before .args .state .now)) ≡ true
+    → applicable (schemaOf (c .before .before .before .before .before .before .before .before .before .before .args .arities .now)
+    (c .before .before .before .before .before .before .before .before .before .before .args .schema))
+    (c .before .before .before .before .before .before .before .before .before .before .args .objects .now)
+    (factsIn (c .before .before .before .before .before .before .before .before .before .before .args .arities .now)
+    (c .before .before .before .before .before .before .before .before .before .before .args .count)
+    (c .before .before .before .before .before .before .before .before .before .before .args .state .now)) ≡ true
 tested c e =
     let start = c .before .before .before .before .before .before .before .before .before .before in
     sym (test-says (start .args .arities .now) (start .args .objects .now) (start .args .schema) (start .args .state .now) (start .args .count) (start .pre)
@@ -65,7 +71,8 @@ returns c =
     let start = c .before .before .before .before .before .before .before .before .before .before .before in
     refused-missing (start .args .arities .now) (start .args .objects .now) (start .args .schema) (start .args .state .now) (start .args .count) (start .pre)
     (sym (test-says (start .args .arities .now) (start .args .objects .now) (start .args .schema) (start .args .state .now) (start .args .count) (start .pre)
-    (c .before .before .before .before .before .load .last .1 .1 .0) (c .before .before .before .before .before .load .ensures) _ (c .before .applicable .ensures)) ∙ not-true _ (c .if1 .taken))
+    (c .before .before .before .before .before .load .last .1 .1 .0) (c .before .before .before .before .before .load .ensures) _
+    (c .before .applicable .ensures)) ∙ not-true _ (c .if1 .taken))
 
 slice-aggregate-next-numbers : tie.Need-slice-aggregate-next-numbers
 slice-aggregate-next-numbers c = search needs
@@ -82,10 +89,12 @@ same-length-2 c = search needs
 returns-2 : tie.Need-returns-2
 returns-2 c =
     let start = c .before .before .before .before .before .before .before .before .before .before .before .before .before .before .before in
-    refused-full (start .args .arities .now) (start .args .objects .now) (start .args .schema) (start .args .state .now) (start .args .count) (start .pre) (tested (c .before .before .before .before .before) (not-false _ (c .before .before .before .before .if1 .left)))
+    refused-full (start .args .arities .now) (start .args .objects .now) (start .args .schema) (start .args .state .now) (start .args .count)
+    (start .pre) (tested (c .before .before .before .before .before) (not-false _ (c .before .before .before .before .if1 .left)))
     (subst (λ (k : ℕ). 1024 < k)
     (next-count (start .args .arities .now) (start .args .objects .now) (start .args .schema) (start .args .state .now) (start .args .count) (start .pre)
-    (c .before .before .before .before .before .before .before .before .before .load .last .1 .1 .0) (c .before .before .before .before .before .before .before .before .before .load .ensures) _ _ (c .before .before .next-numbers .ensures)) (c .if2 .taken))
+    (c .before .before .before .before .before .before .before .before .before .load .last .1 .1 .0)
+    (c .before .before .before .before .before .before .before .before .before .load .ensures) _ _ (c .before .before .next-numbers .ensures)) (c .if2 .taken))
 
 sub-store : tie.Need-sub-store
 sub-store c = search needs
@@ -101,8 +110,11 @@ store-requires c κs =
     let start = c .before .before .before .before .before .before .before .before .before .before .before .before .before .before .before .before .before .before in
     let formed = state-formed (start .args .arities .now) (start .pre .known-objects) (start .args .state .now) (start .args .count) (start .pre .state) in
     let room = formed .room in
-    let size = next-length (start .args .arities .now) (start .args .objects .now) (start .args .schema) (start .args .state .now) (start .args .count) (start .pre)
-    (c .before .before .before .before .before .before .before .before .before .before .before .before .load .last .1 .1 .0) (c .before .before .before .before .before .before .before .before .before .before .before .before .load .ensures) _ _ (c .before .before .before .before .before .next-numbers .ensures) in
+    let size = next-length (start .args .arities .now) (start .args .objects .now) (start .args .schema) (start .args .state .now)
+    (start .args .count) (start .pre)
+    (c .before .before .before .before .before .before .before .before .before .before .before .before .load .last .1 .1 .0)
+    (c .before .before .before .before .before .before .before .before .before .before .before .before .load .ensures) _ _
+    (c .before .before .before .before .before .next-numbers .ensures) in
     let few = c .before .before .before .if2 .left in
     (omega (arith, size, few), room)
 
@@ -112,16 +124,23 @@ same-length-3 c = search needs
 returns-3 : tie.Need-returns-3
 returns-3 c =
     let start = c .before .before .before .before .before .before .before .before .before .before .before .before .before .before .before .before .before .before .before .before .before in
-    accepted-next (start .args .arities .now) (start .args .objects .now) (start .args .schema) (start .args .state .now) (start .args .count) (start .pre) _ _ (c .before .before .before .before .before .before .before .before .next-numbers .result)
-    (tested (c .before .before .before .before .before .before .before .before .before .before .before) (not-false _ (c .before .before .before .before .before .before .before .before .before .before .if1 .left)))
+    accepted-next (start .args .arities .now) (start .args .objects .now) (start .args .schema) (start .args .state .now) (start .args .count)
+    (start .pre) _ _ (c .before .before .before .before .before .before .before .before .next-numbers .result)
+    (tested (c .before .before .before .before .before .before .before .before .before .before .before)
+    (not-false _ (c .before .before .before .before .before .before .before .before .before .before .if1 .left)))
     (next-count (start .args .arities .now) (start .args .objects .now) (start .args .schema) (start .args .state .now) (start .args .count) (start .pre)
-    (c .before .before .before .before .before .before .before .before .before .before .before .before .before .before .before .load .last .1 .1 .0) (c .before .before .before .before .before .before .before .before .before .before .before .before .before .before .before .load .ensures) _ _ (c .before .before .before .before .before .before .before .before .next-numbers .ensures))
+    (c .before .before .before .before .before .before .before .before .before .before .before .before .before .before .before .load .last .1 .1 .0)
+    (c .before .before .before .before .before .before .before .before .before .before .before .before .before .before .before .load .ensures) _ _
+    (c .before .before .before .before .before .before .before .before .next-numbers .ensures))
     (c .before .before .before .before .before .before .if2 .left)
     (next-stored (start .args .arities .now) (start .args .objects .now) (start .args .schema) (start .args .state .now) (start .args .count) (start .pre)
-    (c .before .before .before .before .before .before .before .before .before .before .before .before .before .before .before .load .last .1 .1 .0) (c .before .before .before .before .before .before .before .before .before .before .before .before .before .before .before .load .ensures) _ _ (c .before .before .before .before .before .before .before .before .next-numbers .ensures))
+    (c .before .before .before .before .before .before .before .before .before .before .before .before .before .before .before .load .last .1 .1 .0)
+    (c .before .before .before .before .before .before .before .before .before .before .before .before .before .before .before .load .ensures) _ _
+    (c .before .before .before .before .before .before .before .before .next-numbers .ensures))
     (c .before .before .store .ensures)
 
 pub apply-bound-spec : {M : Type 1} → statement M
 apply-bound-spec =
     tie.close
-    (tie.spec slice-aggregate-load load-requires sub-applicable part-applicable-start part-applicable-end applicable-requires same-length returns slice-aggregate-next-numbers next-numbers-requires same-length-2 returns-2 sub-store part-store-start part-store-end store-requires same-length-3 returns-3)
+    (tie.spec slice-aggregate-load load-requires sub-applicable part-applicable-start part-applicable-end applicable-requires same-length returns
+    slice-aggregate-next-numbers next-numbers-requires same-length-2 returns-2 sub-store part-store-start part-store-end store-requires same-length-3 returns-3)

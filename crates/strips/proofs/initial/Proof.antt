@@ -16,12 +16,15 @@ enum-told : tie.Need-enum-told
 enum-told c = search needs
 
 open-task-requires : tie.Need-open-task-requires
-open-task-requires c κs = let start = c .before .before .before .before .before .before .before in represented (start .args .card .now) (c .before .before .before .before .decode .result) (c .before .before .before .before .decode .ensures) (c .before .enum-told .given .1)
+open-task-requires c κs =
+    let start = c .before .before .before .before .before .before .before in represented (start .args .card .now)
+    (c .before .before .before .before .decode .result) (c .before .before .before .before .decode .ensures) (c .before .enum-told .given .1)
 
 returns : tie.Need-returns
 returns c =
     let start = c .before .before .before .before .before .before .before in
-    opening-refused (start .args .card .now) (c .before .before .before .before .decode .result) (c .before .before .before .before .decode .ensures) _ (c .before .verdict .given .1) (start .args .state .now)
+    opening-refused (start .args .card .now) (c .before .before .before .before .decode .result) (c .before .before .before .before .decode .ensures)
+    _ (c .before .verdict .given .1) (start .args .state .now)
 
 same-length : tie.Need-same-length
 same-length c = search needs
@@ -29,7 +32,8 @@ same-length c = search needs
 returns-2 : tie.Need-returns-2
 returns-2 c =
     let start = c .before .before .before .before .before .before .before .before .before .before in
-    opening (start .args .card .now) (c .before .before .before .before .before .before .before .decode .result) (c .before .before .before .before .before .before .before .decode .ensures) (c .before .before .before .before .enum-told .given .1)
+    opening (start .args .card .now) (c .before .before .before .before .before .before .before .decode .result)
+    (c .before .before .before .before .before .before .before .decode .ensures) (c .before .before .before .before .enum-told .given .1)
     (start .args .state .now) (c .before .before .open-task .last .1 .0) (c .before .before .open-task .result) (c .before .before .open-task .ensures)
 
 pub initial-spec : {M : Type 1} → statement M

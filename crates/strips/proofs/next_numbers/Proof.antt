@@ -15,20 +15,28 @@ use Rattle.strips.proofs.next_numbers.Tie as tie
 
 -- what goes
 gone : (c : tie.After-remove-all)
-    → Becomes (withoutAll (map factNumber (takenOut (schemaOf (c .before .before .before .before .before .before .before .before .before .args .arities .now) (c .before .before .before .before .before .before .before .before .before .args .schema)) (c .before .before .before .before .before .before .before .before .before .args .objects .now)))
-    (take (c .before .before .before .before .before .before .before .before .before .args .count) (c .before .before .before .before .before .before .before .before .before .args .numbers .now))) (c .before .before .before .before .before .before .before .before .before .args .numbers .now) (c .remove-all .last .0) (c .remove-all .result)
+    → Becomes (withoutAll (map factNumber (takenOut (schemaOf
+    (c .before .before .before .before .before .before .before .before .before .args .arities .now)
+    (c .before .before .before .before .before .before .before .before .before .args .schema))
+    (c .before .before .before .before .before .before .before .before .before .args .objects .now)))
+    (take (c .before .before .before .before .before .before .before .before .before .args .count)
+    (c .before .before .before .before .before .before .before .before .before .args .numbers .now)))
+    (c .before .before .before .before .before .before .before .before .before .args .numbers .now) (c .remove-all .last .0) (c .remove-all .result)
 gone c =
     let start = c .before .before .before .before .before .before .before .before .before in
     subst (λ (l : List ℕ). Becomes (withoutAll l (take (start .args .count) (start .args .numbers .now)))
     (start .args .numbers .now) (c .remove-all .last .0) (c .remove-all .result))
-    (kept-numbers _ (takenOut (schemaOf (start .args .arities .now) (start .args .schema)) (start .args .objects .now)) (c .before .before .before .before .before .taken-out .ensures)
+    (kept-numbers _ (takenOut (schemaOf (start .args .arities .now) (start .args .schema)) (start .args .objects .now))
+    (c .before .before .before .before .before .taken-out .ensures)
     (few-out (start .args .arities .now) (start .args .objects .now) (start .args .schema) (start .pre .deletes)))
     (c .remove-all .ensures)
 
 -- what comes
 come : (c : tie.After-put-in)
     → take (c .put-in .result .count - 0) (c .put-in .result .numbers)
-    ≡ map factNumber (putIn (schemaOf (c .before .before .before .before .before .before .before .before .before .before .before .before .args .arities .now) (c .before .before .before .before .before .before .before .before .before .before .before .before .args .schema)) (c .before .before .before .before .before .before .before .before .before .before .before .before .args .objects .now))
+    ≡ map factNumber (putIn (schemaOf (c .before .before .before .before .before .before .before .before .before .before .before
+    .before .args .arities .now) (c .before .before .before .before .before .before .before .before .before .before .before
+    .before .args .schema)) (c .before .before .before .before .before .before .before .before .before .before .before .before .args .objects .now))
 come c =
     let start = c .before .before .before .before .before .before .before .before .before .before .before .before in
     kept-numbers _ (putIn (schemaOf (start .args .arities .now) (start .args .schema)) (start .args .objects .now)) (c .put-in .ensures)
@@ -46,7 +54,8 @@ part-remove-all-start c = search needs
 part-remove-all-end : tie.Need-part-remove-all-end
 part-remove-all-end c =
     let start = c .before .before .before .before .before .before .before in
-    kept-within _ (takenOut (schemaOf (start .args .arities .now) (start .args .schema)) (start .args .objects .now)) (c .before .before .before .taken-out .ensures)
+    kept-within _ (takenOut (schemaOf (start .args .arities .now) (start .args .schema)) (start .args .objects .now))
+    (c .before .before .before .taken-out .ensures)
     (few-out (start .args .arities .now) (start .args .objects .now) (start .args .schema) (start .pre .deletes))
 
 remove-all-requires : tie.Need-remove-all-requires
@@ -93,11 +102,14 @@ returns c =
     let start = c .before .before .before .before .before .before .before .before .before .before .before .before .before .before .before .before .before .before .before in
     next-becomes (start .args .arities .now) (start .args .objects .now) (start .args .schema) (start .args .numbers .now) (start .args .count)
     (start .pre) _ _ (gone (c .before .before .before .before .before .before .before .before .before .before)) _ _
-    (subst (λ (l : List ℕ). Becomes (insertedAll l (take (c .before .before .before .before .before .before .before .before .before .before .remove-all .result) (c .before .before .before .before .before .before .before .before .before .before .remove-all .last .0))) (c .before .before .before .before .before .before .before .before .before .before .remove-all .last .0)
+    (subst (λ (l : List ℕ). Becomes (insertedAll l (take (c .before .before .before .before .before .before .before .before .before
+    .before .remove-all .result) (c .before .before .before .before .before .before .before .before .before .before .remove-all .last .0)))
+    (c .before .before .before .before .before .before .before .before .before .before .remove-all .last .0)
     (c .before .before .insert-all .last .0) (c .before .before .insert-all .result))
     (come (c .before .before .before .before .before .before .before)) (c .before .before .insert-all .ensures))
 
 pub next-numbers-spec : {M : Type 1} → statement M
 next-numbers-spec =
     tie.close
-    (tie.spec taken-out-requires sub-remove-all part-remove-all-start part-remove-all-end remove-all-requires put-in-requires sub-insert-all part-insert-all-start part-insert-all-end insert-all-requires same-length returns)
+    (tie.spec taken-out-requires sub-remove-all part-remove-all-start part-remove-all-end remove-all-requires put-in-requires sub-insert-all
+    part-insert-all-start part-insert-all-end insert-all-requires same-length returns)

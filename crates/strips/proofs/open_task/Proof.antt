@@ -26,7 +26,9 @@ slice-aggregate-fact-numbers : tie.Need-slice-aggregate-fact-numbers
 slice-aggregate-fact-numbers c = search needs
 
 fact-numbers-requires : tie.Need-fact-numbers-requires
-fact-numbers-requires c κs = let start = c .before .before .before .before .before .before .before .before in facts-right (start .args .task) (start .pre) _ (few-facts (start .args .task) (start .pre))
+fact-numbers-requires c κs =
+    let start = c .before .before .before .before .before .before .before .before in facts-right (start .args .task) (start .pre) _
+    (few-facts (start .args .task) (start .pre))
 
 sub-store : tie.Need-sub-store
 sub-store c = search needs
@@ -37,12 +39,15 @@ part-store-start c = search needs
 part-store-end : tie.Need-part-store-end
 part-store-end c =
     let start = c .before .before .before .before .before .before .before .before .before .before .before .before in
-    subst (λ (n : ℕ). start .args .task .facts .count ≤ n) (sym (c .before .before .before .fact-numbers .kept .1 .1 .0)) (few-facts (start .args .task) (start .pre))
+    subst (λ (n : ℕ). start .args .task .facts .count ≤ n) (sym (c .before .before .before .fact-numbers .kept .1 .1 .0))
+    (few-facts (start .args .task) (start .pre))
 
 store-requires : tie.Need-store-requires
 store-requires c κs =
-    let start = c .before .before .before .before .before .before .before .before .before .before .before .before .before in
-    (facts-few (start .args .task) (start .pre) (start .args .state .now) _ _ (c .before .before .before .before .fact-numbers .ensures), c .before .before .before .before .before .before .before .before .before .before .before .if1 .left)
+    let start = c .before .before .before .before .before .before .before .before .before .before .before .before .before in (
+      facts-few (start .args .task) (start .pre) (start .args .state .now) _ _ (c .before .before .before .before .fact-numbers .ensures),
+      c .before .before .before .before .before .before .before .before .before .before .before .if1 .left,
+    )
 
 same-length : tie.Need-same-length
 same-length c = search needs
@@ -50,9 +55,13 @@ same-length c = search needs
 returns-2 : tie.Need-returns-2
 returns-2 c =
     let start = c .before .before .before .before .before .before .before .before .before .before .before .before .before .before .before .before in
-    opened (start .args .task) (start .pre) (start .args .state .now) _ _ (c .before .before .before .before .before .before .before .fact-numbers .ensures) _ (c .before .before .before .before .before .before .before .before .before .before .before .before .before .before .if1 .left) (c .before .before .store .ensures)
+    opened (start .args .task) (start .pre) (start .args .state .now) _ _
+    (c .before .before .before .before .before .before .before .fact-numbers .ensures) _
+    (c .before .before .before .before .before .before .before .before .before .before .before .before .before .before .if1 .left)
+    (c .before .before .store .ensures)
 
 pub open-task-spec : {M : Type 1} → statement M
 open-task-spec =
     tie.close
-    (tie.spec returns sub-fact-numbers part-fact-numbers-start part-fact-numbers-end slice-aggregate-fact-numbers fact-numbers-requires sub-store part-store-start part-store-end store-requires same-length returns-2)
+    (tie.spec returns sub-fact-numbers part-fact-numbers-start part-fact-numbers-end slice-aggregate-fact-numbers fact-numbers-requires sub-store
+    part-store-start part-store-end store-requires same-length returns-2)

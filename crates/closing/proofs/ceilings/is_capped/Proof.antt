@@ -54,7 +54,8 @@ returns : tie.Need-returns Inv-loop μ-loop
 unfolding no-schema schemasOf schemaOf
 returns c arities =
     let head = c .before .before .before .before .before in
-    one-fails (capped _ arities) _ _ (inside (head .before)) (head .loop .i) (head .loop .inv .1 arities) no-schema (c .before .before .before .before .loop-test .taken)
+    one-fails (capped _ arities) _ _ (inside (head .before)) (head .loop .i) (head .loop .inv .1 arities) no-schema
+    (c .before .before .before .before .loop-test .taken)
     (ap₂ leb (sym (c .before .count-of2 .ensures arities)) (sym (c .before .before .count-of .ensures arities)) ∙ lt-leb _ _ (c .if1 .taken))
     ∙ sym (all-map (schemaOf arities) _ _)
 
@@ -70,7 +71,8 @@ loop-again c =
     let head = c .before .before .before .before .before in (
       omega arith,
       λ arities.
-          one-passes (capped _ arities) _ _ (inside (head .before)) (head .loop .i) (head .loop .inv .1 arities) no-schema (c .before .before .before .before .loop-test .taken)
+          one-passes (capped _ arities) _ _ (inside (head .before)) (head .loop .i) (head .loop .inv .1 arities) no-schema
+          (c .before .before .before .before .loop-test .taken)
           (ap₂ leb (sym (c .before .count-of2 .ensures arities)) (sym (c .before .before .count-of .ensures arities)) ∙ le-leb _ _ (c .if1 .left)),
     )
 

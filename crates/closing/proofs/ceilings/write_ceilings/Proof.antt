@@ -45,7 +45,8 @@ loop-less c = search needs
 loop-again : tie.Need-loop-again Inv-loop μ-loop
 loop-again c =
     let l = c .before .before .before .before .loop in (
-      remains-as (no-line _ _ (l .p) (c .before .before .if1 .taken) (uncapped _ (l .p) (c .before .is-capped .ensures) (not-true _ (c .if2 .taken)))) (l .inv .0),
+      remains-as (no-line _ _ (l .p) (c .before .before .if1 .taken) (uncapped _ (l .p) (c .before .is-capped .ensures) (not-true _ (c .if2 .taken))))
+          (l .inv .0),
       search needs,
     )
 
@@ -79,7 +80,8 @@ loop-again-2 c =
     let l = c .before .before .before .before .before .before .before .before .before .loop in (
       next (l .inv .0)
           (line-next _ _ (l .p) (c .before .before .before .before .before .before .before .if1 .taken)
-          (capped-line _ (l .p) (c .before .before .before .before .before .before .is-capped .ensures) (not-false _ (c .before .before .before .before .before .if2 .left)) (c .before .before .before .facts-of .ensures)))
+          (capped-line _ (l .p) (c .before .before .before .before .before .before .is-capped .ensures)
+          (not-false _ (c .before .before .before .before .before .if2 .left)) (c .before .before .before .facts-of .ensures)))
           (c .before .before .write-ceiling .ensures),
       search needs,
     )

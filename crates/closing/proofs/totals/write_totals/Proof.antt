@@ -58,13 +58,28 @@ element-copy-out-arity : tie.Need-element-copy-out-arity Inv-loop μ-loop
 element-copy-out-arity c = let s = c .before .before .before .before .before in let few = predicates-few (s .args .task) (s .pre .0) in omega arith
 
 cast-arity : tie.Need-cast-arity Inv-loop μ-loop
-cast-arity c = omega (arith, inside (c .before .before .before .before .before .before) (c .before .before .loop .p) (c .before .before .loop .first) (c .before .loop-test .taken) (c .before .before .loop .inv .2))
+cast-arity c =
+    omega (
+      arith,
+      inside (c .before .before .before .before .before .before) (c .before .before .loop .p) (c .before .before .loop .first)
+          (c .before .loop-test .taken) (c .before .before .loop .inv .2),
+    )
 
 total-of-requires : tie.Need-total-of-requires Inv-loop μ-loop
-total-of-requires c κs = let long = c .before .before .before .before .before .before .pre .1 .0 .long in omega (arith, inside (c .before .before .before .before .before .before) (c .before .before .loop .p) (c .before .before .loop .first) (c .before .loop-test .taken) (c .before .before .loop .inv .2))
+total-of-requires c κs =
+    let long = c .before .before .before .before .before .before .pre .1 .0 .long in omega (
+      arith,
+      inside (c .before .before .before .before .before .before) (c .before .before .loop .p) (c .before .before .loop .first)
+          (c .before .loop-test .taken) (c .before .before .loop .inv .2),
+    )
 
 add-first : tie.Need-add-first Inv-loop μ-loop
-add-first c = omega (arith, inside (c .before .before .before .before .before .before .before) (c .before .before .before .loop .p) (c .before .before .before .loop .first) (c .before .before .loop-test .taken) (c .before .before .before .loop .inv .2))
+add-first c =
+    omega (
+      arith,
+      inside (c .before .before .before .before .before .before .before) (c .before .before .before .loop .p)
+          (c .before .before .before .loop .first) (c .before .before .loop-test .taken) (c .before .before .before .loop .inv .2),
+    )
 
 add-p : tie.Need-add-p Inv-loop μ-loop
 add-p c = let s = c .before .before .before .before .before .before .before in let few = predicates-few (s .args .task) (s .pre .0) in omega arith
@@ -76,9 +91,18 @@ loop-again : tie.Need-loop-again Inv-loop μ-loop
 loop-again c =
     let l = c .before .before .before .before .loop in (
       remains-as (no-line _ _ (l .p) (c .before .before .before .loop-test .taken)
-          (total-none (c .before .before .before .before .before .before .before .before .args .task .predicates) (arities-right (c .before .before .before .before .before .before .before .before .args .task) (c .before .before .before .before .before .before .before .before .pre .0)) (arities-inside (c .before .before .before .before .before .before .before .before .args .task) (c .before .before .before .before .before .before .before .before .pre .0)) (l .p) (l .first) (c .before .before .before .loop-test .taken) (l .inv .2) _ (c .before .total-of .ensures) (c .if1 .taken))) (l .inv .0),
+          (total-none (c .before .before .before .before .before .before .before .before .args .task .predicates)
+          (arities-right (c .before .before .before .before .before .before .before .before .args .task)
+          (c .before .before .before .before .before .before .before .before .pre .0))
+          (arities-inside (c .before .before .before .before .before .before .before .before .args .task)
+          (c .before .before .before .before .before .before .before .before .pre .0)) (l .p) (l .first) (c .before .before .before .loop-test .taken)
+          (l .inv .2) _ (c .before .total-of .ensures) (c .if1 .taken))) (l .inv .0),
       search needs,
-      begins-next (c .before .before .before .before .before .before .before .before .args .task .predicates) (arities-right (c .before .before .before .before .before .before .before .before .args .task) (c .before .before .before .before .before .before .before .before .pre .0)) (arities-inside (c .before .before .before .before .before .before .before .before .args .task) (c .before .before .before .before .before .before .before .before .pre .0)) (l .p) (l .first) (c .before .before .before .loop-test .taken) (l .inv .2),
+      begins-next (c .before .before .before .before .before .before .before .before .args .task .predicates)
+          (arities-right (c .before .before .before .before .before .before .before .before .args .task)
+          (c .before .before .before .before .before .before .before .before .pre .0))
+          (arities-inside (c .before .before .before .before .before .before .before .before .args .task)
+          (c .before .before .before .before .before .before .before .before .pre .0)) (l .p) (l .first) (c .before .before .before .loop-test .taken) (l .inv .2),
     )
 
 sub-write-total : tie.Need-sub-write-total Inv-loop μ-loop
@@ -101,7 +125,13 @@ write-total-requires c κs =
     let l = c .before .before .before .before .before .loop in
     next-fits (l .inv .0)
     (line-next _ _ (l .p) (c .before .before .before .before .loop-test .taken)
-    (total-next (c .before .before .before .before .before .before .before .before .before .args .task .predicates) (arities-right (c .before .before .before .before .before .before .before .before .before .args .task) (c .before .before .before .before .before .before .before .before .before .pre .0)) (arities-inside (c .before .before .before .before .before .before .before .before .before .args .task) (c .before .before .before .before .before .before .before .before .before .pre .0)) (l .p) (l .first) (c .before .before .before .before .loop-test .taken) (l .inv .2) _ (c .before .before .total-of .ensures) (c .before .if1 .left) (one-less _ (c .before .if1 .left))))
+    (total-next (c .before .before .before .before .before .before .before .before .before .args .task .predicates)
+    (arities-right (c .before .before .before .before .before .before .before .before .before .args .task)
+    (c .before .before .before .before .before .before .before .before .before .pre .0))
+    (arities-inside (c .before .before .before .before .before .before .before .before .before .args .task)
+    (c .before .before .before .before .before .before .before .before .before .pre .0)) (l .p) (l .first)
+    (c .before .before .before .before .loop-test .taken) (l .inv .2) _ (c .before .before .total-of .ensures) (c .before .if1 .left)
+    (one-less _ (c .before .if1 .left))))
 
 loop-less-2 : tie.Need-loop-less-2 Inv-loop μ-loop
 loop-less-2 c = search needs
@@ -111,10 +141,22 @@ loop-again-2 c =
     let l = c .before .before .before .before .before .before .before .before .loop in (
       next (l .inv .0)
           (line-next _ _ (l .p) (c .before .before .before .before .before .before .before .loop-test .taken)
-          (total-next (c .before .before .before .before .before .before .before .before .before .before .before .before .args .task .predicates) (arities-right (c .before .before .before .before .before .before .before .before .before .before .before .before .args .task) (c .before .before .before .before .before .before .before .before .before .before .before .before .pre .0)) (arities-inside (c .before .before .before .before .before .before .before .before .before .before .before .before .args .task) (c .before .before .before .before .before .before .before .before .before .before .before .before .pre .0)) (l .p) (l .first) (c .before .before .before .before .before .before .before .loop-test .taken) (l .inv .2) _ (c .before .before .before .before .before .total-of .ensures) (c .before .before .before .before .if1 .left) (one-less _ (c .before .before .before .before .if1 .left))))
+          (total-next (c .before .before .before .before .before .before .before .before .before .before .before .before .args .task .predicates)
+          (arities-right (c .before .before .before .before .before .before .before .before .before .before .before .before .args .task)
+          (c .before .before .before .before .before .before .before .before .before .before .before .before .pre .0))
+          (arities-inside (c .before .before .before .before .before .before .before .before .before .before .before .before .args .task)
+          (c .before .before .before .before .before .before .before .before .before .before .before .before .pre .0)) (l .p) (l .first)
+          (c .before .before .before .before .before .before .before .loop-test .taken) (l .inv .2) _
+          (c .before .before .before .before .before .total-of .ensures) (c .before .before .before .before .if1 .left)
+          (one-less _ (c .before .before .before .before .if1 .left))))
           (c .before .before .write-total .ensures),
       search needs,
-      begins-next (c .before .before .before .before .before .before .before .before .before .before .before .before .args .task .predicates) (arities-right (c .before .before .before .before .before .before .before .before .before .before .before .before .args .task) (c .before .before .before .before .before .before .before .before .before .before .before .before .pre .0)) (arities-inside (c .before .before .before .before .before .before .before .before .before .before .before .before .args .task) (c .before .before .before .before .before .before .before .before .before .before .before .before .pre .0)) (l .p) (l .first) (c .before .before .before .before .before .before .before .loop-test .taken) (l .inv .2),
+      begins-next (c .before .before .before .before .before .before .before .before .before .before .before .before .args .task .predicates)
+          (arities-right (c .before .before .before .before .before .before .before .before .before .before .before .before .args .task)
+          (c .before .before .before .before .before .before .before .before .before .before .before .before .pre .0))
+          (arities-inside (c .before .before .before .before .before .before .before .before .before .before .before .before .args .task)
+          (c .before .before .before .before .before .before .before .before .before .before .before .before .pre .0)) (l .p) (l .first)
+          (c .before .before .before .before .before .before .before .loop-test .taken) (l .inv .2),
     )
 
 add-at : tie.Need-add-at Inv-loop μ-loop

@@ -50,7 +50,8 @@ write-types-requires : tie.Need-write-types-requires Inv-loop μ-loop
 write-types-requires c κs =
     let l = c .before .before .before .before .loop in
     let s = c .before .before .before .before .before .before .before .before in
-    next-fits (l .inv .0) (each-next _ _ (l .k) (c .before .before .if1 .taken) (ap (λ (m : ℕ). types (s .args .n) (l .k) (membersOf m)) (c .before .typed .ensures)))
+    next-fits (l .inv .0) (each-next _ _ (l .k) (c .before .before .if1 .taken)
+    (ap (λ (m : ℕ). types (s .args .n) (l .k) (membersOf m)) (c .before .typed .ensures)))
 
 add-k : tie.Need-add-k Inv-loop μ-loop
 add-k c = search needs
@@ -63,7 +64,8 @@ loop-again c =
     let l = c .before .before .before .before .before .before .before .loop in
     let s = c .before .before .before .before .before .before .before .before .before .before .before in (
       next (l .inv .0)
-          (each-next _ _ (l .k) (c .before .before .before .before .before .if1 .taken) (ap (λ (m : ℕ). types (s .args .n) (l .k) (membersOf m)) (c .before .before .before .before .typed .ensures)))
+          (each-next _ _ (l .k) (c .before .before .before .before .before .if1 .taken)
+          (ap (λ (m : ℕ). types (s .args .n) (l .k) (membersOf m)) (c .before .before .before .before .typed .ensures)))
           (c .before .before .write-types .ensures),
       search needs,
     )

@@ -43,7 +43,8 @@ mul-schema : tie.Need-mul-schema Inv-loop μ-loop
 mul-schema c = let s = c .before .before .before .before .before .before .before .before in let few = schemas-few (s .args .task) (s .pre .0) in omega arith
 
 element-copy-out-schema : tie.Need-element-copy-out-schema Inv-loop μ-loop
-element-copy-out-schema c = let s = c .before .before .before .before .before .before .before .before in let few = schemas-few (s .args .task) (s .pre .0) in omega arith
+element-copy-out-schema c =
+    let s = c .before .before .before .before .before .before .before .before in let few = schemas-few (s .args .task) (s .pre .0) in omega arith
 
 sub-write-schema-types : tie.Need-sub-write-schema-types Inv-loop μ-loop
 sub-write-schema-types c = search needs
@@ -83,7 +84,9 @@ write-schema-types-requires c κs =
     )
 
 add-i : tie.Need-add-i Inv-loop μ-loop
-add-i c = let s = c .before .before .before .before .before .before .before .before .before .before .before .before .before .before .before in let few = schemas-few (s .args .task) (s .pre .0) in omega arith
+add-i c =
+    let s = c .before .before .before .before .before .before .before .before .before .before .before .before .before .before .before in let few =
+    schemas-few (s .args .task) (s .pre .0) in omega arith
 
 loop-less : tie.Need-loop-less Inv-loop μ-loop
 loop-less c = search needs
@@ -94,7 +97,9 @@ loop-again c =
     let s = c .before .before .before .before .before .before .before .before .before .before .before .before .before .before .before in
     let l = c .before .before .before .before .before .before .before .before .loop in (
       next (l .inv .0)
-          (schema-next (s .args .task) (s .pre .0) (s .args .spaces) (s .pre .1 .0) (c .before .before .before .before .before .before .before .before .before .before .by-label .ensures) (l .i) no-schema (c .before .before .before .before .before .before .before .loop-test .taken))
+          (schema-next (s .args .task) (s .pre .0) (s .args .spaces) (s .pre .1 .0)
+          (c .before .before .before .before .before .before .before .before .before .before .by-label .ensures) (l .i) no-schema
+          (c .before .before .before .before .before .before .before .loop-test .taken))
           (c .before .before .write-schema-types .ensures),
       search needs,
     )
@@ -109,7 +114,8 @@ returns : tie.Need-returns Inv-loop μ-loop
 returns c =
     let s = c .before .before .before .before .before .before .before .before in
     finish (c .before .loop .inv .0)
-    (schemas-end (s .args .task) (s .pre .0) (s .args .spaces) (s .pre .1 .0) (c .before .before .before .by-label .ensures) (c .before .loop .i) (c .loop-test .left))
+    (schemas-end (s .args .task) (s .pre .0) (s .args .spaces) (s .pre .1 .0) (c .before .before .before .by-label .ensures) (c .before .loop .i)
+    (c .loop-test .left))
 
 pub write-type-lines-spec : {M : Type 1} → statement M
 write-type-lines-spec =

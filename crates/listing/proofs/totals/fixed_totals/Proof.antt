@@ -67,8 +67,10 @@ enter-totals-requires : tie.Need-enter-totals-requires Inv-loop μ-loop
 enter-totals-requires c κs =
     let pre = c .before .before .before .before .before .before .before .before .before .before .before .before .before .before .before .before .before .before .before .before .before .before .pre in
     let l = c .before .before .before .before .before .before .before .before .before .before .before .before .before .loop in
-    enterable _ _ _ _ _ _ _ (pre .task) (pre .given) (c .before .before .before .before .before .before .before .before .before .before .before .before .loop-test .taken) (l .inv .3) (c .before .before .before .before .before .before .before .before .before .analyse .result)
-    (c .before .before .before .before .before .before .before .before .before .analyse .ensures (pre .task) (pre .given)) _ _ (l .inv .4) (c .before .before .before .size .ensures)
+    enterable _ _ _ _ _ _ _ (pre .task) (pre .given) (c .before .before .before .before .before .before .before .before .before .before .before
+    .before .loop-test .taken) (l .inv .3) (c .before .before .before .before .before .before .before .before .before .analyse .result)
+    (c .before .before .before .before .before .before .before .before .before .analyse .ensures (pre .task) (pre .given)) _ _ (l .inv .4)
+    (c .before .before .before .size .ensures)
 
 add-place : tie.Need-add-place Inv-loop μ-loop
 add-place c = omega (arith, place-few (c .before .before .before .before .before .before .before .before .before .before .before .before .before .before))
@@ -80,8 +82,10 @@ loop-again : tie.Need-loop-again Inv-loop μ-loop
 loop-again c =
     let l = c .before .before .before .before .before .before .before .before .before .before .before .before .before .before .before .loop in (
       λ t g.
-          entered _ _ _ _ _ _ _ t g (c .before .before .before .before .before .before .before .before .before .before .before .before .before .before .loop-test .taken) (l .inv .3) (c .before .before .before .before .before .before .before .before .before .before .before .analyse .result)
-          (c .before .before .before .before .before .before .before .before .before .before .before .analyse .ensures t g) _ _ _ (c .before .before .before .before .before .size .ensures) (c .before .enter-totals .ensures) (l .inv .0 t g),
+          entered _ _ _ _ _ _ _ t g (c .before .before .before .before .before .before .before .before .before .before .before .before .before
+          .before .loop-test .taken) (l .inv .3) (c .before .before .before .before .before .before .before .before .before .before .before .analyse .result)
+          (c .before .before .before .before .before .before .before .before .before .before .before .analyse .ensures t g) _ _ _
+          (c .before .before .before .before .before .size .ensures) (c .before .enter-totals .ensures) (l .inv .0 t g),
       c .before .before .before .before .before .before .before .before .before .before .before .analyse .kept .1 .1 .1 .1 .1 .1 .1 .0 ∙ l .inv .1,
       c .before .before .before .before .before .before .before .before .before .before .before .analyse .kept .1 .1 .1 .1 .1 .1 .1 .1 .0 ∙ l .inv .2,
       l .inv .3,

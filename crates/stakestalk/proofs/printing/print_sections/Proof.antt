@@ -25,7 +25,11 @@ print-section-requires c κs = (search needs, (search lent-again, omega arith))
 add-number : tie.Need-add-number Inv-loop μ-loop
 add-number c =
     let at-test = c .before .before .before .before .before .before .before .before .before .before in
-    omega (arith, place-small _ _ _ _ _ _ _ _ (at-test .before .before .before .before .before .before .before .before .before .pre .0 .given) (at-test .loop-test .taken))
+    omega (
+      arith,
+      place-small _ _ _ _ _ _ _ _ (at-test .before .before .before .before .before .before .before .before .before .pre .0 .given)
+          (at-test .loop-test .taken),
+    )
 
 loop-less : tie.Need-loop-less Inv-loop μ-loop
 loop-less c = omega arith

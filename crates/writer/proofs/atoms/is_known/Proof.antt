@@ -1,5 +1,6 @@
 -- `atoms::is_known` meets its contract: each return is decided by the first argument out of bounds, as the laws on atoms say.
-use Rattle.writer.proofs.AtomLaws.{unknown-predicate, known-by-none, unknown-first, known-by-one, unknown-second, known-by-two, unknown-third, known-by-three}
+use Rattle.writer.proofs.AtomLaws.{unknown-predicate, known-by-none, unknown-first, known-by-one, unknown-second, known-by-two, unknown-third}
+use Rattle.writer.proofs.AtomLaws.{known-by-three}
 use borrow.Author.Needs.{needs}
 use Rattle.writer.proofs.atoms.is_known.Statement.{statement}
 use Rattle.writer.proofs.atoms.is_known.Tie as tie
