@@ -1,8 +1,13 @@
 -- No section past the closing one; the others are written.
 use Prim.Native.Nat.{ℕ, _*_, _≤_}
 use native.Mathlib.Omega.{arith}
-use mathlib.Core.List.{List}
+use mathlib.Core.Path.{_≡_}
 use lib.ListN.{length}
+use Rattle.model.specs.Answer.{accepted}
+use Rattle.model.specs.Card.{Task}
+use Rattle.model.specs.Writer.{checkTask}
+use Rattle.model.specs.Transitions.{transitions}
+use Rattle.rules.specs.Tables.{rulesAtMost}
 use Rattle.rules.proofs.RuleRoom.{rules-at-most}
 use Rattle.listing.proofs.Answering.{list-unknown, list-written}
 use borrow.Author.Needs.{needs}
@@ -10,8 +15,9 @@ use Rattle.listing.proofs.list_with.Statement.{statement}
 use Rattle.listing.proofs.list_with.Tie as tie
 
 -- a table with room for the most rules has room for those that there are
-moves-fit : (rules most : ℕ) (table : List ℕ) → rules ≤ most → 60 * most ≤ length table → 60 * rules ≤ length table
-moves-fit rules most table h k = omega arith
+moves-fit : (t : Task) (rules : ℕ) → checkTask t ≡ accepted tt → rules ≡ length (transitions t) → (room : ℕ)
+    → 60 * rulesAtMost t ≤ room → 60 * rules ≤ room
+moves-fit t rules ok e room h = omega (arith, rules-at-most t ok)
 
 prepare-requires : tie.Need-prepare-requires
 prepare-requires c κs = search needs
@@ -40,8 +46,9 @@ write-section-requires c κs =
     let called = tested .before .before .before .before .before .before .before .before .before .before in
     let pre = called .before .before .before .before .before .before .before .before .before .before .before .before .pre in
     let given = called .prepare .ensures in
-    let few = omega (arith, given .rules-counted, rules-at-most _ (pre .0 .checked)) in
-    (pre .0, (given, ((tested .if1 .left, pre .1 .0), (moves-fit _ _ _ few (pre .1 .1 .1 .1 .0), moves-fit _ _ _ few (pre .1 .1 .1 .1 .1)))))
+    let room = pre .1 .1 .1 .1 in
+    let fit = moves-fit _ _ (pre .0 .checked) (given .rules-counted) in
+    (pre .0, (given, ((tested .if1 .left, pre .1 .0), (fit _ (room .0), fit _ (room .1)))))
 
 same-length-5 : tie.Need-same-length-5
 same-length-5 c = search needs

@@ -1,25 +1,30 @@
 -- The section is written, and its text is within the buffer.
 use Prim.Native.Nat.{ℕ, _*_, _≤_}
-use mathlib.Core.List.{List}
+use mathlib.Core.Path.{_≡_}
 use lib.ListN.{length}
 use borrow.Author.Needs.{needs}
 use native.Mathlib.Omega.{arith}
+use Rattle.model.specs.Answer.{accepted}
+use Rattle.model.specs.Card.{Task}
+use Rattle.model.specs.Writer.{checkTask}
+use Rattle.model.specs.Transitions.{transitions}
 use Rattle.model.proofs.RuleCount.{rules-few}
 use Rattle.stakestalk.proofs.Within.{written-within}
 use Rattle.stakestalk.proofs.printing.print_section.Statement.{statement}
 use Rattle.stakestalk.proofs.printing.print_section.Tie as tie
 
 -- a table of the largest size has room for a task's moves
-fits : (rules : ℕ) (table : List ℕ) → rules ≤ 960 → 57600 ≤ length table → 60 * rules ≤ length table
-fits rules table h k = omega arith
+moves-fit : (t : Task) (rules : ℕ) → checkTask t ≡ accepted tt → rules ≡ length (transitions t) → (room : ℕ)
+    → 57600 ≤ room → 60 * rules ≤ room
+moves-fit t rules ok e room h = omega (arith, rules-few t ok)
 
 write-section-requires : tie.Need-write-section-requires
 write-section-requires c κs =
     let pre = c .before .before .before .before .before .before .before .before .before .pre in
     let ready = pre .0 in
     let lent = pre .1 .0 in
-    let few = omega (arith, ready .given .rules-counted, rules-few _ (ready .represented .checked)) in
-    (ready .represented, (ready .given, ((pre .1 .1, lent .out-long), (fits _ _ few (lent .origins-long), fits _ _ few (lent .targets-long)))))
+    let fit = moves-fit _ _ (ready .represented .checked) (ready .given .rules-counted) in
+    (ready .represented, (ready .given, ((pre .1 .1, lent .out-long), (fit _ (lent .origins-long), fit _ (lent .targets-long)))))
 
 sub-write-all : tie.Need-sub-write-all
 sub-write-all c = search needs
