@@ -1,4 +1,4 @@
-//! Tasks with names: the plain descriptions of tests/examples, read into cards.
+//! Tasks with names: the plain descriptions of crates/examples/data, read into cards.
 //!
 //! A description has a line for each of these, in this order; `#` opens a comment.
 //! ```text

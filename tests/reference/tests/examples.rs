@@ -1,23 +1,29 @@
-//! The examples of source document 000: description, card and listing belong together.
+//! The examples of source document 000, which the program crate `examples` prints: the description makes the card, and the card's
+//! listing stands under its name in the file that the program's output is held to.
 
 use reference::examples::card;
 use reference::listing;
-use reference::vectors::{from_hex, tests};
-use std::fs::{read_dir, read_to_string};
+use std::fs::{read, read_dir, read_to_string};
+use std::path::Path;
 
 #[test]
 fn examples_agree() {
-    let mut seen = 0;
-    for entry in read_dir(tests().join("examples")).unwrap() {
-        let path = entry.unwrap().path();
-        if path.extension().is_some_and(|extension| extension == "txt") {
-            let made = card(&read_to_string(&path).unwrap()).unwrap();
-            let stored = from_hex(&read_to_string(path.with_extension("card")).unwrap());
-            assert_eq!(made, stored, "{}", path.display());
-            let text = String::from_utf8(listing(&stored)).unwrap();
-            assert_eq!(text, read_to_string(path.with_extension("listing")).unwrap(), "{}", path.display());
-            seen += 1;
-        }
+    let directory = Path::new(concat!(env!("CARGO_MANIFEST_DIR"), "/../../crates/examples"));
+    let names = read_to_string(directory.join("args")).unwrap();
+    let stdout = read_to_string(directory.join("stdout")).unwrap();
+    let mut rest = stdout.as_str();
+    for name in names.lines() {
+        let path = directory.join("data").join(name);
+        let stored = read(&path).unwrap();
+        let made = card(&read_to_string(path.with_extension("txt")).unwrap()).unwrap();
+        assert_eq!(made, stored, "{name}: the card of its description");
+        let section = format!("{name}\n{}", String::from_utf8(listing(&stored)).unwrap());
+        rest = rest.strip_prefix(&section).unwrap_or_else(|| panic!("{name}: expected here\n{section}but there is\n{rest}"));
     }
-    assert_eq!(seen, 11);
+    assert_eq!(rest, "", "what follows the last example");
+    let descriptions = read_dir(directory.join("data")).unwrap().filter(|entry| {
+        let path = entry.as_ref().unwrap().path();
+        path.extension().is_some_and(|extension| extension == "txt")
+    });
+    assert_eq!((names.lines().count(), descriptions.count()), (11, 11), "examples printed, and described");
 }

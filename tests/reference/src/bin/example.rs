@@ -1,13 +1,13 @@
-//! Reads a description in the format of tests/examples from standard input and prints its card in hex.
+//! Reads a description in the format of crates/examples/data from standard input and writes its card.
 
-use reference::{examples::card, vectors::to_hex};
-use std::io::{read_to_string, stdin};
+use reference::examples::card;
+use std::io::{read_to_string, stdin, stdout, Write};
 use std::process::ExitCode;
 
 fn main() -> std::io::Result<ExitCode> {
     match card(&read_to_string(stdin())?) {
         Ok(card) => {
-            println!("{}", to_hex(&card));
+            stdout().write_all(&card)?;
             Ok(ExitCode::SUCCESS)
         }
         Err(fault) => {

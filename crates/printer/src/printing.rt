@@ -1,0 +1,136 @@
+// An accepted card's listing, section after section, from tables that are filled once.
+use card::Task;
+use libc::STDOUT_FILENO;
+use listing::Prepared;
+use listing::prepare;
+use listing::write_section;
+ghost use Prim.Native.Nat.{_≤_};
+ghost use lib.ListN.{length};
+ghost use Rattle.card.specs.Represents.{taskOf, Represented};
+ghost use Rattle.rules.specs.Tables.{rulesAtMost};
+ghost use Rattle.rules.specs.Appended.{Room};
+ghost use Rattle.printer.specs.Ready.{Ready, Lent};
+
+fn print_section(
+    number: usize,
+    task: Task,
+    prepared: Prepared,
+    starts: &[u8],
+    finishes: &[u8],
+    counts: &[u16],
+    origins: &mut [u8],
+    targets: &mut [u8],
+    out: &mut [u8],
+)
+    requires { ⌜ Ready task prepared (now starts) (now finishes) (now counts) ⌝ }
+    requires { ⌜ Lent (now origins) (now targets) (now out) ⌝ }
+    requires { ⌜ number ≤ prepared .spaces .count ⌝ }
+{
+    let length = write_section(
+        out,
+        number,
+        task,
+        prepared,
+        starts,
+        finishes,
+        counts,
+        origins,
+        targets,
+    );
+    io::write_all(STDOUT_FILENO, &out[0..length]);
+}
+
+// The sections of the spaces, and the closing one behind them.
+fn print_sections(
+    task: Task,
+    prepared: Prepared,
+    starts: &[u8],
+    finishes: &[u8],
+    counts: &[u16],
+    origins: &mut [u8],
+    targets: &mut [u8],
+    out: &mut [u8],
+)
+    requires { ⌜ Ready task prepared (now starts) (now finishes) (now counts) ⌝ }
+    requires { ⌜ Lent (now origins) (now targets) (now out) ⌝ }
+{
+    let spaces = prepared.spaces;
+    let last = spaces.count;
+    let mut number = 0;
+    while number < last {
+        print_section(
+            number,
+            task,
+            prepared,
+            starts,
+            finishes,
+            counts,
+            origins,
+            targets,
+            out,
+        );
+        number = number + 1;
+    }
+    print_section(
+        last,
+        task,
+        prepared,
+        starts,
+        finishes,
+        counts,
+        origins,
+        targets,
+        out,
+    );
+}
+
+// With tables lent to it.
+fn print_with(
+    task: Task,
+    enablers: &mut [u8],
+    starts: &mut [u8],
+    finishes: &mut [u8],
+    counts: &mut [u16],
+    origins: &mut [u8],
+    targets: &mut [u8],
+    out: &mut [u8],
+)
+    requires { ⌜ Represented task (taskOf task) ⌝ }
+    requires { ⌜ Room (rulesAtMost (taskOf task)) (now enablers) (now starts) (now finishes) ⌝ }
+    requires { ⌜ 3840 ≤ length (now counts) ⌝ }
+    requires { ⌜ Lent (now origins) (now targets) (now out) ⌝ }
+{
+    let prepared = prepare(task, enablers, starts, finishes, counts);
+    print_sections(
+        task,
+        prepared,
+        starts,
+        finishes,
+        counts,
+        origins,
+        targets,
+        out,
+    );
+}
+
+pub fn print_listing(task: Task)
+    requires { ⌜ Represented task (taskOf task) ⌝ }
+{
+    let mut enablers = [0u8; 57600];
+    let mut starts = [0u8; 57600];
+    let mut finishes = [0u8; 57600];
+    let mut counts = [0u16; 3840];
+    let mut origins = [0u8; 57600];
+    let mut targets = [0u8; 57600];
+    let mut out = [0u8; 65536];
+    print_with(
+        task,
+        &mut enablers,
+        &mut starts,
+        &mut finishes,
+        &mut counts,
+        &mut origins,
+        &mut targets,
+        &mut out,
+    );
+}
