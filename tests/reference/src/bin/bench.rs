@@ -214,8 +214,12 @@ fn table(seconds: f64) {
     if !counting {
         println!("valgrind is not installed, so no instructions are counted");
     }
-    println!("{:<26}{:^32}{:^32}", "", "time", if counting { "instructions" } else { "" });
-    println!("{:<26}{}{}", "", columns("reference", "proved", "ratio"), columns("reference", "proved", "ratio"));
+    let heads = columns("reference", "proved", "ratio");
+    if counting {
+        println!("{:<26}{:>18}{:>36}\n{:<26}{heads}{heads}", "", "time", "instructions", "");
+    } else {
+        println!("{:<26}{heads}", "");
+    }
     let rows = rows();
     let mut costs = Vec::new();
     let mut group = "";
