@@ -194,8 +194,8 @@ impl<'a> Comparison<'a> {
     /// Makes the call on both sides, with these bytes in the buffer that is lent to it.
     fn call(&mut self, card: &[u8], request: Request, before: &[u8]) -> Result<Outcome, Difference> {
         let differ = |fault: String| Difference { card: card.to_vec(), call: request.describe(before), fault };
-        let [left, right] = [self.left, self.right].map(|calls| outcome(calls, card, request, before).map_err(differ));
-        let (left, right) = (left?, right?);
+        let left = outcome(self.left, card, request, before).map_err(|fault| differ(format!("the first {fault}")))?;
+        let right = outcome(self.right, card, request, before).map_err(|fault| differ(format!("the second {fault}")))?;
         if left.answer != right.answer {
             return Err(differ(format!("answers {:?} and {:?}", left.answer, right.answer)));
         }
