@@ -3,7 +3,8 @@
  * Every function answers a number of document 01: nothing negative when it is accepted, else minus the refusal's number.
  * A refused call has changed no byte. The lent runs of bytes may be of any content and any length, also 0, where the pointer is
  * not read through but must not be null. They must not overlap, except that runs which are only read may.
- * No function keeps a pointer, and none uses anything but what is lent to it: calls on different bytes may run at once. */
+ * No function keeps a pointer, and none uses anything but what is lent to it: calls on different bytes may run at once.
+ * A section is worked out in tables on the stack, for which 1 MB is enough. */
 #ifndef STAKESTALK_H
 #define STAKESTALK_H
 

@@ -148,7 +148,8 @@ pub fn write_section(
     write_closing(out, task, spaces, &fixed)
 }
 
-// One section of a task, with tables lent to it.
+// One section of a task, with tables lent to it. Once the spaces are known, the enablers are needed no more, and their table takes the
+// starts of a space's moves.
 fn list_with(
     task: Task,
     number: usize,
@@ -157,16 +158,13 @@ fn list_with(
     starts: &mut [u8],
     finishes: &mut [u8],
     counts: &mut [u16],
-    origins: &mut [u8],
     targets: &mut [u8],
 ) -> Listed
     requires { ⌜ Represented task (taskOf task) ⌝ }
     requires { ⌜ 65536 ≤ length (now out) ⌝ }
     requires { ⌜ Room (rulesAtMost (taskOf task)) (now enablers) (now starts) (now finishes) ⌝ }
     requires { ⌜ 3840 ≤ length (now counts) ⌝ }
-    requires { ⌜
-        (60 * rulesAtMost (taskOf task) ≤ length (now origins)) × (60 * rulesAtMost (taskOf task) ≤ length (now targets))
-        ⌝ }
+    requires { ⌜ 60 * rulesAtMost (taskOf task) ≤ length (now targets) ⌝ }
     ensures { λ r. ⌜ TaskLists (taskOf task) number (now (out .entry)) (now (out .exit)) r ⌝ }
 {
     let prepared = prepare(task, enablers, starts, finishes, counts);
@@ -181,7 +179,7 @@ fn list_with(
         starts,
         finishes,
         counts,
-        origins,
+        enablers,
         targets,
     );
     Listed::Length(length)
@@ -197,7 +195,6 @@ fn list_small(task: Task, number: usize, out: &mut [u8]) -> Listed
     let mut starts = [0u8; 3840];
     let mut finishes = [0u8; 3840];
     let mut counts = [0u16; 3840];
-    let mut origins = [0u8; 3840];
     let mut targets = [0u8; 3840];
     list_with(
         task,
@@ -207,7 +204,6 @@ fn list_small(task: Task, number: usize, out: &mut [u8]) -> Listed
         &mut starts,
         &mut finishes,
         &mut counts,
-        &mut origins,
         &mut targets,
     )
 }
@@ -222,7 +218,6 @@ fn list_large(task: Task, number: usize, out: &mut [u8]) -> Listed
     let mut starts = [0u8; 57600];
     let mut finishes = [0u8; 57600];
     let mut counts = [0u16; 3840];
-    let mut origins = [0u8; 57600];
     let mut targets = [0u8; 57600];
     list_with(
         task,
@@ -232,7 +227,6 @@ fn list_large(task: Task, number: usize, out: &mut [u8]) -> Listed
         &mut starts,
         &mut finishes,
         &mut counts,
-        &mut origins,
         &mut targets,
     )
 }

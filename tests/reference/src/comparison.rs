@@ -1,12 +1,15 @@
 //! Two implementations side by side: the same calls on the same bytes, answers and every lent byte compared.
 
 use crate::card::{decode, Task, OUTPUT_LEN};
+use crate::met::{every_answer, Call, Case, Met, LINES, SPACES};
 use crate::proved::Calls;
-use crate::random::{write_unchecked, Random};
-use crate::refusal::SECTION;
+use crate::random::{write_unchecked, Malformed, Press, Random, MALFORMED_PARTS};
+use crate::refusal::{BINDING, OUTPUT, SECTION, STATE};
 use crate::strips::{FACT_LEN, MAX_STATE_FACTS, STATE_LEN};
 use crate::vectors::to_hex;
+use std::cmp::Ordering;
 use std::fmt;
+use std::hint::black_box;
 
 /// The first call at which two implementations differ.
 #[derive(Debug)]
@@ -24,25 +27,208 @@ impl fmt::Display for Difference {
     }
 }
 
+/// A call, with what it takes beside the card and the buffer.
+#[derive(Clone, Copy)]
+enum Request<'a> {
+    Check,
+    Initial,
+    Rewrite,
+    Section(usize),
+    Press { count: usize, press: &'a Press },
+}
+
+impl Request<'_> {
+    fn call(&self) -> Call {
+        match self {
+            Request::Check => Call::Check,
+            Request::Initial => Call::Initial,
+            Request::Rewrite => Call::Rewrite,
+            Request::Section(_) => Call::Section,
+            Request::Press { .. } => Call::Press,
+        }
+    }
+
+    /// The call in words, with the buffer that is lent to it.
+    fn describe(&self, buffer: &[u8]) -> String {
+        let length = buffer.len();
+        match self {
+            Request::Check => "check".into(),
+            Request::Initial => format!("initial into {length} bytes"),
+            Request::Rewrite => format!("rewrite into {length} bytes"),
+            Request::Section(number) => format!("section {number} into {length} bytes"),
+            Request::Press { count, press: Press { schema, objects } } => {
+                let facts = to_hex(&buffer[..length.min((*count).min(MAX_STATE_FACTS) * FACT_LEN)]);
+                format!("press schema {schema}, objects {objects:?}, state of {length} bytes, count {count}, facts {facts}")
+            }
+        }
+    }
+}
+
+/// What stands before and behind each lent run of bytes, and has to be there afterwards.
+const MARGIN: [u8; 64] = [0x5A; 64];
+
+/// A run of bytes to lend, between its margins.
+struct Lent {
+    bytes: Vec<u8>,
+}
+
+impl Lent {
+    fn new(bytes: &[u8]) -> Lent {
+        Lent { bytes: [&MARGIN, bytes, &MARGIN].concat() }
+    }
+
+    fn lend(&mut self) -> &mut [u8] {
+        let end = self.bytes.len() - MARGIN.len();
+        &mut self.bytes[MARGIN.len()..end]
+    }
+
+    /// The bytes as they are now, if the margins are whole. Asked of memory: the compiler may not take a byte for unchanged.
+    fn back(mut self) -> Option<Vec<u8>> {
+        black_box(self.bytes.as_mut_slice());
+        let whole = self.bytes.starts_with(&MARGIN) && self.bytes.ends_with(&MARGIN);
+        whole.then(|| self.lend().to_vec())
+    }
+}
+
+/// What one side made of a call: its answer and the buffer.
+struct Outcome {
+    answer: Result<usize, u8>,
+    bytes: Vec<u8>,
+}
+
+/// Makes the call on copies. Says so where it altered what it may not: card, objects, bytes that were not lent, anything on a refusal.
+fn outcome(calls: &dyn Calls, card: &[u8], request: Request, before: &[u8]) -> Result<Outcome, String> {
+    let objects: &[u8] = if let Request::Press { press, .. } = request { &press.objects } else { &[] };
+    let (mut lent_card, mut lent_objects, mut buffer) = (Lent::new(card), Lent::new(objects), Lent::new(before));
+    let answer = match request {
+        Request::Check => calls.check(lent_card.lend()).map(|()| 0),
+        Request::Initial => calls.initial(lent_card.lend(), buffer.lend()),
+        Request::Rewrite => calls.rewrite(lent_card.lend(), buffer.lend()),
+        Request::Section(number) => calls.section(lent_card.lend(), number, buffer.lend()),
+        Request::Press { count, press } => calls.press(lent_card.lend(), buffer.lend(), count, press.schema, lent_objects.lend()),
+    };
+    if lent_card.back().as_deref() != Some(card) || lent_objects.back().as_deref() != Some(objects) {
+        return Err(format!("answers {answer:?} and bytes that are only read are altered"));
+    }
+    let bytes = buffer.back().ok_or(format!("answers {answer:?} and bytes around the buffer are altered"))?;
+    if answer.is_err() && bytes != before {
+        return Err(format!("answers {answer:?} and the buffer is altered"));
+    }
+    if !request.call().answers().contains(&answer.err().unwrap_or(0)) {
+        return Err(format!("answers {answer:?}, which is no answer of this call"));
+    }
+    Ok(Outcome { answer, bytes })
+}
+
+const SHORT_STATE: Case = ("initial", "into a short buffer");
+const LONG_STATE: Case = ("initial", "into a long buffer");
+const SHORT_OUTPUT: Case = ("output", "short");
+const LONG_OUTPUT: Case = ("output", "long");
+const NEAR_SECTION: Case = ("section number", "just past the last");
+const FAR_SECTION: Case = ("section number", "far past the last");
+const TOO_FEW: Case = ("objects", "too few");
+const TOO_MANY: Case = ("objects", "too many");
+const UNKNOWN_OBJECT: Case = ("objects", "unknown");
+const LONG_PRESS: Case = ("accepted press", "in a long buffer");
+const FULL_BEFORE: Case = ("accepted press", "on 1,024 facts");
+const FULL_AFTER: Case = ("accepted press", "to 1,024 facts");
+
+/// What random cards have to bring up and did not: every answer of the calls that take a card alone, every kind of space and of
+/// line, short and long buffers, section numbers past the last.
+pub fn missing_of_cards(met: &Met) -> Vec<String> {
+    let calls = [Call::Check, Call::Initial, Call::Rewrite, Call::Section];
+    let buffers = [SHORT_STATE, LONG_STATE, SHORT_OUTPUT, LONG_OUTPUT, NEAR_SECTION, FAR_SECTION];
+    met.missing(&every_answer(&calls), &[&SPACES[..], &LINES, &buffers].concat())
+}
+
+/// What random histories have to bring up and did not: every answer of a press, every part of 15 and of 17, full states, short and
+/// long buffers, section numbers past the last.
+pub fn missing_of_histories(met: &Met) -> Vec<String> {
+    let buffers = [SHORT_STATE, LONG_STATE, SHORT_OUTPUT, LONG_OUTPUT, NEAR_SECTION, FAR_SECTION];
+    let presses = [TOO_FEW, TOO_MANY, UNKNOWN_OBJECT, LONG_PRESS, FULL_BEFORE, FULL_AFTER];
+    met.missing(&every_answer(&[Call::Press]), &[&MALFORMED_PARTS[..], &buffers, &presses].concat())
+}
+
+/// A card has at most 60 spaces, so that a section of a higher number is far past the last.
+const MAX_SECTIONS: usize = 61;
+
+/// The case that a call with this answer is one of.
+fn case(card: &[u8], request: Request, length: usize, answer: Result<usize, u8>) -> Option<Case> {
+    match (request, answer) {
+        (Request::Initial, Ok(_)) if length > STATE_LEN => Some(LONG_STATE),
+        (Request::Initial, Err(STATE)) => Some(SHORT_STATE),
+        (Request::Rewrite | Request::Section(_), Ok(_)) if length > OUTPUT_LEN => Some(LONG_OUTPUT),
+        (Request::Rewrite | Request::Section(_), Err(OUTPUT)) => Some(SHORT_OUTPUT),
+        (Request::Section(number), Err(SECTION)) => Some(if number <= MAX_SECTIONS { NEAR_SECTION } else { FAR_SECTION }),
+        (Request::Press { press, .. }, Err(BINDING)) => {
+            let roles = decode(card).ok()?.schemas().get(press.schema)?.parameters as usize;
+            Some(match press.objects.len().cmp(&roles) {
+                Ordering::Less => TOO_FEW,
+                Ordering::Equal => UNKNOWN_OBJECT,
+                Ordering::Greater => TOO_MANY,
+            })
+        }
+        (Request::Press { .. }, Ok(MAX_STATE_FACTS)) => Some(FULL_AFTER),
+        (Request::Press { count: MAX_STATE_FACTS, .. }, Ok(_)) => Some(FULL_BEFORE),
+        (Request::Press { .. }, Ok(_)) if length > STATE_LEN => Some(LONG_PRESS),
+        _ => None,
+    }
+}
+
 pub struct Comparison<'a> {
     left: &'a dyn Calls,
     right: &'a dyn Calls,
     random: Random,
     /// The bytes that stand in a buffer before it is lent.
     pattern: Vec<u8>,
-    pub calls: usize,
-    /// How often each refusal was answered; 0 counts the accepted calls.
-    pub answers: [usize; 23],
+    pub met: Met,
 }
-
-/// What both sides answered: a number, or none where both refused, by one number.
-type Outcome = Result<Option<usize>, Difference>;
 
 impl<'a> Comparison<'a> {
     pub fn new(left: &'a dyn Calls, right: &'a dyn Calls, seed: u64) -> Comparison<'a> {
         let mut random = Random::new(seed);
         let pattern = (0..OUTPUT_LEN + 100).map(|_| random.byte()).collect();
-        Comparison { left, right, random, pattern, calls: 0, answers: [0; 23] }
+        Comparison { left, right, random, pattern, met: Met::default() }
+    }
+
+    /// Makes the call on both sides, with these bytes in the buffer that is lent to it.
+    fn call(&mut self, card: &[u8], request: Request, before: &[u8]) -> Result<Outcome, Difference> {
+        let differ = |fault: String| Difference { card: card.to_vec(), call: request.describe(before), fault };
+        let left = outcome(self.left, card, request, before).map_err(|fault| differ(format!("the first {fault}")))?;
+        let right = outcome(self.right, card, request, before).map_err(|fault| differ(format!("the second {fault}")))?;
+        if left.answer != right.answer {
+            return Err(differ(format!("answers {:?} and {:?}", left.answer, right.answer)));
+        }
+        if let Some(at) = left.bytes.iter().zip(&right.bytes).position(|(one, other)| one != other) {
+            return Err(differ(format!("both answer {:?}, byte {at} is {} and {}", left.answer, left.bytes[at], right.bytes[at])));
+        }
+        self.met.answer(request.call(), left.answer);
+        case(card, request, before.len(), left.answer).into_iter().for_each(|case| self.met.case(case));
+        Ok(left)
+    }
+
+    /// The same, with the pattern in a buffer of this length.
+    fn call_into(&mut self, card: &[u8], request: Request, length: usize) -> Result<Outcome, Difference> {
+        let before = self.pattern[..length].to_vec();
+        self.call(card, request, &before)
+    }
+
+    fn section(&mut self, card: &[u8], number: usize, length: usize) -> Result<Outcome, Difference> {
+        let outcome = self.call_into(card, Request::Section(number), length)?;
+        if let Ok(length) = outcome.answer {
+            self.met.lines(&String::from_utf8_lossy(&outcome.bytes[..length]));
+        }
+        Ok(outcome)
+    }
+
+    /// The needed length, a longer one or a shorter one.
+    fn buffer_length(&mut self, needed: usize) -> usize {
+        match self.random.below(6) {
+            0 => self.random.below(needed),
+            1 => needed - 1,
+            2 => needed + self.random.within(1, 100),
+            _ => needed,
+        }
     }
 
     /// A random card, whole or damaged, and all that is asked of a card alone.
@@ -60,136 +246,92 @@ impl<'a> Comparison<'a> {
 
     /// The calls that take a card alone, with sound, short and long buffers, and section numbers up to and past the last.
     pub fn card(&mut self, card: &[u8]) -> Result<(), Difference> {
-        self.call(card, 0, "check", |calls, _| calls.check(card).map(|()| 0))?;
-
+        self.call_into(card, Request::Check, 0)?;
         let length = self.buffer_length(STATE_LEN);
-        self.call(card, length, "initial", |calls, state| calls.initial(card, state))?;
-
+        self.call_into(card, Request::Initial, length)?;
         let length = self.buffer_length(OUTPUT_LEN);
-        self.call(card, length, "rewrite", |calls, out| calls.rewrite(card, out))?;
+        self.call_into(card, Request::Rewrite, length)?;
 
         let mut number = 0;
-        while self.section(card, number, OUTPUT_LEN)?.is_some() {
+        while self.section(card, number, OUTPUT_LEN)?.answer.is_ok() {
             number += 1;
         }
-        let past = *self.random.pick(&[number + 1, 255, 256, 65_536, usize::MAX]).unwrap_or(&number);
+        self.wild_section(card, number)
+    }
+
+    /// A section past the last, and any section with any buffer.
+    fn wild_section(&mut self, card: &[u8], sections: usize) -> Result<(), Difference> {
+        let past = *self.random.pick(&[sections, sections + 1, 255, 256, 65_536, usize::MAX]).unwrap_or(&sections);
         self.section(card, past, OUTPUT_LEN)?;
-        let (any, length) = (self.random.below(number + 2), self.buffer_length(OUTPUT_LEN));
+        let (any, length) = (self.random.below(sections + 2), self.buffer_length(OUTPUT_LEN));
         self.section(card, any, length)?;
         Ok(())
     }
 
-    fn section(&mut self, card: &[u8], number: usize, length: usize) -> Outcome {
-        let name = format!("section {number} into {length} bytes");
-        self.call(card, length, &name, |calls, out| calls.section(card, number, out))
-    }
-
-    /// The needed length, a longer one or a shorter one.
-    fn buffer_length(&mut self, needed: usize) -> usize {
-        match self.random.below(6) {
-            0 => self.random.below(needed),
-            1 => needed - 1,
-            2 => needed + self.random.within(1, 100),
-            _ => needed,
-        }
-    }
-
-    /// Runs a call on both sides with the pattern in its buffer.
-    fn call(&mut self, card: &[u8], length: usize, name: &str, call: impl Fn(&dyn Calls, &mut [u8]) -> Result<usize, u8>) -> Outcome {
-        let mut left = self.pattern[..length].to_vec();
-        let mut right = left.clone();
-        let answers = (call(self.left, &mut left), call(self.right, &mut right));
-        self.judge(card, || name.to_string(), &self.pattern[..length], answers, (&left, &right))?;
-        self.count(answers.0);
-        Ok(answers.0.ok())
-    }
-
-    fn count(&mut self, answer: Result<usize, u8>) {
-        self.calls += 1;
-        self.answers[answer.err().unwrap_or(0).min(SECTION) as usize] += 1;
-    }
-
-    fn judge(
-        &self,
-        card: &[u8],
-        call: impl Fn() -> String,
-        before: &[u8],
-        answers: (Result<usize, u8>, Result<usize, u8>),
-        bytes: (&[u8], &[u8]),
-    ) -> Result<(), Difference> {
-        let differ = |fault: String| Err(Difference { card: card.to_vec(), call: call(), fault });
-        if answers.0 != answers.1 {
-            return differ(format!("answers {:?} and {:?}", answers.0, answers.1));
-        }
-        if bytes.0 != bytes.1 {
-            let at = bytes.0.iter().zip(bytes.1).position(|(one, other)| one != other).unwrap_or(0);
-            return differ(format!("both answer {:?}, byte {at} is {} and {}", answers.0, bytes.0[at], bytes.1[at]));
-        }
-        if answers.0.is_err() && bytes.0 != before {
-            return differ(format!("refused, {:?}, and bytes are altered", answers.0));
-        }
-        Ok(())
-    }
-
-    /// A random card's opening call and then presses, each on the state that the call before left, both sides on their own.
-    /// In between, presses on full and on malformed states and with damaged cards, which leave the history alone.
+    /// A random card's opening call and then presses, each on the state that the call before left. In between come calls that
+    /// leave the history alone: presses on malformed and on full states and with damaged cards, the opening call, sections.
     pub fn random_history(&mut self) -> Result<(), Difference> {
         let task = if self.random.once_in(8) { self.random.roomy_task() } else { self.random.task() };
         let card = write_unchecked(&task);
         let length = STATE_LEN + if self.random.once_in(4) { self.random.within(1, 100) } else { 0 };
-        let mut left = self.pattern[..length].to_vec();
-        let mut right = left.clone();
-        let answers = (self.left.initial(&card, &mut left), self.right.initial(&card, &mut right));
-        self.judge(&card, || "initial".into(), &self.pattern[..length], answers, (&left, &right))?;
-        self.count(answers.0);
-        let Ok(mut count) = answers.0 else {
-            return Err(Difference { card, call: "initial".into(), fault: format!("an accepted card answers {:?}", answers.0) });
-        };
+        let mut history = self.opening(&card, length)?;
         for _ in 0..self.random.below(30) {
-            match self.random.below(10) {
-                0 => self.press_malformed(&card, &task, &left, count)?,
-                1 => self.press_full(&card, &task)?,
-                2 => self.press_damaged_card(&task, &left, count)?,
+            let (state, count) = (&history.state, history.count);
+            match self.random.below(20) {
+                0 | 1 => self.press_malformed(&card, &task, state, count)?,
+                2 | 3 => self.press_full()?,
+                4 | 5 => self.press_damaged_card(&task, state, count)?,
+                6 => {
+                    let length = self.buffer_length(STATE_LEN);
+                    self.call_into(&card, Request::Initial, length)?;
+                }
+                7 => {
+                    let sections = self.random.below(MAX_SECTIONS);
+                    self.wild_section(&card, sections)?;
+                }
                 _ => {
-                    let press = self.random.press(&task, &left[..count * FACT_LEN]);
-                    let answer = self.press(&card, (&mut left, &mut right), count, press.schema, &press.objects)?;
-                    count = answer.unwrap_or(count);
+                    let press = self.random.press(&task, history.facts());
+                    self.press(&card, &mut history, &press)?;
                 }
             }
         }
         Ok(())
     }
 
-    /// A press on each side's own state.
-    fn press(&mut self, card: &[u8], states: (&mut [u8], &mut [u8]), count: usize, schema: usize, objects: &[u8]) -> Outcome {
-        let before = states.0.to_vec();
-        let answers = (self.left.press(card, states.0, count, schema, objects), self.right.press(card, states.1, count, schema, objects));
-        let call = || {
-            let facts = &before[..before.len().min(count.min(MAX_STATE_FACTS) * FACT_LEN)];
-            let state = format!("state of {} bytes, count {count}, facts {}", before.len(), to_hex(facts));
-            format!("press schema {schema}, objects {objects:?}, {state}")
-        };
-        self.judge(card, call, &before, answers, (states.0, states.1))?;
-        self.count(answers.0);
-        Ok(answers.0.ok())
+    fn opening(&mut self, card: &[u8], length: usize) -> Result<History, Difference> {
+        let Outcome { answer, bytes } = self.call_into(card, Request::Initial, length)?;
+        let fault =
+            |refusal| Difference { card: card.to_vec(), call: "initial".into(), fault: format!("an accepted card answers {refusal}") };
+        Ok(History { state: bytes, count: answer.map_err(fault)? })
+    }
+
+    /// A press of the history. A refused one leaves state and count as they were.
+    fn press(&mut self, card: &[u8], history: &mut History, press: &Press) -> Result<(), Difference> {
+        let Outcome { answer, bytes } = self.call(card, Request::Press { count: history.count, press }, &history.state)?;
+        history.state = bytes;
+        history.count = answer.unwrap_or(history.count);
+        Ok(())
     }
 
     fn press_malformed(&mut self, card: &[u8], task: &Task, state: &[u8], count: usize) -> Result<(), Difference> {
         let press = self.random.press(task, &state[..count * FACT_LEN]);
-        let (mut left, count) = self.random.malformed_state(task, &state[..STATE_LEN], count);
-        let mut right = left.clone();
-        self.press(card, (&mut left, &mut right), count, press.schema, &press.objects)?;
+        let Malformed { state, count, part } = self.random.malformed_state(task, &state[..STATE_LEN], count);
+        let outcome = self.call(card, Request::Press { count, press: &press }, &state)?;
+        if outcome.answer == Err(STATE) {
+            self.met.case(part);
+        }
         Ok(())
     }
 
-    fn press_full(&mut self, card: &[u8], task: &Task) -> Result<(), Difference> {
+    /// A press on a state that is full or nearly so.
+    fn press_full(&mut self) -> Result<(), Difference> {
+        let task = self.random.roomy_task();
         let wanted = self.random.within(MAX_STATE_FACTS - 3, MAX_STATE_FACTS);
-        let (mut left, count) = self.random.state(task, wanted);
+        let (mut state, count) = self.random.state(&task, wanted);
         // Bytes past the count are not looked at, and an accepted press leaves 0 there.
-        left[count * FACT_LEN..].copy_from_slice(&self.pattern[count * FACT_LEN..STATE_LEN]);
-        let mut right = left.clone();
-        let press = self.random.press(task, &left[..count * FACT_LEN]);
-        self.press(card, (&mut left, &mut right), count, press.schema, &press.objects)?;
+        state[count * FACT_LEN..].copy_from_slice(&self.pattern[count * FACT_LEN..STATE_LEN]);
+        let press = self.random.press(&task, &state[..count * FACT_LEN]);
+        self.call(&write_unchecked(&task), Request::Press { count, press: &press }, &state)?;
         Ok(())
     }
 
@@ -199,24 +341,28 @@ impl<'a> Comparison<'a> {
         let press = self.random.press(task, &state[..count * FACT_LEN]);
         // The card's refusal comes before the state's, also where the state is short.
         let length = if self.random.once_in(2) { STATE_LEN } else { self.random.below(STATE_LEN) };
-        let mut left = state[..length].to_vec();
-        let mut right = left.clone();
-        self.press(&card, (&mut left, &mut right), count, press.schema, &press.objects)?;
+        self.call(&card, Request::Press { count, press: &press }, &state[..length])?;
         Ok(())
     }
 
     /// A stored history: its calls on both sides.
-    pub fn history(&mut self, card: &[u8], presses: impl Iterator<Item = (usize, Vec<u8>)>) -> Result<(), Difference> {
-        debug_assert!(decode(card).is_ok());
-        let mut left = self.pattern[..STATE_LEN].to_vec();
-        let mut right = left.clone();
-        let answers = (self.left.initial(card, &mut left), self.right.initial(card, &mut right));
-        self.judge(card, || "initial".into(), &self.pattern[..STATE_LEN], answers, (&left, &right))?;
-        self.count(answers.0);
-        let mut count = answers.0.unwrap_or(0);
-        for (schema, objects) in presses {
-            count = self.press(card, (&mut left, &mut right), count, schema, &objects)?.unwrap_or(count);
+    pub fn history(&mut self, card: &[u8], presses: impl Iterator<Item = Press>) -> Result<(), Difference> {
+        let mut history = self.opening(card, STATE_LEN)?;
+        for press in presses {
+            self.press(card, &mut history, &press)?;
         }
         Ok(())
+    }
+}
+
+/// A state as the call before left it, and the count last answered.
+struct History {
+    state: Vec<u8>,
+    count: usize,
+}
+
+impl History {
+    fn facts(&self) -> &[u8] {
+        &self.state[..self.count * FACT_LEN]
     }
 }

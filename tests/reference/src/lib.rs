@@ -4,10 +4,13 @@
 pub mod card;
 pub mod comparison;
 pub mod examples;
+pub mod histories;
 pub mod listing;
+pub mod met;
 pub mod proved;
 pub mod random;
 pub mod refusal;
+pub mod settings;
 pub mod strips;
 pub mod tim;
 pub mod truth;

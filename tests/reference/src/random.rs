@@ -1,6 +1,7 @@
 //! Seeded random cards, tables, states and presses, sound and damaged.
 
 use crate::card::*;
+use crate::met::Case;
 use crate::strips::{FACT_LEN, FILLER, MAX_STATE_FACTS, STATE_LEN};
 
 /// SplitMix64.
@@ -701,29 +702,68 @@ impl Random {
         (state, facts.len())
     }
 
-    /// A state that no press of the card may be made on (15), and the count handed in with it.
-    pub fn malformed_state(&mut self, task: &Task, state: &[u8], count: usize) -> (Vec<u8>, usize) {
-        let mut bad = state.to_vec();
-        let at = self.below(count.max(1)) * FACT_LEN;
-        let arity = task.arities().get(bad[at] as usize).map_or(1, |&arity| arity as usize);
-        match self.below(if count == 0 { 2 } else { 7 }) {
-            0 => bad.truncate(*self.pick(&[0, 1, STATE_LEN - 1, STATE_LEN / 2, count * FACT_LEN / 2]).unwrap_or(&0)),
-            1 => return (bad, *self.pick(&[MAX_STATE_FACTS + 1, 65_536, 1 << 30, usize::MAX / 4 + 2, usize::MAX]).unwrap_or(&1_025)),
-            2 => bad[at] = self.outside(0, task.predicate_count - 1),
-            3 => bad[at + self.within(1, arity)] = self.outside(0, task.object_count - 1),
-            4 if arity < MAX_ARITY => bad[at + self.within(arity + 1, MAX_ARITY)] = self.outside(FILLER, FILLER),
-            5 if count > 1 => {
-                let at = at.min((count - 2) * FACT_LEN);
-                let (one, next) = bad[at..].split_at_mut(FACT_LEN);
+    /// The state, made such that no press of the card may be made on it (15).
+    pub fn malformed_state(&mut self, task: &Task, state: &[u8], count: usize) -> Malformed {
+        let mut bad = Malformed { state: state.to_vec(), count, part: MALFORMED_PARTS[0] };
+        loop {
+            bad.part = MALFORMED_PARTS[self.below(MALFORMED_PARTS.len())];
+            if self.malform(task, &mut bad).is_some() {
+                return bad;
+            }
+        }
+    }
+
+    /// Damages the part that is named; none if the state has no place for that.
+    fn malform(&mut self, task: &Task, bad: &mut Malformed) -> Option<()> {
+        let Malformed { state, count, part: (_, part) } = bad;
+        match *part {
+            SHORT => {
+                let length = *self.pick(&[0, 1, STATE_LEN - 1, STATE_LEN / 2, *count * FACT_LEN / 2])?;
+                state.truncate(length);
+                return Some(());
+            }
+            OVER => {
+                *count = *self.pick(&[MAX_STATE_FACTS + 1, 65_536, 1 << 30, usize::MAX / 4 + 2, usize::MAX])?;
+                return Some(());
+            }
+            _ => {}
+        }
+        let at = self.index(*count)? * FACT_LEN;
+        let arity = task.arity(state[at]);
+        match *part {
+            PREDICATE => state[at] = self.outside(0, task.predicate_count - 1),
+            OBJECT => state[at + self.within(1, arity)] = self.outside(0, task.object_count - 1),
+            FILLED if arity < MAX_ARITY => state[at + self.within(arity + 1, MAX_ARITY)] = self.outside(FILLER, FILLER),
+            ORDER if *count > 1 => {
+                let at = at.min((*count - 2) * FACT_LEN);
+                let (one, next) = state[at..].split_at_mut(FACT_LEN);
                 one.swap_with_slice(&mut next[..FACT_LEN]);
             }
-            _ if count < MAX_STATE_FACTS => {
-                // A fact twice.
-                bad.copy_within(at..count * FACT_LEN, at + FACT_LEN);
-                return (bad, count + 1);
+            TWICE if *count < MAX_STATE_FACTS => {
+                state.copy_within(at..*count * FACT_LEN, at + FACT_LEN);
+                *count += 1;
             }
-            _ => bad.truncate(STATE_LEN - 1),
+            _ => return None,
         }
-        (bad, count)
+        Some(())
     }
 }
+
+/// A state that is not well formed, the count handed in with it, and what is wrong.
+pub struct Malformed {
+    pub state: Vec<u8>,
+    pub count: usize,
+    pub part: Case,
+}
+
+/// The parts of 15.
+pub const MALFORMED_PARTS: [Case; 7] =
+    [("state", SHORT), ("state", OVER), ("state", PREDICATE), ("state", OBJECT), ("state", FILLED), ("state", ORDER), ("state", TWICE)];
+
+const SHORT: &str = "buffer under 4,096 bytes";
+const OVER: &str = "count over 1,024";
+const PREDICATE: &str = "unknown predicate";
+const OBJECT: &str = "unknown object";
+const FILLED: &str = "wrong filler";
+const ORDER: &str = "not ascending";
+const TWICE: &str = "a fact twice";

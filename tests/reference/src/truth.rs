@@ -172,15 +172,9 @@ fn check_types(task: &Task, listing: &Listing, state: &State, number: usize, sch
     }
     let mut bindings = vec![vec![None; parameters]];
     for atom in schema.preconditions.as_slice() {
-        let arguments = task.arguments(atom);
-        let mut extended = Vec::new();
-        for binding in &bindings {
-            for (_, objects) in state.facts.iter().filter(|fact| fact.0 == atom.predicate as usize) {
-                extended.extend(bind(binding, arguments, objects));
-            }
-        }
-        extended.truncate(MOST_BINDINGS);
-        bindings = extended;
+        let facts = state.facts.iter().filter(|fact| fact.0 == atom.predicate as usize);
+        let pairs = bindings.iter().flat_map(|binding| facts.clone().map(move |(_, objects)| (binding, objects)));
+        bindings = pairs.filter_map(|(binding, objects)| bind(binding, task.arguments(atom), objects)).take(MOST_BINDINGS).collect();
     }
     for binding in bindings {
         let bound: Vec<usize> = binding.iter().flatten().copied().collect();

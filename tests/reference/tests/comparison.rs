@@ -1,6 +1,7 @@
 //! The comparison passes two equal implementations and finds a fault in each part of a faulty one.
 
-use reference::comparison::Comparison;
+use reference::comparison::{missing_of_cards, missing_of_histories, Comparison};
+use reference::met::{Call, Met};
 use reference::proved::{Calls, Reference};
 
 /// The reference with one fault put in.
@@ -16,9 +17,10 @@ enum Fault {
     WrongMember,
     WrongClosing,
     RefusesShortBufferFirst,
+    AnswersAnothersRefusal,
 }
 
-const FAULTS: [Fault; 10] = [
+const FAULTS: [Fault; 11] = [
     Fault::AcceptsTrailingBytes,
     Fault::RewritesOneByte,
     Fault::WritesPastTheCard,
@@ -29,6 +31,7 @@ const FAULTS: [Fault; 10] = [
     Fault::WrongMember,
     Fault::WrongClosing,
     Fault::RefusesShortBufferFirst,
+    Fault::AnswersAnothersRefusal,
 ];
 
 struct Faulty(Fault);
@@ -50,6 +53,7 @@ impl Calls for Faulty {
         let answer = Reference.press(card, state, count, schema, objects);
         match (self.0, answer) {
             (Fault::SkipsSameObject, Err(18)) => return Err(19),
+            (Fault::AnswersAnothersRefusal, Err(20)) => return Err(21),
             (Fault::LeavesTheTail, Ok(new)) if new < count => state[new * 4..count * 4].copy_from_slice(&before[new * 4..count * 4]),
             (Fault::AltersOnRefusal, Err(20)) => state[0] ^= 1,
             _ => {}
@@ -93,14 +97,25 @@ fn finds(calls: &dyn Calls) -> bool {
 }
 
 #[test]
-fn equal_implementations_pass() {
-    let mut comparison = Comparison::new(&Reference, &Reference, 7);
-    for _ in 0..1_500 {
-        comparison.random_card().unwrap();
-        comparison.random_history().unwrap();
+fn equal_implementations_pass_and_every_case_comes_up() {
+    let mut cards = Comparison::new(&Reference, &Reference, 7);
+    let mut histories = Comparison::new(&Reference, &Reference, 8);
+    for _ in 0..3_000 {
+        cards.random_card().unwrap();
+        histories.random_history().unwrap();
     }
-    println!("{} calls, {:?}", comparison.calls, comparison.answers);
-    assert!(comparison.answers.iter().all(|&number| number > 10), "{:?}", comparison.answers);
+    assert_eq!(missing_of_cards(&cards.met), [""; 0]);
+    assert_eq!(missing_of_histories(&histories.met), [""; 0]);
+}
+
+/// A record with nothing in it misses everything: 15, 16, 16 and 17 answers, 5 kinds of spaces, 8 of lines and 6 of buffers and numbers.
+#[test]
+fn what_never_came_up_is_missing() {
+    let mut met = Met::default();
+    assert_eq!(missing_of_cards(&met).len(), 15 + 16 + 16 + 17 + 5 + 8 + 6);
+    met.answer(Call::Check, Err(3));
+    met.lines("S 0 P : 0 : 1\n");
+    assert_eq!(missing_of_cards(&met).len(), 15 + 16 + 16 + 17 + 5 + 8 + 6 - 3);
 }
 
 #[test]

@@ -1,9 +1,11 @@
 //! The generator makes what it says, reader and writer agree on it, and listings hold after random histories.
 
 use reference::card::OUTPUT_LEN;
+use reference::histories::Histories;
+use reference::proved::Reference;
 use reference::random::{trimmed, write_unchecked, Random};
 use reference::strips::{FACT_LEN, MAX_STATE_FACTS, STATE_LEN};
-use reference::truth::{check, Listing};
+use reference::truth::Listing;
 use reference::vectors::to_hex;
 use reference::{decode, encode, initial, listing, press, section};
 
@@ -91,43 +93,14 @@ fn reader_and_writer_check_in_one_order() {
 
 #[test]
 fn listings_hold_after_random_histories() {
-    let mut random = Random::new(SEED);
-    let mut refusals = [0; 21];
-    let mut accepted = 0;
+    let mut histories = Histories::new(&Reference, SEED);
     for _ in 0..1_500 {
-        let card = random.card();
-        let task = decode(&card).unwrap();
-        let text = String::from_utf8(listing(&card)).unwrap();
-        let listing = Listing::parse(&text).expect("a listing parses");
-        let mut state = vec![0xAA; STATE_LEN + 3];
-        let mut count = initial(&card, &mut state).unwrap();
-        let held = |state: &[u8], count: usize| {
-            if let Err(fault) = check(&task, &listing, &state[..count * FACT_LEN]) {
-                panic!("{fault}\ncard {}\nstate {}\n{text}", to_hex(&card), to_hex(&state[..count * FACT_LEN]));
-            }
-        };
-        held(&state, count);
-        for _ in 0..random.below(25) {
-            let call = random.press(&task, &state[..count * FACT_LEN]);
-            let before = state.clone();
-            match press(&card, &mut state, count, call.schema, &call.objects) {
-                Ok(new) => {
-                    count = new;
-                    accepted += 1;
-                    held(&state, count);
-                    assert!(state[count * FACT_LEN..STATE_LEN].iter().all(|&byte| byte == 0));
-                    assert_eq!(state[STATE_LEN..], [0xAA; 3]);
-                }
-                Err(refusal) => {
-                    refusals[refusal as usize] += 1;
-                    assert_eq!(state, before);
-                }
-            }
+        if let Err(untrue) = histories.random_history() {
+            panic!("{untrue}");
         }
     }
-    println!("{accepted} accepted, refused {refusals:?}");
-    assert!(accepted > 3_000);
-    assert!(refusals[16..=19].iter().all(|&number| number > 100), "{refusals:?}");
+    println!("{} states\n{}", histories.states, histories.met);
+    assert_eq!(histories.missing(), [""; 0]);
 }
 
 #[test]
@@ -141,10 +114,10 @@ fn malformed_and_full_states_are_refused() {
         let (mut state, count) = random.state(&task, wanted);
         let call = random.press(&task, &state[..count * FACT_LEN]);
 
-        let (mut bad, bad_count) = random.malformed_state(&task, &state, count);
-        let before = bad.clone();
-        assert_eq!(press(&card, &mut bad, bad_count, call.schema, &call.objects), Err(15), "{}", to_hex(&card));
-        assert_eq!(bad, before);
+        let mut bad = random.malformed_state(&task, &state, count);
+        let before = bad.state.clone();
+        assert_eq!(press(&card, &mut bad.state, bad.count, call.schema, &call.objects), Err(15), "{}: {}", bad.part.1, to_hex(&card));
+        assert_eq!(bad.state, before);
 
         let before = state.clone();
         let answer = press(&card, &mut state, count, call.schema, &call.objects);

@@ -1,5 +1,7 @@
 //! The check of a listing against a state finds each kind of false line.
 
+use reference::histories::Histories;
+use reference::proved::{Calls, Reference};
 use reference::strips::{FACT_LEN, STATE_LEN};
 use reference::truth::{check, Listing};
 use reference::vectors::{from_hex, K1};
@@ -52,4 +54,68 @@ fn a_false_exclusion_is_found() {
     let facts = from_hex("0000ffff 0100ffff");
     assert_eq!(verdict(&card, &facts, "", ""), Ok(()));
     assert!(verdict(&card, &facts, "T : 0 1\nD 2\n", "T : 0 1\nT : 1 0\nD 2\nX 2 3\n").is_err());
+}
+
+/// The reference, with one kind of line changed wherever it is listed.
+struct Changed {
+    letter: &'static str,
+    change: fn(&str) -> String,
+}
+
+impl Calls for Changed {
+    fn check(&self, card: &[u8]) -> Result<(), u8> {
+        Reference.check(card)
+    }
+
+    fn initial(&self, card: &[u8], state: &mut [u8]) -> Result<usize, u8> {
+        Reference.initial(card, state)
+    }
+
+    fn press(&self, card: &[u8], state: &mut [u8], count: usize, schema: usize, objects: &[u8]) -> Result<usize, u8> {
+        Reference.press(card, state, count, schema, objects)
+    }
+
+    fn section(&self, card: &[u8], number: usize, out: &mut [u8]) -> Result<usize, u8> {
+        let length = Reference.section(card, number, out)?;
+        let text = String::from_utf8_lossy(&out[..length]);
+        let line = |line: &str| if line.starts_with(self.letter) { (self.change)(line) } else { format!("{line}\n") };
+        let changed: String = text.lines().map(line).collect();
+        out[..changed.len()].copy_from_slice(changed.as_bytes());
+        Ok(changed.len())
+    }
+
+    fn rewrite(&self, card: &[u8], out: &mut [u8]) -> Result<usize, u8> {
+        Reference.rewrite(card, out)
+    }
+}
+
+/// The line with its last number made smaller by one, or larger where it is 0.
+fn other_number(line: &str) -> String {
+    let (rest, last) = line.rsplit_once(' ').unwrap();
+    let number: usize = last.parse().unwrap();
+    format!("{rest} {}\n", if number > 0 { number - 1 } else { 1 })
+}
+
+fn without_last(line: &str) -> String {
+    let (rest, last) = line.rsplit_once(' ').unwrap();
+    format!("{}\n", if last == ":" { line } else { rest })
+}
+
+/// Each kind of line, changed in all listings, is false after one of the first random histories.
+#[test]
+fn false_lines_are_found_in_histories() {
+    let changed = [
+        ("S", without_last as fn(&str) -> String),
+        ("T", other_number),
+        ("M", other_number),
+        ("D", |_| String::new()),
+        ("F", other_number),
+        ("C", other_number),
+        ("R", without_last),
+    ];
+    for (letter, change) in changed {
+        let changed = Changed { letter, change };
+        let mut histories = Histories::new(&changed, 7);
+        assert!((0..300).any(|_| histories.random_history().is_err()), "{letter}");
+    }
 }

@@ -22,12 +22,9 @@ slice-aggregate-list-with-4 c = search needs
 slice-aggregate-list-with-5 : tie.Need-slice-aggregate-list-with-5
 slice-aggregate-list-with-5 c = search needs
 
-slice-aggregate-list-with-6 : tie.Need-slice-aggregate-list-with-6
-slice-aggregate-list-with-6 c = search needs
-
 list-with-requires : tie.Need-list-with-requires
 list-with-requires c κs =
-    let pre = c .before .before .before .before .before .before .before .before .pre in
+    let pre = c .before .before .before .before .before .before .before .pre in
     let few = at-most-few _ (pre .0 .checked) in
     let rules = length-replicate {A = ℕ} 57600 0 in
     let bags = length-replicate {A = ℕ} 3840 0 in (
@@ -36,7 +33,7 @@ list-with-requires c κs =
         pre .1,
         (
           record { enablers-room = omega (arith, rules, few); starts-room = omega (arith, rules, few); finishes-room = omega (arith, rules, few) },
-          (omega (arith, bags), (omega (arith, rules, few), omega (arith, rules, few))),
+          (omega (arith, bags), omega (arith, rules, few)),
         ),
       ),
     )
@@ -56,7 +53,6 @@ list-large-spec =
     slice-aggregate-list-with-3
     slice-aggregate-list-with-4
     slice-aggregate-list-with-5
-    slice-aggregate-list-with-6
     list-with-requires
     same-length
     returns)

@@ -21,12 +21,9 @@ slice-aggregate-list-with-4 c = search needs
 slice-aggregate-list-with-5 : tie.Need-slice-aggregate-list-with-5
 slice-aggregate-list-with-5 c = search needs
 
-slice-aggregate-list-with-6 : tie.Need-slice-aggregate-list-with-6
-slice-aggregate-list-with-6 c = search needs
-
 list-with-requires : tie.Need-list-with-requires
 list-with-requires c κs =
-    let pre = c .before .before .before .before .before .before .before .before .pre in
+    let pre = c .before .before .before .before .before .before .before .pre in
     let few = pre .1 .0 in
     let rows = length-replicate {A = ℕ} 3840 0 in (
       pre .0,
@@ -34,7 +31,7 @@ list-with-requires c κs =
         pre .1 .1,
         (
           record { enablers-room = omega (arith, rows, few); starts-room = omega (arith, rows, few); finishes-room = omega (arith, rows, few) },
-          (omega (arith, rows), (omega (arith, rows, few), omega (arith, rows, few))),
+          (omega (arith, rows), omega (arith, rows, few)),
         ),
       ),
     )
@@ -54,7 +51,6 @@ list-small-spec =
     slice-aggregate-list-with-3
     slice-aggregate-list-with-4
     slice-aggregate-list-with-5
-    slice-aggregate-list-with-6
     list-with-requires
     same-length
     returns)

@@ -1,7 +1,7 @@
 -- No section past the closing one; the others are written.
 use Prim.Native.Nat.{ℕ, _*_, _≤_}
 use native.Mathlib.Omega.{arith}
-use mathlib.Core.Path.{_≡_}
+use mathlib.Core.Path.{_≡_, refl}
 use lib.ListN.{length}
 use Rattle.model.specs.Answer.{accepted}
 use Rattle.model.specs.Card.{Task}
@@ -15,9 +15,13 @@ use Rattle.listing.proofs.list_with.Statement.{statement}
 use Rattle.listing.proofs.list_with.Tie as tie
 
 -- a table with room for the most rules has room for those that there are
-moves-fit : (t : Task) (rules : ℕ) → checkTask t ≡ accepted tt → rules ≡ length (transitions t) → (room : ℕ)
-    → 60 * rulesAtMost t ≤ room → 60 * rules ≤ room
-moves-fit t rules ok e room h = omega (arith, rules-at-most t ok)
+moves-fit : (t : Task) (rules : ℕ) → checkTask t ≡ accepted tt → rules ≡ length (transitions t) → (before room : ℕ) → room ≡ before
+    → 60 * rulesAtMost t ≤ before → 60 * rules ≤ room
+moves-fit t rules ok e before room same h = omega (arith, rules-at-most t ok)
+
+-- what is given, from the call of `prepare`
+abbrev entry : tie.After-prepare → tie.Start
+entry c = c .before .before .before .before .before .before .before .before .before .before .before
 
 prepare-requires : tie.Need-prepare-requires
 prepare-requires c κs = search needs
@@ -36,19 +40,18 @@ same-length-4 c = search needs
 
 returns : tie.Need-returns
 returns c =
-    list-unknown _ _ _ _ (c .before .before .before .before .before .before .before .before .before .before .prepare .ensures .spaces-are)
-    (c .before .before .before .before .before .before .before .before .before .before .before .before .before .before .before .before .before .before
-    .before .before .before .before .pre .1 .0) (c .if1 .taken)
+    let called = c .before .before .before .before .before .before .before .before .before .before in
+    list-unknown _ _ _ _ (called .prepare .ensures .spaces-are) (entry called .pre .1 .0) (c .if1 .taken)
 
 write-section-requires : tie.Need-write-section-requires
 write-section-requires c κs =
     let tested = c .before .before .before .before .before .before in
     let called = tested .before .before .before .before .before .before .before .before .before .before in
-    let pre = called .before .before .before .before .before .before .before .before .before .before .before .before .pre in
+    let pre = entry called .pre in
     let given = called .prepare .ensures in
-    let room = pre .1 .1 .1 .1 in
     let fit = moves-fit _ _ (pre .0 .checked) (given .rules-counted) in
-    (pre .0, (given, ((tested .if1 .left, pre .1 .0), (fit _ (room .0), fit _ (room .1)))))
+    let room = pre .1 .1 in
+    (pre .0, (given, ((tested .if1 .left, pre .1 .0), (fit _ _ (called .prepare .kept .1 .0) (room .0 .enablers-room), fit _ _ refl (room .1 .1)))))
 
 same-length-5 : tie.Need-same-length-5
 same-length-5 c = search needs
@@ -68,17 +71,12 @@ same-length-9 c = search needs
 same-length-10 : tie.Need-same-length-10
 same-length-10 c = search needs
 
-same-length-11 : tie.Need-same-length-11
-same-length-11 c = search needs
-
 returns-2 : tie.Need-returns-2
 returns-2 c =
-    list-written _ _ _ _ (c .before .before .before .before .before .before .before .before .before .before .before .before .before .before .before
-    .before .before .before .before .before .before .before .before .prepare .ensures .spaces-are)
-    (c .before .before .before .before .before .before .before .before .before .before .before .before .before .before .before .before .before
-    .before .before .before .before .before .before .before .before .before .before .before .before .before .before .before .before .before
-    .before .pre .1 .0) (c .before .before .before .before .before .before .before .before .before .before .before .before .before .if1 .left) _ _
-    (c .before .before .before .before .before .before .write-section .ensures)
+    let written = c .before .before .before .before .before .before in
+    let tested = written .before .before .before .before .before .before .before in
+    let called = tested .before .before .before .before .before .before .before .before .before .before in
+    list-written _ _ _ _ (called .prepare .ensures .spaces-are) (entry called .pre .1 .0) (tested .if1 .left) _ _ (written .write-section .ensures)
 
 pub list-with-spec : {M : Type 1} → statement M
 list-with-spec =
@@ -97,5 +95,4 @@ list-with-spec =
     same-length-8
     same-length-9
     same-length-10
-    same-length-11
     returns-2)

@@ -1,6 +1,8 @@
-//! Side-by-side timing of the proved library and the reference: medians of repeated runs, and their ratio.
+//! What the proved library and the reference cost, side by side: medians of repeated runs, and instructions where valgrind is
+//! installed. Closes with the means of each kind of call and whether they meet their targets.
 //!
-//!     bench [SECONDS]      the least time that each median is taken over, 0.3 if not given; at least five runs
+//!     bench [SECONDS]             the least time that each median is taken over, 0.3 if not given; at least five runs
+//!     bench --work ROW SIDE N     does the work of one row N times on one side, for the instructions to be counted
 
 use reference::examples;
 use reference::proved::{Calls, Proved, Reference};
@@ -8,43 +10,105 @@ use reference::random::Random;
 use reference::strips::{FACT_LEN, STATE_LEN};
 use reference::vectors::{extremes, histories, listings, K1};
 use std::hint::black_box;
+use std::process::Command;
 use std::time::{Duration, Instant};
 
 fn main() {
-    let seconds = std::env::args().nth(1).map_or(0.3, |text| text.parse().expect("a number of seconds"));
-    let mut bench = Bench { least: Duration::from_secs_f64(seconds), ratios: Vec::new() };
+    let words: Vec<String> = std::env::args().skip(1).collect();
+    match words.iter().map(String::as_str).collect::<Vec<_>>()[..] {
+        ["--work", row, side, times] => work(row, side, times),
+        [] => table(0.3),
+        [seconds] => table(seconds.parse().expect("a number of seconds")),
+        _ => panic!("bench [SECONDS]"),
+    }
+}
 
-    bench.heading("K1");
-    bench.check("decode", &[K1.to_vec()]);
-    bench.presses("press, four in a ring", &K1, &[(0, vec![0]), (1, vec![0, 2, 3]), (0, vec![0]), (1, vec![0, 3, 2])]);
-    bench.listing("listing, by sections", &[K1.to_vec()]);
+const SIDES: [&dyn Calls; 2] = [&Reference, &Proved];
 
-    bench.heading("listings.txt and presses.txt, all blocks");
-    let cards: Vec<Vec<u8>> = listings().into_iter().map(|listing| listing.card).collect();
-    bench.check("decode, 800 cards", &cards);
-    bench.histories("press, 400 histories");
-    bench.listing("listing, 800 cards", &cards);
+fn work(row: &str, side: &str, times: &str) {
+    let [row, side, times] = [row, side, times].map(|word| word.parse::<usize>().expect("a number"));
+    let mut work = (rows()[row].prepare)().expect("a row with work");
+    (0..times).for_each(|_| work(SIDES[side]));
+}
+
+// The rows.
+
+#[derive(Clone, Copy, PartialEq)]
+enum Kind {
+    Decode,
+    Press,
+    Listing,
+}
+
+/// The work of a row, done once on one side.
+type Work = Box<dyn FnMut(&dyn Calls)>;
+
+struct Row {
+    group: String,
+    name: String,
+    kind: Kind,
+    /// Whether the row counts in the means; the rows that show growth do not.
+    counts: bool,
+    /// Makes the work ready; none if there is nothing to do.
+    prepare: Box<dyn Fn() -> Option<Work>>,
+}
+
+fn rows() -> Vec<Row> {
+    let mut rows = Rows { rows: Vec::new(), group: String::new(), counts: true };
+
+    rows.group("K1");
+    rows.row("decode", Kind::Decode, || Some(decode(vec![K1.to_vec()])));
+    rows.row("press, four in a ring", Kind::Press, || Some(ring()));
+    rows.row("listing, all sections", Kind::Listing, || Some(listing(vec![K1.to_vec()])));
+
+    rows.group("listings.txt and presses.txt");
+    let cards = || listings().into_iter().map(|listing| listing.card).collect();
+    rows.row("decode, 800 cards", Kind::Decode, move || Some(decode(cards())));
+    rows.row("press, 400 histories", Kind::Press, || Some(stored_histories()));
+    rows.row("listing, 800 cards", Kind::Listing, move || Some(listing(cards())));
 
     for extreme in extremes() {
-        bench.heading(&extreme.name);
-        let card = extreme.card;
-        bench.check("decode", std::slice::from_ref(&card));
-        bench.allowed_press("press", &card);
-        bench.listing("listing, by sections", &[card]);
+        rows.group(&extreme.name);
+        rows.card("", extreme.card);
     }
-    bench.geometric_mean();
 
-    bench.heading("growth with schemas (20 predicates, 3 objects, 20 facts)");
+    rows.counts = false;
+    rows.group("growth with schemas (20 predicates, 3 objects, 20 facts)");
     for schemas in [1, 2, 4, 8, 16, 32] {
-        bench.family(&format!("{schemas} schemas"), &family(schemas, 3, 20));
+        rows.card(&format!("{schemas} schemas, "), family(schemas, 3, 20));
     }
-    bench.heading("growth with objects (20 predicates, 10 schemas, 20 facts)");
+    rows.group("growth with objects (20 predicates, 10 schemas, 20 facts)");
     for objects in [3, 8, 16, 32, 64] {
-        bench.family(&format!("{objects} objects"), &family(10, objects, 20));
+        rows.card(&format!("{objects} objects, "), family(10, objects, 20));
     }
-    bench.heading("growth with facts (20 predicates, 10 schemas, 64 objects)");
+    rows.group("growth with facts (20 predicates, 10 schemas, 64 objects)");
     for facts in [20, 40, 80, 160, 320, 512] {
-        bench.family(&format!("{facts} facts"), &family(10, 64, facts));
+        rows.card(&format!("{facts} facts, "), family(10, 64, facts));
+    }
+    rows.rows
+}
+
+struct Rows {
+    rows: Vec<Row>,
+    group: String,
+    counts: bool,
+}
+
+impl Rows {
+    fn group(&mut self, group: &str) {
+        self.group = group.to_string();
+    }
+
+    fn row(&mut self, name: &str, kind: Kind, prepare: impl Fn() -> Option<Work> + 'static) {
+        self.rows.push(Row { group: self.group.clone(), name: name.to_string(), kind, counts: self.counts, prepare: Box::new(prepare) });
+    }
+
+    /// The three rows of one card.
+    fn card(&mut self, which: &str, card: Vec<u8>) {
+        let [first, second, third] = [card.clone(), card.clone(), card];
+        self.row(&format!("{which}decode"), Kind::Decode, move || Some(decode(vec![first.clone()])));
+        self.row(&format!("{which}press"), Kind::Press, move || allowed_press(&second));
+        self.row(&format!("{which}listing"), Kind::Listing, move || Some(listing(vec![third.clone()])));
     }
 }
 
@@ -69,111 +133,172 @@ fn family(schemas: usize, objects: usize, facts: usize) -> Vec<u8> {
     examples::card(&text).expect("the family is within a card's bounds")
 }
 
-struct Bench {
-    least: Duration,
-    ratios: Vec<f64>,
+// The work.
+
+fn decode(cards: Vec<Vec<u8>>) -> Work {
+    Box::new(move |calls| {
+        for card in &cards {
+            let _ = black_box(calls.check(black_box(card)));
+        }
+    })
 }
 
-impl Bench {
-    fn heading(&self, title: &str) {
-        println!("\n{title}");
-        println!("  {:<28}{:>14}{:>14}{:>9}", "", "reference", "proved", "ratio");
-    }
-
-    fn check(&mut self, name: &str, cards: &[Vec<u8>]) {
-        self.row(name, |calls| {
-            for card in cards {
-                let _ = black_box(calls.check(black_box(card)));
-            }
-        });
-    }
-
-    /// All sections of each card, one call a section.
-    fn listing(&mut self, name: &str, cards: &[Vec<u8>]) {
-        let mut out = vec![0; reference::card::OUTPUT_LEN];
-        self.row(name, |calls| {
-            for card in cards {
-                let mut number = 0;
-                while calls.section(black_box(card), number, &mut out).is_ok() {
-                    number += 1;
-                }
-            }
-        });
-    }
-
-    /// The opening call and then the presses, all of which are accepted and bring the opening state back.
-    fn presses(&mut self, name: &str, card: &[u8], presses: &[(usize, Vec<u8>)]) {
-        let mut state = vec![0; STATE_LEN];
-        let mut count = Reference.initial(card, &mut state).expect("the card is accepted");
-        self.row(name, |calls| {
-            for (schema, objects) in presses {
-                count = calls.press(black_box(card), &mut state, count, *schema, objects).expect("the press is accepted");
-            }
-        });
-    }
-
-    /// All stored histories: the opening call and every press of each.
-    fn histories(&mut self, name: &str) {
-        let histories = histories();
-        let mut state = vec![0; STATE_LEN];
-        self.row(name, |calls| {
-            for history in &histories {
-                let mut count = calls.initial(&history.card, &mut state).expect("the card is accepted");
-                for press in &history.presses {
-                    count = calls.press(&history.card, &mut state, count, press.schema, &press.objects).unwrap_or(count);
-                }
-            }
-        });
-    }
-
-    /// A press that the opening state allows, if one is found; the state is put back each time.
-    fn allowed_press(&mut self, name: &str, card: &[u8]) {
-        let task = reference::decode(card).expect("the card is accepted");
-        let mut opening = vec![0; STATE_LEN];
-        let count = Reference.initial(card, &mut opening).expect("the card is accepted");
-        let mut random = Random::new(1);
-        let mut state = opening.clone();
-        for _ in 0..2_000 {
-            let press = random.press(&task, &opening[..count * FACT_LEN]);
-            if Reference.press(card, &mut state, count, press.schema, &press.objects).is_ok() {
-                self.row(name, |calls| {
-                    state.copy_from_slice(&opening);
-                    let _ = black_box(calls.press(black_box(card), &mut state, count, press.schema, &press.objects));
-                });
-                return;
+/// All sections of each card, one call a section.
+fn listing(cards: Vec<Vec<u8>>) -> Work {
+    let mut out = vec![0; reference::card::OUTPUT_LEN];
+    Box::new(move |calls| {
+        for card in &cards {
+            let mut number = 0;
+            while calls.section(black_box(card), number, &mut out).is_ok() {
+                number += 1;
             }
         }
-        println!("  {name:<28}{:>14}", "none allowed");
-    }
+    })
+}
 
-    fn family(&mut self, name: &str, card: &[u8]) {
-        let card = card.to_vec();
-        self.check(&format!("{name}, decode"), std::slice::from_ref(&card));
-        self.allowed_press(&format!("{name}, press"), &card);
-        self.listing(&format!("{name}, listing"), &[card]);
-    }
+/// Four presses of K1 that bring the opening state back.
+fn ring() -> Work {
+    let presses: [(usize, &[u8]); 4] = [(0, &[0]), (1, &[0, 2, 3]), (0, &[0]), (1, &[0, 3, 2])];
+    let mut state = vec![0; STATE_LEN];
+    let mut count = Reference.initial(&K1, &mut state).expect("the card is accepted");
+    Box::new(move |calls| {
+        for (schema, objects) in presses {
+            count = calls.press(black_box(&K1), &mut state, count, schema, objects).expect("the press is accepted");
+        }
+    })
+}
 
-    /// Times the two in turn, so that whatever else the machine does meets both.
-    fn row(&mut self, name: &str, mut work: impl FnMut(&dyn Calls)) {
-        let sides: [&dyn Calls; 2] = [&Reference, &Proved];
-        let batches = sides.map(|calls| (0.001 / time(1, &mut || work(calls)).max(1e-9)).clamp(1.0, 1e6) as u32);
-        let mut times = [Vec::new(), Vec::new()];
-        let started = Instant::now();
-        while times[0].len() < 5 || started.elapsed() < self.least * 2 {
-            for side in 0..2 {
-                times[side].push(time(batches[side], &mut || work(sides[side])));
+/// The opening call and every press of each stored history.
+fn stored_histories() -> Work {
+    let histories = histories();
+    let mut state = vec![0; STATE_LEN];
+    Box::new(move |calls| {
+        for history in &histories {
+            let mut count = calls.initial(&history.card, &mut state).expect("the card is accepted");
+            for press in &history.presses {
+                count = calls.press(&history.card, &mut state, count, press.schema, &press.objects).unwrap_or(count);
             }
         }
-        let [reference, proved] = times.map(median);
-        let ratio = proved / reference;
-        self.ratios.push(ratio);
-        println!("  {name:<28}{:>14}{:>14}{ratio:>9.2}", duration(reference), duration(proved));
-    }
+    })
+}
 
-    fn geometric_mean(&self) {
-        let mean = (self.ratios.iter().map(|ratio| ratio.ln()).sum::<f64>() / self.ratios.len() as f64).exp();
-        println!("\ngeometric mean of the {} ratios proved/reference: {mean:.2}", self.ratios.len());
+/// A press that the opening state allows, if one is found; the state is put back each time.
+fn allowed_press(card: &[u8]) -> Option<Work> {
+    let card = card.to_vec();
+    let task = reference::decode(&card).expect("the card is accepted");
+    let mut opening = vec![0; STATE_LEN];
+    let count = Reference.initial(&card, &mut opening).expect("the card is accepted");
+    let mut state = opening.clone();
+    let mut random = Random::new(1);
+    let press = (0..2_000).map(|_| random.press(&task, &opening[..count * FACT_LEN])).find(|press| {
+        state.copy_from_slice(&opening);
+        Reference.press(&card, &mut state, count, press.schema, &press.objects).is_ok()
+    })?;
+    Some(Box::new(move |calls| {
+        state.copy_from_slice(&opening);
+        let _ = black_box(calls.press(black_box(&card), &mut state, count, press.schema, &press.objects));
+    }))
+}
+
+// The table.
+
+/// What a row costs: reference, then proved.
+struct Cost {
+    seconds: [f64; 2],
+    instructions: Option<[f64; 2]>,
+}
+
+fn table(seconds: f64) {
+    let least = Duration::from_secs_f64(seconds);
+    let counting = Command::new("valgrind").arg("--version").output().is_ok();
+    if !counting {
+        println!("valgrind is not installed, so no instructions are counted");
     }
+    let heads = columns("reference", "proved", "ratio");
+    if counting {
+        println!("{:<26}{:>18}{:>36}\n{:<26}{heads}{heads}", "", "time", "instructions", "");
+    } else {
+        println!("{:<26}{heads}", "");
+    }
+    let rows = rows();
+    let mut costs = Vec::new();
+    let mut group = "";
+    for (number, row) in rows.iter().enumerate() {
+        if row.group != group {
+            group = &row.group;
+            println!("{group}");
+        }
+        let Some(mut work) = (row.prepare)() else {
+            println!("  {:<24}{:>13}", row.name, "none allowed");
+            continue;
+        };
+        let seconds = times(&mut work, least);
+        let instructions = if counting { instructions(number, seconds) } else { None };
+        let counts = instructions.map_or(String::new(), |counts| shown(counts, in_thousands));
+        println!("  {:<24}{}{counts}", row.name, shown(seconds, duration));
+        costs.push((row, Cost { seconds, instructions }));
+    }
+    means(&costs);
+}
+
+fn columns(one: &str, other: &str, ratio: &str) -> String {
+    format!("{one:>13}{other:>12}{ratio:>7}")
+}
+
+fn shown(pair: [f64; 2], show: fn(f64) -> String) -> String {
+    columns(&show(pair[0]), &show(pair[1]), &format!("{:.2}", ratio(pair)))
+}
+
+fn ratio(pair: [f64; 2]) -> f64 {
+    pair[1] / pair[0]
+}
+
+/// The rows that a mean is taken over.
+type Choice = fn(&Row) -> bool;
+
+const MEANS: [(&str, Choice); 4] = [
+    ("decode", |row| row.counts && row.kind == Kind::Decode),
+    ("press", |row| row.counts && row.kind == Kind::Press),
+    ("listing", |row| row.counts && row.kind == Kind::Listing),
+    ("listing of slow", |row| row.group == "slow" && row.kind == Kind::Listing),
+];
+
+/// The geometric means of the ratios, the highest ratios, and whether the mean of the times is at most 1.
+fn means(costs: &[(&Row, Cost)]) {
+    println!("ratios proved/reference without the growth rows; the target is a mean of times of at most 1.00");
+    println!("{:<26}{:>10}{:>10}{:>14}{:>10}  target", "", "time", "highest", "instructions", "highest");
+    for (name, chosen) in MEANS {
+        let costs = costs.iter().filter(|(row, _)| chosen(row)).map(|(_, cost)| cost);
+        let times: Vec<f64> = costs.clone().map(|cost| ratio(cost.seconds)).collect();
+        let counts: Vec<f64> = costs.filter_map(|cost| cost.instructions.map(ratio)).collect();
+        let verdict = if geometric_mean(&times) <= 1.0 { "met" } else { "missed" };
+        let [time, highest] = mean_and_highest(&times);
+        let [count, most] = mean_and_highest(&counts);
+        println!("  {name:<24}{time:>10}{highest:>10}{count:>14}{most:>10}  {verdict}");
+    }
+}
+
+fn mean_and_highest(ratios: &[f64]) -> [String; 2] {
+    let highest = ratios.iter().copied().fold(0.0, f64::max);
+    let show = |ratio: f64| if ratios.is_empty() { String::new() } else { format!("{ratio:.2}") };
+    [show(geometric_mean(ratios)), show(highest)]
+}
+
+fn geometric_mean(ratios: &[f64]) -> f64 {
+    (ratios.iter().map(|ratio| ratio.ln()).sum::<f64>() / ratios.len() as f64).exp()
+}
+
+/// The medians. The two are timed in turn, so that whatever else the machine does meets both.
+fn times(work: &mut Work, least: Duration) -> [f64; 2] {
+    let batches = SIDES.map(|calls| (0.001 / time(1, &mut || work(calls)).max(1e-9)).clamp(1.0, 1e6) as u32);
+    let mut times = [Vec::new(), Vec::new()];
+    let started = Instant::now();
+    while times[0].len() < 5 || started.elapsed() < least * 2 {
+        for side in 0..2 {
+            times[side].push(time(batches[side], &mut || work(SIDES[side])));
+        }
+    }
+    times.map(median)
 }
 
 fn median(mut times: Vec<f64>) -> f64 {
@@ -188,11 +313,45 @@ fn time(batch: u32, run: &mut impl FnMut()) -> f64 {
     started.elapsed().as_secs_f64() / f64::from(batch)
 }
 
+/// A run that takes longer than this is not counted: its time is steady, and counting it takes minutes.
+const LONGEST_COUNTED: f64 = 0.1;
+
+/// Instructions of one run: those of some runs more, shared among them. None if the run is long or valgrind does not say.
+fn instructions(row: usize, seconds: [f64; 2]) -> Option<[f64; 2]> {
+    if seconds[0].max(seconds[1]) > LONGEST_COUNTED {
+        return None;
+    }
+    let more = (0.001 / seconds[0]).clamp(1.0, 1_000.0) as u64;
+    let count = |side| Some((counted(row, side, 1 + more)? - counted(row, side, 1)?) as f64 / more as f64);
+    Some([count(0)?, count(1)?])
+}
+
+/// The instructions of a process that does the work of a row so many times.
+fn counted(row: usize, side: usize, times: u64) -> Option<i64> {
+    let mut valgrind = Command::new("valgrind");
+    // The C library copies and clears by loops that are counted by step, not by `rep`, which would be counted by byte.
+    valgrind.env("GLIBC_TUNABLES", "glibc.cpu.x86_rep_movsb_threshold=1000000000:glibc.cpu.x86_rep_stosb_threshold=1000000000");
+    valgrind.args(["--tool=cachegrind", "--cache-sim=no", "--cachegrind-out-file=/dev/null"]);
+    valgrind.arg(std::env::current_exe().ok()?).arg("--work").args([row.to_string(), side.to_string(), times.to_string()]);
+    let said = String::from_utf8(valgrind.output().ok()?.stderr).ok()?;
+    let (_, number) = said.lines().find_map(|line| line.split_once("refs:").filter(|(before, _)| before.contains(" I ")))?;
+    number.trim().replace(',', "").parse().ok()
+}
+
 fn duration(seconds: f64) -> String {
     match seconds {
         s if s < 1e-6 => format!("{:.0} ns", s * 1e9),
         s if s < 1e-3 => format!("{:.2} us", s * 1e6),
         s if s < 1.0 => format!("{:.2} ms", s * 1e3),
         s => format!("{s:.2} s"),
+    }
+}
+
+fn in_thousands(number: f64) -> String {
+    match number {
+        n if n < 1e4 => format!("{n:.0}"),
+        n if n < 1e6 => format!("{:.1} k", n / 1e3),
+        n if n < 1e9 => format!("{:.2} M", n / 1e6),
+        n => format!("{:.2} G", n / 1e9),
     }
 }

@@ -1,0 +1,112 @@
+//! What a run has met: how often each call gave each answer, and how often each named case came up,
+//! so that a run which left something out is told from one that passed.
+
+use std::collections::BTreeMap;
+use std::fmt;
+
+/// The calls that both implementations have.
+#[derive(Clone, Copy, Debug, PartialEq, Eq, PartialOrd, Ord)]
+pub enum Call {
+    Check,
+    Initial,
+    Rewrite,
+    Section,
+    Press,
+}
+
+impl Call {
+    /// The answers that document 01 gives this call: 0 for an accepted call, and the numbers of its refusals.
+    pub fn answers(self) -> Vec<u8> {
+        let (last, more): (u8, &[u8]) = match self {
+            Call::Check => (14, &[]),
+            Call::Initial => (15, &[]),
+            Call::Rewrite => (14, &[21]),
+            Call::Section => (14, &[21, 22]),
+            Call::Press => (20, &[]),
+        };
+        (0..=last).chain(more.iter().copied()).collect()
+    }
+
+    fn name(self) -> &'static str {
+        match self {
+            Call::Check => "check",
+            Call::Initial => "initial",
+            Call::Rewrite => "rewrite",
+            Call::Section => "section",
+            Call::Press => "press",
+        }
+    }
+}
+
+/// Every answer of these calls.
+pub fn every_answer(calls: &[Call]) -> Vec<(Call, u8)> {
+    calls.iter().flat_map(|&call| call.answers().into_iter().map(move |answer| (call, answer))).collect()
+}
+
+/// A group of cases and the name of one of them.
+pub type Case = (&'static str, &'static str);
+
+pub const SPACES: [Case; 5] = [("space", "S"), ("space", "A"), ("space", "P"), ("space", "M"), ("space", "W")];
+
+pub const LINES: [Case; 8] =
+    [("line", "S"), ("line", "T"), ("line", "M"), ("line", "D"), ("line", "X"), ("line", "F"), ("line", "C"), ("line", "R")];
+
+#[derive(Clone, Debug, Default)]
+pub struct Met {
+    answers: BTreeMap<(Call, u8), usize>,
+    cases: BTreeMap<Case, usize>,
+}
+
+impl Met {
+    pub fn answer(&mut self, call: Call, answer: Result<usize, u8>) {
+        *self.answers.entry((call, answer.err().unwrap_or(0))).or_default() += 1;
+    }
+
+    pub fn case(&mut self, case: Case) {
+        *self.cases.entry(case).or_default() += 1;
+    }
+
+    /// The lines of a listing by their letters, and its spaces by their kinds.
+    pub fn lines(&mut self, text: &str) {
+        for line in text.lines() {
+            let mut words = line.split(' ');
+            let (letter, kind) = (words.next(), words.nth(1));
+            LINES.into_iter().filter(|line| Some(line.1) == letter).for_each(|line| self.case(line));
+            if letter == Some("S") {
+                SPACES.into_iter().filter(|space| Some(space.1) == kind).for_each(|space| self.case(space));
+            }
+        }
+    }
+
+    pub fn calls(&self) -> usize {
+        self.answers.values().sum()
+    }
+
+    /// What never came up of these answers and cases.
+    pub fn missing(&self, answers: &[(Call, u8)], cases: &[Case]) -> Vec<String> {
+        let answers =
+            answers.iter().filter(|&key| !self.answers.contains_key(key)).map(|(call, answer)| format!("{} {answer}", call.name()));
+        let cases = cases.iter().filter(|&case| !self.cases.contains_key(case)).map(|(group, name)| format!("{group} {name}"));
+        answers.chain(cases).collect()
+    }
+}
+
+/// A line for each call and for each group of cases.
+impl fmt::Display for Met {
+    fn fmt(&self, f: &mut fmt::Formatter) -> fmt::Result {
+        let accepted = |answer: u8| if answer == 0 { "accepted".to_string() } else { answer.to_string() };
+        let answers = self.answers.iter().map(|(&(call, answer), times)| (call.name(), accepted(answer), times));
+        let cases = self.cases.iter().map(|(&(group, name), times)| (group, name.to_string(), times));
+        let mut before = None;
+        for (group, name, times) in answers.chain(cases) {
+            match before {
+                Some(same) if same == group => write!(f, ", ")?,
+                Some(_) => write!(f, "\n  {group}: ")?,
+                None => write!(f, "  {group}: ")?,
+            }
+            write!(f, "{name} {times}")?;
+            before = Some(group);
+        }
+        Ok(())
+    }
+}
