@@ -86,7 +86,7 @@ fn answer(number: i32) -> Result<usize, u8> {
     }
 }
 
-// Each call hands over slices that live until it returns, the changed one borrowed for it alone.
+// Each call passes slices that live until it returns, the changed one borrowed for it alone.
 #[cfg(feature = "proved")]
 impl Calls for Proved {
     fn check(&self, card: &[u8]) -> Result<(), u8> {
