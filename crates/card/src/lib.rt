@@ -1,6 +1,7 @@
 // A planning task as a card describes it, and the reader's refusals. What each stands for is in specs/Represents.antt.
+ghost use mathlib.Core.List.{[]};
 ghost use mathlib.Core.Path.{_≡_};
-ghost use Rattle.card.specs.Represents.{refusalNumber};
+ghost use Rattle.card.specs.Represents.{refusalNumber, blankAtom, atomsFor, aritiesFor, factsFor};
 
 // A predicate with up to three arguments; those past the predicate's arity are no part of it.
 pub struct Atom {
@@ -96,4 +97,45 @@ pub enum Verdict {
 pub struct Decoded {
     pub verdict: Verdict,
     pub task: Task,
+}
+
+// The blank atom, and blank lists: a count of 0, and every entry 0. They stand beside a refusal, where an answer is due whole.
+fn no_atom() -> Atom
+    ensures { λ r. ⌜ r ≡ blankAtom ⌝ }
+{
+    Atom {
+        predicate: 0,
+        first: 0,
+        second: 0,
+        third: 0,
+    }
+}
+
+pub fn no_atoms() -> AtomList
+    ensures { λ r. ⌜ r ≡ atomsFor [] ⌝ }
+{
+    let blank = no_atom();
+    AtomList {
+        count: 0,
+        atoms: [blank; 8],
+    }
+}
+
+pub fn no_arities() -> ArityList
+    ensures { λ r. ⌜ r ≡ aritiesFor [] ⌝ }
+{
+    ArityList {
+        count: 0,
+        arities: [0; 20],
+    }
+}
+
+pub fn no_facts() -> FactList
+    ensures { λ r. ⌜ r ≡ factsFor [] ⌝ }
+{
+    let blank = no_atom();
+    FactList {
+        count: 0,
+        facts: [blank; 512],
+    }
 }

@@ -1,18 +1,15 @@
 // The closing section of a listing: all `F`, all `C` and all `R` lines. Document 01, "Listing".
-pub mod ceilings;
-pub mod totals;
-pub mod typing;
+mod ceilings;
+mod totals;
+mod typing;
 
 use card::Task;
 use ceilings::write_ceilings;
 use spaces::Spaces;
 use totals::write_totals;
 use typing::write_type_lines;
-ghost use mathlib.Core.Path.{_≡_};
-ghost use mathlib.Core.List.{_++_, flatMap};
 ghost use Prim.Native.Nat.{_≤_};
 ghost use lib.ListN.{length};
-ghost use Rattle.laws.specs.Lists.{upTo};
 ghost use Rattle.model.specs.Lines.{analysis, totals, ceilings, closingLines};
 ghost use Rattle.model.specs.Text.{text};
 ghost use Rattle.card.specs.Represents.{taskOf, Represented};

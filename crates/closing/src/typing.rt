@@ -6,7 +6,7 @@ use card::Task;
 use rules::bag_of_parameter;
 use rules::numbered;
 use spaces::Spaces;
-use spaces::members::enabled;
+use spaces::enabling::enabled;
 use text::lists::write_types;
 ghost use mathlib.Core.Path.{_≡_};
 ghost use Prim.Native.Nat.{ℕ, _≤_, _<_};

@@ -19,7 +19,7 @@ use Rattle.card.specs.declared.Verdict.the-variants.{Accepted}
 use Rattle.card.specs.Represents.{refusalNumber, aritiesOf, aritiesFor, schemasOf, schemasFor, factsOf, factsFor, padded}
 use Rattle.card.specs.Represents.{taskOf, taskFor, answerOf, taskBeside, Decodes}
 use Rattle.reader_atoms.specs.Atoms.{inRange}
-use Rattle.reader_atoms.proofs.Answers.{goes, halts, passes, fails, regroup, differ, byteThat-held}
+use Rattle.reader_bytes.proofs.Answers.{goes, halts, passes, fails, regroup, differ, byteThat-held}
 use Rattle.reader_atoms.proofs.Many.{many-all}
 use Rattle.reader_lists.specs.declared.FactsRead.{FactsRead}
 use Rattle.reader_lists.specs.ListReads.{FactsReads}

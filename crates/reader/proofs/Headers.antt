@@ -7,7 +7,7 @@ use mathlib.Core.Path.{_≡_, ap, sym, _∙_, fun-ext}
 use lib.Dec.{leb, ltb, eqb, leb·zero}
 use Rattle.model.specs.Answer.{refused, accepted}
 use Rattle.model.specs.Card.{roleCount, byteThat, between, bit, schema}
-use Rattle.reader_atoms.proofs.Answers.{goes, halts}
+use Rattle.reader_bytes.proofs.Answers.{goes, halts}
 use Rattle.reader.specs.Parts.{schemaLists}
 
 module _ (present : Bool) (s : List ℕ) where

@@ -8,9 +8,9 @@ use Rattle.model.specs.Card as model
 use Rattle.card.specs.declared.Schema.{Schema}
 use Rattle.card.specs.declared.SchemaList.{SchemaList}
 use Rattle.card.specs.Represents.{padded, schemaOf, schemaFor, blankSchema, schemasOf, schemasFor}
-use Rattle.reader_atoms.specs.declared.Step.the-variants.{At}
-use Rattle.reader_atoms.specs.Reads.{Reads}
-use Rattle.reader_atoms.proofs.Reading.{accepts}
+use Rattle.reader_bytes.specs.declared.Step.the-variants.{At}
+use Rattle.reader_bytes.specs.Reads.{Reads}
+use Rattle.reader_bytes.proofs.Reading.{accepts}
 use Rattle.reader_atoms.proofs.Filling.{Filling, filling-ends, filled, filled-count}
 
 pub blank-schemas : {l : SchemaList} → l ≡ schemasFor [] → l .schemas ≡ replicate 32 blankSchema

@@ -12,15 +12,15 @@ use Rattle.card.specs.declared.AtomList.{AtomList}
 use Rattle.card.specs.declared.Schema.{Schema}
 use Rattle.card.specs.declared.Refusal.{Refusal}
 use Rattle.card.specs.Represents.{refusalNumber, atomsOf, atomsFor, schemaOf, schemaFor}
-use Rattle.reader_atoms.specs.declared.Cursor.{Cursor}
-use Rattle.reader_atoms.specs.declared.Step.{Step}
-use Rattle.reader_atoms.specs.declared.Step.the-variants.{At}
+use Rattle.reader_bytes.specs.declared.Cursor.{Cursor}
+use Rattle.reader_bytes.specs.declared.Step.{Step}
+use Rattle.reader_bytes.specs.declared.Step.the-variants.{At}
 use Rattle.reader_atoms.specs.declared.Section.the-variants.{Preconditions, Deletes, Adds}
-use Rattle.reader_atoms.specs.Reads.{Reads}
+use Rattle.reader_bytes.specs.Reads.{Reads}
 use Rattle.reader_atoms.specs.Atoms.{sectionAtom, sectionTest, AtomsKept}
-use Rattle.reader_atoms.proofs.Answers.{goes, halts, value-of, differ, between-held}
+use Rattle.reader_bytes.proofs.Answers.{goes, halts, value-of, differ, between-held}
 use Rattle.reader_atoms.proofs.Many.{many-count}
-use Rattle.reader_atoms.proofs.Reading.{refuses, accepted-by, kept-as}
+use Rattle.reader_bytes.proofs.Reading.{refuses, accepted-by, kept-as}
 use Rattle.reader_lists.proofs.AtomLists.{list-absent, list-uncounted, list-counted}
 use Rattle.reader.specs.declared.SchemaRead.{SchemaRead}
 use Rattle.reader.specs.Parts.{schemaLists, schemaRefused, SchemaReads}

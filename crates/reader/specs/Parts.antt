@@ -11,8 +11,8 @@ use Rattle.card.specs.declared.Refusal.{Refusal}
 use Rattle.card.specs.declared.Verdict.the-variants.{Refused as NoTask}
 use Rattle.card.specs.declared.Decoded.{Decoded}
 use Rattle.card.specs.Represents.{schemaOf, schemaFor, blankSchema, schemasOf, schemasFor, blankTask}
-use Rattle.reader_atoms.specs.declared.Step.the-variants.{Refused}
-use Rattle.reader_atoms.specs.Reads.{Reads}
+use Rattle.reader_bytes.specs.declared.Step.the-variants.{Refused}
+use Rattle.reader_bytes.specs.Reads.{Reads}
 use Rattle.reader_lists.specs.declared.FactsRead.{FactsRead}
 use Rattle.reader_lists.specs.ListReads.{FactsReads}
 use Rattle.reader.specs.declared.SchemaRead.{SchemaRead}

@@ -5,12 +5,12 @@ use card::Schema;
 use card::SchemaList;
 use card::Task;
 use card::Verdict;
-use reader_atoms::ByteRead;
-use reader_atoms::Cursor;
 use reader_atoms::Section;
-use reader_atoms::Step;
+use reader_bytes::ByteRead;
+use reader_bytes::CountRead;
+use reader_bytes::Cursor;
+use reader_bytes::Step;
 use reader_lists::AritiesRead;
-use reader_lists::CountRead;
 use reader_lists::FactsRead;
 ghost use Prim.Native.Nat.{_≤_};
 ghost use mathlib.Core.Bool.{true};
@@ -20,7 +20,7 @@ ghost use lib.Dec.{ltb};
 ghost use lib.ListN.{length, drop};
 ghost use Rattle.card.specs.Represents.{blankSchema, schemasFor, Decodes};
 ghost use Rattle.model.specs.Card.{byteThat, roleCount, schema};
-ghost use Rattle.reader_atoms.specs.Reads.{ByteReads};
+ghost use Rattle.reader_bytes.specs.Reads.{ByteReads};
 ghost use Rattle.reader_atoms.specs.Atoms.{inRange};
 ghost use Rattle.reader_lists.specs.ListReads.{AritiesReads};
 ghost use Rattle.reader.specs.Parts.{SchemaReadAt, SchemasReadAt, FactsPartAt, schemaRefused, schemaLists, predicates, decodedRefused};
@@ -29,7 +29,7 @@ ghost use Rattle.reader.specs.Parts.{SchemaReadAt, SchemasReadAt, FactsP
 fn map_byte(card: &[u8], c: Cursor) -> ByteRead
     ensures { λ r. ⌜ ByteReads (now (card .entry)) (byteThat (λ b. ltb b 16) 5 (drop (c .at) (now (card .entry)))) r ⌝ }
 {
-    let read = reader_atoms::byte(card, c);
+    let read = reader_bytes::byte(card, c);
     let ByteRead::Byte(map, _) = read else {
         return read;
     };
@@ -47,7 +47,7 @@ fn role_count(card: &[u8], c: Cursor, present: bool) -> ByteRead
     if !present {
         return ByteRead::Byte(1, c);
     }
-    let read = reader_atoms::byte(card, c);
+    let read = reader_bytes::byte(card, c);
     let ByteRead::Byte(roles, _) = read else {
         return read;
     };
@@ -68,9 +68,9 @@ fn blank_schema() -> Schema
 {
     Schema {
         parameters: 0,
-        preconditions: reader_lists::no_atoms(),
-        deletes: reader_lists::no_atoms(),
-        adds: reader_lists::no_atoms(),
+        preconditions: card::no_atoms(),
+        deletes: card::no_atoms(),
+        adds: card::no_atoms(),
     }
 }
 
@@ -95,7 +95,7 @@ fn lists(card: &[u8], c: Cursor, arities: &[u8], map: u8, parameters: usize) -> 
         arities,
         parameters,
         Section::Preconditions,
-        reader_lists::no_atoms(),
+        card::no_atoms(),
     );
     let step = read.step;
     let Step::At(c) = step else {
@@ -142,7 +142,7 @@ fn lists(card: &[u8], c: Cursor, arities: &[u8], map: u8, parameters: usize) -> 
 }
 
 // A schema: its bit map, then only the fields whose bit stands.
-pub fn schema(card: &[u8], c: Cursor, arities: &[u8]) -> SchemaRead
+fn schema(card: &[u8], c: Cursor, arities: &[u8]) -> SchemaRead
     requires { ⌜ inRange (now arities) ≡ true ⌝ }
     ensures { λ r. ⌜ SchemaReadAt (now (arities .entry)) (schema (now (arities .entry))) (now (card .entry)) (c .at) r ⌝ }
 {
@@ -177,7 +177,7 @@ fn schemas(card: &[u8], c: Cursor, arities: &[u8]) -> SchemasRead
     ensures { λ r. ⌜ SchemasReadAt (now (arities .entry)) (now (card .entry)) (c .at) r ⌝ }
 {
     let mut list = no_schemas();
-    let counted = reader_atoms::byte_between(card, c, 0, 32, Refusal::SchemaRange);
+    let counted = reader_bytes::byte_between(card, c, 0, 32, Refusal::SchemaRange);
     let ByteRead::Byte(number, start) = counted else {
         return SchemasRead {
             step: Step::Refused(counted.refusal()),
@@ -212,7 +212,7 @@ fn schemas(card: &[u8], c: Cursor, arities: &[u8]) -> SchemasRead
 fn predicates(card: &[u8]) -> AritiesRead
     ensures { λ r. ⌜ AritiesReads (now (card .entry)) (predicates (now (card .entry))) r ⌝ }
 {
-    let counted = reader_atoms::byte_between(
+    let counted = reader_bytes::byte_between(
         card,
         Cursor { at: 0 },
         1,
@@ -222,7 +222,7 @@ fn predicates(card: &[u8]) -> AritiesRead
     let ByteRead::Byte(count, c) = counted else {
         return AritiesRead {
             step: Step::Refused(counted.refusal()),
-            list: reader_lists::no_arities(),
+            list: card::no_arities(),
         };
     };
     reader_lists::arities(card, c, count as usize)
@@ -233,11 +233,11 @@ fn facts(card: &[u8], c: Cursor, arities: &[u8], objects: usize) -> FactsRead
     requires { ⌜ inRange (now arities) ≡ true ⌝ }
     ensures { λ r. ⌜ FactsPartAt (now (arities .entry)) objects (now (card .entry)) (c .at) r ⌝ }
 {
-    let counted = reader_lists::fact_count(card, c);
+    let counted = reader_bytes::fact_count(card, c);
     let CountRead::Count(count, c) = counted else {
         return FactsRead {
             step: Step::Refused(counted.refusal()),
-            list: reader_lists::no_facts(),
+            list: card::no_facts(),
         };
     };
     reader_lists::facts(card, c, count, arities, objects)
@@ -249,10 +249,10 @@ fn refused(refusal: Refusal) -> Decoded
     Decoded {
         verdict: Verdict::Refused(refusal),
         task: Task {
-            predicates: reader_lists::no_arities(),
+            predicates: card::no_arities(),
             objects: 0,
             schemas: no_schemas(),
-            facts: reader_lists::no_facts(),
+            facts: card::no_facts(),
         },
     }
 }
@@ -269,7 +269,7 @@ pub fn decode(card: &[u8]) -> Decoded
     let predicates = read.list;
     let count = predicates.count;
     let arities = predicates.arities;
-    let counted = reader_atoms::byte_between(card, c, 1, 64, Refusal::ObjectRange);
+    let counted = reader_bytes::byte_between(card, c, 1, 64, Refusal::ObjectRange);
     let ByteRead::Byte(number, c) = counted else {
         return refused(counted.refusal());
     };

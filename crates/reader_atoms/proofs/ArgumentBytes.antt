@@ -13,14 +13,14 @@ use Rattle.model.specs.Card.{Reader, byteThat, atom, between}
 use Rattle.laws.specs.Lists.{all}
 use Rattle.card.specs.declared.Atom.{Atom}
 use Rattle.card.specs.Represents.{atomOf, atomFor, blankAtom}
-use Rattle.reader_atoms.specs.declared.Cursor.{Cursor}
-use Rattle.reader_atoms.specs.declared.Step.{Step}
-use Rattle.reader_atoms.specs.declared.Step.the-variants.{At, Refused}
-use Rattle.reader_atoms.specs.Reads.{Reads}
+use Rattle.reader_bytes.specs.declared.Cursor.{Cursor}
+use Rattle.reader_bytes.specs.declared.Step.{Step}
+use Rattle.reader_bytes.specs.declared.Step.the-variants.{At, Refused}
+use Rattle.reader_bytes.specs.Reads.{Reads}
 use Rattle.reader_atoms.specs.Atoms.{argumentBytes, argumentsOf, withArguments, placesOf, inRange}
-use Rattle.reader_atoms.proofs.Answers.{goes, halts}
+use Rattle.reader_bytes.proofs.Answers.{goes, halts}
 use Rattle.reader_atoms.proofs.Many.{many-stops, many-stops-later, many-more, many-none}
-use Rattle.reader_atoms.proofs.Reading.{accepts, refuses, accepted-by, within-card, kept-as, refused-by, blank-by}
+use Rattle.reader_bytes.proofs.Reading.{accepts, refuses, accepted-by, within-card, kept-as, refused-by, blank-by}
 
 -- a number that is not 0 is a successor
 pub as-suc : (n : ℕ) → 1 ≤ n → n ≡ suc (n - 1)

@@ -7,12 +7,12 @@ use Rattle.model.specs.Answer.{Answer, refused, accepted}
 use Rattle.card.specs.declared.Atom.{Atom}
 use Rattle.card.specs.declared.Refusal.{Refusal}
 use Rattle.card.specs.Represents.{refusalNumber, blankAtom}
-use Rattle.reader_atoms.specs.declared.Cursor.{Cursor}
+use Rattle.reader_bytes.specs.declared.Cursor.{Cursor}
 use Rattle.reader_atoms.specs.declared.AtomRead.{AtomRead}
 use Rattle.reader_atoms.specs.declared.AtomRead.the-variants.{Found, Refused as NoAtom}
-use Rattle.reader_atoms.specs.Reads.{Reads}
+use Rattle.reader_bytes.specs.Reads.{Reads}
 use Rattle.reader_atoms.specs.Atoms.{atomStep, atomIn, refusalOfAtom}
-use Rattle.reader_atoms.proofs.Reading.{refuses, accepted-by, within-card, kept-as, refused-by}
+use Rattle.reader_bytes.proofs.Reading.{refuses, accepted-by, within-card, kept-as, refused-by}
 
 module _
     {A : Type 0}

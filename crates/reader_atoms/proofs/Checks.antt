@@ -18,7 +18,7 @@ use Rattle.reader_atoms.specs.declared.Section.{Section}
 use Rattle.reader_atoms.specs.declared.Section.the-variants.{Preconditions, Deletes, Adds}
 use Rattle.reader_atoms.specs.Atoms.{previousOf, previousFor, aboveBytes, hasBytes, AtomsKept, PreviousKept}
 use Rattle.reader_atoms.specs.Atoms.{sectionTest, belongsBytes, sectionRefusal, sectionAtom}
-use Rattle.reader_atoms.proofs.Answers.{goes, halts, passes, fails}
+use Rattle.reader_bytes.proofs.Answers.{goes, halts, passes, fails}
 use Rattle.reader_atoms.proofs.Orders.{Kept, below-bytes, has-bytes}
 
 module _ (arities : List ℕ) (a : Atom) (ka : Kept arities a) where

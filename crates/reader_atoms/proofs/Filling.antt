@@ -10,7 +10,7 @@ use lib.Seq.{take-suc-set, drop-set-lt, drop-drop}
 use Rattle.model.specs.Answer.{Answer, refused, accepted, _>>=_}
 use Rattle.model.specs.Card.{Reader, many}
 use Rattle.card.specs.Represents.{padded}
-use Rattle.reader_atoms.proofs.Answers.{goes}
+use Rattle.reader_bytes.proofs.Answers.{goes}
 use Rattle.reader_atoms.proofs.Many.{many-stops}
 
 module _ {A : Type 0} where

@@ -1,5 +1,3 @@
-pub mod Answers
-pub mod Reading
 pub mod Many
 pub mod Filling
 pub mod ArgumentBytes

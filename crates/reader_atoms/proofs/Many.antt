@@ -8,7 +8,7 @@ use mathlib.Core.Path.{_≡_, refl, ap, ap₂, _∙_, sym}
 use Rattle.model.specs.Answer.{Answer, refused, accepted}
 use Rattle.model.specs.Card.{Reader, many}
 use Rattle.laws.specs.Lists.{all}
-use Rattle.reader_atoms.proofs.Answers.{goes, halts, value-of, differ}
+use Rattle.reader_bytes.proofs.Answers.{goes, halts, value-of, differ}
 
 module _ {A : Type 0} (read : Option A → Reader A) (previous : Option A) (n : ℕ) (s : List ℕ) where
   -- an item that is refused ends the reading

@@ -14,15 +14,15 @@ use Rattle.card.specs.declared.AtomList.{AtomList}
 use Rattle.card.specs.declared.Refusal.{Refusal}
 use Rattle.card.specs.declared.Refusal.the-variants.{CardEnds, AtomOrder, DeleteNotPrecondition, AddIsPrecondition}
 use Rattle.card.specs.Represents.{atomOf, atomFor, atomsOf, atomsFor, blankAtom, refusalNumber}
-use Rattle.reader_atoms.specs.declared.Step.{Step}
-use Rattle.reader_atoms.specs.declared.Step.the-variants.{At, Refused}
+use Rattle.reader_bytes.specs.declared.Step.{Step}
+use Rattle.reader_bytes.specs.declared.Step.the-variants.{At, Refused}
 use Rattle.reader_atoms.specs.declared.AtomRead.{AtomRead}
 use Rattle.reader_atoms.specs.declared.AtomRead.the-variants.{Found, Refused as NoAtom}
 use Rattle.reader_atoms.specs.declared.Previous.{Previous}
 use Rattle.reader_atoms.specs.declared.Previous.the-variants.{Nothing, Atom as After}
 use Rattle.reader_atoms.specs.declared.Section.{Section}
 use Rattle.reader_atoms.specs.declared.Section.the-variants.{Preconditions, Deletes, Adds}
-use Rattle.reader_atoms.specs.Reads.{Reads}
+use Rattle.reader_bytes.specs.Reads.{Reads}
 
 abbrev pub atomStep : AtomRead → Step
 atomStep (Found a c) = At c

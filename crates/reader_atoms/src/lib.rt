@@ -1,102 +1,16 @@
-// Reading a card from front to back, up to a list of atoms. Each read answers an enum: a value with the cursor after it, or the refusal.
+// An atom of a schema and a fact, read from a card. Each read answers an enum: a value with the cursor after it, or the refusal.
 use card::Atom;
 use card::AtomList;
 use card::Refusal;
+use reader_bytes::ByteRead;
+use reader_bytes::Cursor;
 ghost use Prim.Native.Nat.{_≤_};
 ghost use mathlib.Core.Bool.{true};
 ghost use mathlib.Core.Path.{_≡_};
-ghost use lib.Dec.{ltb};
-ghost use lib.ListN.{length, drop};
-ghost use Rattle.card.specs.Represents.{refusalNumber};
+ghost use lib.ListN.{length};
 ghost use Rattle.laws.specs.Lists.{same, before};
-ghost use Rattle.model.specs.Card.{byte, byteThat, between};
-ghost use Rattle.reader_atoms.specs.Reads.{ByteReads, refusalOfByte, refusalOfStep};
 ghost use Rattle.reader_atoms.specs.Atoms.{ArgumentsReadAt, AtomReadAt, SectionAtomReadAt, FactReadAt, AtomsKept, PreviousKept};
 ghost use Rattle.reader_atoms.specs.Atoms.{inRange, bytesOf, hasBytes, aboveBytes, belongsBytes, refusalOfAtom, sectionRefusal};
-
-// A place on the card.
-pub struct Cursor {
-    pub at: usize,
-}
-
-// How a read ends: at a place on the card, or refused. It stands beside a value that an enum cannot hold, an array or a struct with one.
-pub enum Step {
-    At(Cursor),
-    Refused(Refusal),
-}
-
-impl Step {
-    // The refusal of a refused read.
-    pub fn refusal(self) -> Refusal
-        ensures { λ r. ⌜ r ≡ refusalOfStep self ⌝ }
-    {
-        match self {
-            Step::At(_) => Refusal::CardEnds,
-            Step::Refused(r) => r,
-        }
-    }
-}
-
-pub enum ByteRead {
-    Byte(u8, Cursor),
-    Refused(Refusal),
-}
-
-impl ByteRead {
-    // The refusal of a refused read.
-    pub fn refusal(self) -> Refusal
-        ensures { λ r. ⌜ r ≡ refusalOfByte self ⌝ }
-    {
-        match self {
-            ByteRead::Byte(_, _) => Refusal::CardEnds,
-            ByteRead::Refused(r) => r,
-        }
-    }
-}
-
-pub fn byte(card: &[u8], c: Cursor) -> ByteRead
-    ensures { λ r. ⌜ ByteReads (now (card .entry)) (byte (drop (c .at) (now (card .entry)))) r ⌝ }
-{
-    let at = c.at;
-    if at < card.len() {
-        ByteRead::Byte(card[at], Cursor { at: at + 1 })
-    } else {
-        ByteRead::Refused(Refusal::CardEnds)
-    }
-}
-
-// A byte below the bound.
-pub fn byte_below(card: &[u8], c: Cursor, bound: usize, refusal: Refusal) -> ByteRead
-    ensures { λ r. ⌜ ByteReads (now (card .entry)) (byteThat (λ b. ltb b bound) (refusalNumber refusal) (drop (c .at) (now (card .entry)))) r ⌝ }
-{
-    let read = byte(card, c);
-    let ByteRead::Byte(b, _) = read else {
-        return read;
-    };
-    if (b as usize) < bound {
-        read
-    } else {
-        ByteRead::Refused(refusal)
-    }
-}
-
-// A byte from `low` to `high`.
-pub fn byte_between(card: &[u8], c: Cursor, low: u8, high: u8, refusal: Refusal) -> ByteRead
-    ensures { λ r. ⌜ ByteReads (now (card .entry)) (byteThat (between low high) (refusalNumber refusal) (drop (c .at) (now (card .entry)))) r ⌝ }
-{
-    let read = byte(card, c);
-    let ByteRead::Byte(b, _) = read else {
-        return read;
-    };
-    if b < low {
-        return ByteRead::Refused(refusal);
-    }
-    if b <= high {
-        read
-    } else {
-        ByteRead::Refused(refusal)
-    }
-}
 
 pub enum AtomRead {
     Found(Atom, Cursor),
@@ -127,7 +41,7 @@ fn arguments(
     requires { ⌜ (1 ≤ arity) × (arity ≤ 3) ⌝ }
     ensures { λ r. ⌜ ArgumentsReadAt predicate arity bound refusal (now (card .entry)) (c .at) r ⌝ }
 {
-    let read = byte_below(card, c, bound, refusal);
+    let read = reader_bytes::byte_below(card, c, bound, refusal);
     let ByteRead::Byte(first, c) = read else {
         return AtomRead::Refused(read.refusal());
     };
@@ -142,7 +56,7 @@ fn arguments(
             c,
         );
     }
-    let read = byte_below(card, c, bound, refusal);
+    let read = reader_bytes::byte_below(card, c, bound, refusal);
     let ByteRead::Byte(second, c) = read else {
         return AtomRead::Refused(read.refusal());
     };
@@ -157,7 +71,7 @@ fn arguments(
             c,
         );
     }
-    let read = byte_below(card, c, bound, refusal);
+    let read = reader_bytes::byte_below(card, c, bound, refusal);
     let ByteRead::Byte(third, c) = read else {
         return AtomRead::Refused(read.refusal());
     };
@@ -173,11 +87,11 @@ fn arguments(
 }
 
 // An atom: a predicate byte, and its arguments.
-pub fn atom(card: &[u8], c: Cursor, arities: &[u8], bound: usize, refusal: Refusal) -> AtomRead
+fn atom(card: &[u8], c: Cursor, arities: &[u8], bound: usize, refusal: Refusal) -> AtomRead
     requires { ⌜ inRange (now arities) ≡ true ⌝ }
     ensures { λ r. ⌜ AtomReadAt (now (arities .entry)) bound refusal (now (card .entry)) (c .at) r ⌝ }
 {
-    let read = byte_below(card, c, arities.len(), refusal);
+    let read = reader_bytes::byte_below(card, c, arities.len(), refusal);
     let ByteRead::Byte(predicate, c) = read else {
         return AtomRead::Refused(read.refusal());
     };
@@ -186,7 +100,7 @@ pub fn atom(card: &[u8], c: Cursor, arities: &[u8], bound: usize, refusal: Refus
 }
 
 // The first atom stands below the second, byte by byte.
-pub fn is_below(a: Atom, b: Atom) -> bool
+fn is_below(a: Atom, b: Atom) -> bool
     ensures { λ r. ⌜ r ≡ before (bytesOf a) (bytesOf b) ⌝ }
 {
     if a.predicate != b.predicate {
@@ -201,7 +115,7 @@ pub fn is_below(a: Atom, b: Atom) -> bool
     a.third < b.third
 }
 
-pub fn is_same(a: Atom, b: Atom) -> bool
+fn is_same(a: Atom, b: Atom) -> bool
     ensures { λ r. ⌜ r ≡ same (bytesOf a) (bytesOf b) ⌝ }
 {
     if a.predicate != b.predicate {
@@ -217,7 +131,7 @@ pub fn is_same(a: Atom, b: Atom) -> bool
 }
 
 // The atom is on the list.
-pub fn has(list: AtomList, a: Atom) -> bool
+fn has(list: AtomList, a: Atom) -> bool
     requires { ⌜ (list .count ≤ 8) × (length (list .atoms) ≡ 8) ⌝ }
     ensures { λ r. ⌜ r ≡ hasBytes list a ⌝ }
 {
@@ -240,7 +154,7 @@ pub enum Previous {
 }
 
 // The atom stands above the one before it, if there is one.
-pub fn is_above(previous: Previous, a: Atom) -> bool
+fn is_above(previous: Previous, a: Atom) -> bool
     ensures { λ r. ⌜ r ≡ aboveBytes previous a ⌝ }
 {
     match previous {
@@ -257,7 +171,7 @@ pub enum Section {
 }
 
 // The atom passes the check of its own list: a deleted atom is a precondition, an added one is none.
-pub fn belongs(section: Section, preconditions: AtomList, a: Atom) -> bool
+fn belongs(section: Section, preconditions: AtomList, a: Atom) -> bool
     requires { ⌜ (preconditions .count ≤ 8) × (length (preconditions .atoms) ≡ 8) ⌝ }
     ensures { λ r. ⌜ r ≡ belongsBytes section preconditions a ⌝ }
 {
@@ -269,7 +183,7 @@ pub fn belongs(section: Section, preconditions: AtomList, a: Atom) -> bool
 }
 
 // The refusal of an atom that does not pass it.
-pub fn refusal_of(section: Section) -> Refusal
+fn refusal_of(section: Section) -> Refusal
     ensures { λ r. ⌜ r ≡ sectionRefusal section ⌝ }
 {
     match section {

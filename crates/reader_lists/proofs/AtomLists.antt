@@ -12,12 +12,12 @@ use Rattle.model.specs.Card as model
 use Rattle.card.specs.declared.AtomList.{AtomList}
 use Rattle.card.specs.declared.Refusal.{Refusal}
 use Rattle.card.specs.Represents.{atomsOf, atomsFor}
-use Rattle.reader_atoms.specs.declared.Cursor.{Cursor}
-use Rattle.reader_atoms.specs.declared.Step.{Step}
-use Rattle.reader_atoms.specs.declared.Step.the-variants.{At, Refused}
-use Rattle.reader_atoms.specs.Reads.{Reads}
-use Rattle.reader_atoms.proofs.Answers.{goes, halts}
-use Rattle.reader_atoms.proofs.Reading.{accepts, refuses-beside, accepted-by, within-card, kept-as, refused-by, blank-by}
+use Rattle.reader_bytes.specs.declared.Cursor.{Cursor}
+use Rattle.reader_bytes.specs.declared.Step.{Step}
+use Rattle.reader_bytes.specs.declared.Step.the-variants.{At, Refused}
+use Rattle.reader_bytes.specs.Reads.{Reads}
+use Rattle.reader_bytes.proofs.Answers.{goes, halts}
+use Rattle.reader_bytes.proofs.Reading.{accepts, refuses-beside, accepted-by, within-card, kept-as, refused-by, blank-by}
 
 module _ (present : Bool) (read : Option model.Atom → model.Reader model.Atom) (s : List ℕ) where
   -- its bit does not stand

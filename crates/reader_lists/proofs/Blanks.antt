@@ -11,9 +11,9 @@ use Rattle.card.specs.declared.AtomList.{AtomList}
 use Rattle.card.specs.declared.ArityList.{ArityList}
 use Rattle.card.specs.declared.FactList.{FactList}
 use Rattle.card.specs.Represents.{padded, atomOf, atomFor, blankAtom, atomsOf, atomsFor, aritiesOf, aritiesFor, factsOf, factsFor}
-use Rattle.reader_atoms.specs.declared.Step.the-variants.{At}
-use Rattle.reader_atoms.specs.Reads.{Reads}
-use Rattle.reader_atoms.proofs.Reading.{accepts}
+use Rattle.reader_bytes.specs.declared.Step.the-variants.{At}
+use Rattle.reader_bytes.specs.Reads.{Reads}
+use Rattle.reader_bytes.proofs.Reading.{accepts}
 use Rattle.reader_atoms.proofs.Filling.{Filling, filling-ends, filled, filled-count}
 
 pub blank-atoms : {l : AtomList} → l ≡ atomsFor [] → l .atoms ≡ replicate 8 blankAtom

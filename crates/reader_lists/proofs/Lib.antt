@@ -1,5 +1,4 @@
 pub mod Ordered
 pub mod Plain
 pub mod Blanks
-pub mod FactCount
 pub mod AtomLists

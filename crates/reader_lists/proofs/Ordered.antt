@@ -9,7 +9,7 @@ use Rattle.model.specs.Card as model
 use Rattle.card.specs.declared.Atom.{Atom}
 use Rattle.card.specs.declared.Refusal.{Refusal}
 use Rattle.card.specs.Represents.{refusalNumber, atomOf, atomFor, blankAtom}
-use Rattle.reader_atoms.specs.declared.Cursor.{Cursor}
+use Rattle.reader_bytes.specs.declared.Cursor.{Cursor}
 use Rattle.reader_atoms.specs.declared.AtomRead.{AtomRead}
 use Rattle.reader_atoms.specs.declared.AtomRead.the-variants.{Found, Refused as NoAtom}
 use Rattle.reader_atoms.specs.declared.Previous.{Previous}

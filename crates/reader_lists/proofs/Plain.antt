@@ -6,7 +6,7 @@ use mathlib.Core.Path.{_≡_, sym, subst}
 use lib.ListN.{length, drop, set, replicate}
 use Rattle.model.specs.Answer.{refused, accepted}
 use Rattle.model.specs.Card as model
-use Rattle.reader_atoms.specs.declared.Cursor.{Cursor}
+use Rattle.reader_bytes.specs.declared.Cursor.{Cursor}
 use Rattle.reader_atoms.proofs.Filling.{Filling, filling-starts, filling-goes-on, filling-stops}
 
 module _ {A B : Type 0} (value : B → A) (keep : A → B) (blank : B) (size : ℕ) (read : model.Reader A) (n : ℕ) (start card : List ℕ) where

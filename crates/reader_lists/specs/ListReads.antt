@@ -1,4 +1,4 @@
--- What the reads of lists and of the fact count answer.
+-- What the reads of lists answer.
 use Prim.Native.Nat.{ℕ}
 use mathlib.Core.Bool.{Bool}
 use mathlib.Core.List.{List, []}
@@ -7,19 +7,13 @@ use lib.ListN.{drop}
 use Rattle.model.specs.Answer.{Answer}
 use Rattle.model.specs.Card as model
 use Rattle.card.specs.declared.AtomList.{AtomList}
-use Rattle.card.specs.declared.Refusal.{Refusal}
-use Rattle.card.specs.declared.Refusal.the-variants.{CardEnds}
 use Rattle.card.specs.Represents.{atomsOf, atomsFor, aritiesOf, aritiesFor, factsOf, factsFor}
-use Rattle.reader_atoms.specs.declared.Step.{Step}
-use Rattle.reader_atoms.specs.declared.Step.the-variants.{At, Refused}
 use Rattle.reader_atoms.specs.declared.Section.{Section}
-use Rattle.reader_atoms.specs.Reads.{Reads}
+use Rattle.reader_bytes.specs.Reads.{Reads}
 use Rattle.reader_atoms.specs.Atoms.{sectionAtom}
 use Rattle.reader_lists.specs.declared.AtomsRead.{AtomsRead}
 use Rattle.reader_lists.specs.declared.AritiesRead.{AritiesRead}
 use Rattle.reader_lists.specs.declared.FactsRead.{FactsRead}
-use Rattle.reader_lists.specs.declared.CountRead.{CountRead}
-use Rattle.reader_lists.specs.declared.CountRead.the-variants.{Count, Refused as NoCount}
 
 -- the code's whole answer where a list is due
 abbrev pub AtomsReads : List ℕ → List ℕ → Answer (List model.Atom × List ℕ) → AtomsRead → Type 0
@@ -30,22 +24,6 @@ AritiesReads card answer r = Reads aritiesOf aritiesFor (aritiesFor []) card ans
 
 abbrev pub FactsReads : List ℕ → List ℕ → Answer (List model.Atom × List ℕ) → FactsRead → Type 0
 FactsReads arities card answer r = Reads (factsOf arities) factsFor (factsFor []) card answer (r .step) (r .list)
-
-abbrev pub countStep : CountRead → Step
-countStep (Count n c) = At c
-countStep (NoCount r) = Refused r
-
-abbrev pub countIn : CountRead → ℕ
-countIn (Count n c) = n
-countIn (NoCount r) = 0
-
--- the code's whole answer where the fact count is due
-abbrev pub CountReads : List ℕ → Answer (ℕ × List ℕ) → CountRead → Type 0
-CountReads card answer r = Reads (λ n. n) (λ n. n) 0 card answer (countStep r) (countIn r)
-
-abbrev pub refusalOfCount : CountRead → Refusal
-refusalOfCount (Count n c) = CardEnds
-refusalOfCount (NoCount r) = r
 
 -- What the functions promise: the code's whole answer in a part of the card, or at a place on it.
 abbrev pub AtomsReadIn : List ℕ → ℕ → Section → AtomList → ℕ → List ℕ → AtomsRead → Type 0

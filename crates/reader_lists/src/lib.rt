@@ -5,21 +5,21 @@ use card::Atom;
 use card::AtomList;
 use card::FactList;
 use card::Refusal;
+use card::no_arities;
+use card::no_atoms;
+use card::no_facts;
 use reader_atoms::AtomRead;
-use reader_atoms::ByteRead;
-use reader_atoms::Cursor;
 use reader_atoms::Previous;
 use reader_atoms::Section;
-use reader_atoms::Step;
+use reader_bytes::ByteRead;
+use reader_bytes::Cursor;
+use reader_bytes::Step;
 ghost use Prim.Native.Nat.{_≤_};
 ghost use mathlib.Core.Bool.{true};
-ghost use mathlib.Core.List.{[]};
 ghost use mathlib.Core.Path.{_≡_};
-ghost use lib.ListN.{length, drop};
-ghost use Rattle.card.specs.Represents.{atomsFor, aritiesFor, factsFor};
-ghost use Rattle.model.specs.Card.{factCount};
+ghost use lib.ListN.{length};
 ghost use Rattle.reader_atoms.specs.Atoms.{inRange, AtomsKept};
-ghost use Rattle.reader_lists.specs.ListReads.{AtomsReadIn, ListReadAt, AritiesReadAt, FactsReadAt, CountReads, refusalOfCount};
+ghost use Rattle.reader_lists.specs.ListReads.{AtomsReadIn, ListReadAt, AritiesReadAt, FactsReadAt};
 
 pub struct AtomsRead {
     pub step: Step,
@@ -36,45 +36,8 @@ pub struct FactsRead {
     pub list: FactList,
 }
 
-pub fn no_atoms() -> AtomList
-    ensures { λ r. ⌜ r ≡ atomsFor [] ⌝ }
-{
-    AtomList {
-        count: 0,
-        atoms: [Atom {
-            predicate: 0,
-            first: 0,
-            second: 0,
-            third: 0,
-        }; 8],
-    }
-}
-
-pub fn no_arities() -> ArityList
-    ensures { λ r. ⌜ r ≡ aritiesFor [] ⌝ }
-{
-    ArityList {
-        count: 0,
-        arities: [0; 20],
-    }
-}
-
-pub fn no_facts() -> FactList
-    ensures { λ r. ⌜ r ≡ factsFor [] ⌝ }
-{
-    FactList {
-        count: 0,
-        facts: [Atom {
-            predicate: 0,
-            first: 0,
-            second: 0,
-            third: 0,
-        }; 512],
-    }
-}
-
 // So many atoms of a list of a schema, from the first one on.
-pub fn atoms(
+fn atoms(
     part: &[u8],
     count: usize,
     arities: &[u8],
@@ -136,7 +99,7 @@ pub fn list(
             list: no_atoms(),
         };
     }
-    let counted = reader_atoms::byte_between(card, c, 1, 8, Refusal::ListRange);
+    let counted = reader_bytes::byte_between(card, c, 1, 8, Refusal::ListRange);
     let ByteRead::Byte(count, after) = counted else {
         return AtomsRead {
             step: Step::Refused(counted.refusal()),
@@ -172,7 +135,7 @@ pub fn arities(card: &[u8], c: Cursor, count: usize) -> AritiesRead
     let mut at = c.at;
     let mut i = 0;
     while i < count {
-        let read = reader_atoms::byte_between(
+        let read = reader_bytes::byte_between(
             card,
             Cursor { at: at },
             1,
@@ -193,43 +156,6 @@ pub fn arities(card: &[u8], c: Cursor, count: usize) -> AritiesRead
     AritiesRead {
         step: Step::At(Cursor { at: at }),
         list: list,
-    }
-}
-
-pub enum CountRead {
-    Count(usize, Cursor),
-    Refused(Refusal),
-}
-
-impl CountRead {
-    // The refusal of a refused read.
-    pub fn refusal(self) -> Refusal
-        ensures { λ r. ⌜ r ≡ refusalOfCount self ⌝ }
-    {
-        match self {
-            CountRead::Count(_, _) => Refusal::CardEnds,
-            CountRead::Refused(r) => r,
-        }
-    }
-}
-
-// The number of facts: two bytes, the high one first.
-pub fn fact_count(card: &[u8], c: Cursor) -> CountRead
-    ensures { λ r. ⌜ CountReads (now (card .entry)) (factCount (drop (c .at) (now (card .entry)))) r ⌝ }
-{
-    let read = reader_atoms::byte(card, c);
-    let ByteRead::Byte(high, c) = read else {
-        return CountRead::Refused(read.refusal());
-    };
-    let read = reader_atoms::byte(card, c);
-    let ByteRead::Byte(low, c) = read else {
-        return CountRead::Refused(read.refusal());
-    };
-    let count = high as usize * 256 + low as usize;
-    if count <= 512 {
-        CountRead::Count(count, c)
-    } else {
-        CountRead::Refused(Refusal::FactRange)
     }
 }
 

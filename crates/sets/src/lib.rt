@@ -1,10 +1,8 @@
 // Sets of numbers, kept as ascending lists at the front of an array, with 0 behind them.
-ghost use Prim.Native.Nat.{ℕ, _+_, _*_, _≤_, _<_};
+ghost use Prim.Native.Nat.{_+_, _≤_, _<_};
 ghost use mathlib.Core.Bool.{true};
 ghost use mathlib.Core.Path.{_≡_};
-ghost use mathlib.Core.List.{_++_};
-ghost use lib.ListN.{length, take, drop};
-ghost use Rattle.laws.specs.Lists.{member};
+ghost use lib.ListN.{length, take};
 ghost use Rattle.sets.specs.Numbers.{rising, place, found, without, inserted, withoutAll, insertedAll, closed, opened, Holds, Becomes};
 
 // Where a number stands on an ascending list, or where it would stand.
@@ -73,7 +71,7 @@ fn make_room(numbers: &mut [u32], at: usize, count: usize, n: u32)
 }
 
 // Takes a number out of the first `count`.
-pub fn remove(numbers: &mut [u32], count: usize, n: u32) -> usize
+fn remove(numbers: &mut [u32], count: usize, n: u32) -> usize
     requires { ⌜ Holds count (now numbers) ⌝ }
     ensures { λ r. ⌜ Becomes (without n (take count (now (numbers .entry)))) (now (numbers .entry)) (now (numbers .exit)) r ⌝ }
 {
@@ -86,7 +84,7 @@ pub fn remove(numbers: &mut [u32], count: usize, n: u32) -> usize
 }
 
 // Puts a number into its place among the first `count`; nothing changes if it is there.
-pub fn insert(numbers: &mut [u32], count: usize, n: u32) -> usize
+fn insert(numbers: &mut [u32], count: usize, n: u32) -> usize
     requires { ⌜ (count < length (now numbers)) × Holds count (now numbers) ⌝ }
     ensures { λ r. ⌜ Becomes (inserted n (take count (now (numbers .entry)))) (now (numbers .entry)) (now (numbers .exit)) r ⌝ }
 {

@@ -1,6 +1,7 @@
 // Spaces: which properties share one, and which objects are members, as masks of 64 bits, one bit an object.
+pub mod enabling;
 mod grouping;
-pub mod members;
+mod members;
 
 ghost use Prim.Native.Nat.{_*_, _≤_};
 ghost use lib.ListN.{length};

@@ -1,15 +1,16 @@
 // Which objects are members of which space (document 01, "Spaces"). Until the last step a mask stands at the label of its space:
 // the members of the space of a property c are at masks[groups[c]].
+use crate::enabling::enabled;
 use crate::grouping;
 ghost use mathlib.Core.Path.{_≡_};
 ghost use mathlib.Core.List.{map};
-ghost use Prim.Native.Nat.{ℕ, _+_, _-_, _*_, _^_, _≤_, _<_};
+ghost use Prim.Native.Nat.{ℕ, _+_, _-_, _*_, _≤_, _<_};
 ghost use lib.ListN.{length, getD, take};
 ghost use Rattle.laws.specs.Lists.{same};
 ghost use Rattle.laws.specs.Bags.{isEmpty};
 ghost use Rattle.card.specs.Represents.{padded};
 ghost use Rattle.spaces.specs.Tabled.{Room, Grouped};
-ghost use Rattle.spaces.specs.Steps.{bagAt, ruleAt, rulesIn, openAt, opened, enabledBy, gainBy, roundOf, roundsOf};
+ghost use Rattle.spaces.specs.Steps.{bagAt, ruleAt, rulesIn, openAt, opened, gainBy, roundOf, roundsOf};
 
 // The object joins the space of each property that it has at first.
 fn open_object(masks: &mut [u64], groups: &[u8], counts: &[u16], object: usize, size: usize)
@@ -45,17 +46,6 @@ pub fn initial_members(groups: &[u8], counts: &[u16], objects: usize, size: usiz
     masks
 }
 
-// The mask of all objects.
-fn everyone(objects: usize) -> u64
-    requires { ⌜ objects ≤ 64 ⌝ }
-    ensures { λ r. ⌜ r ≡ 2 ^ objects - 1 ⌝ }
-{
-    if objects == 64 {
-        return 0xFFFFFFFFFFFFFFFF;
-    }
-    (1u64 << objects) - 1
-}
-
 // The bag in a row is empty.
 fn is_empty(table: &[u8], row: usize, size: usize) -> bool
     requires { ⌜ size ≤ 60 ⌝ }
@@ -69,32 +59,6 @@ fn is_empty(table: &[u8], row: usize, size: usize) -> bool
         }
     }
     true
-}
-
-// The objects that are members of the space of each enabler in a row; no enablers means every object.
-pub fn enabled(
-    masks: &[u64],
-    groups: &[u8],
-    enablers: &[u8],
-    row: usize,
-    size: usize,
-    objects: usize,
-) -> u64
-    requires { ⌜ Grouped size (now groups) ⌝ }
-    requires { ⌜ objects ≤ 64 ⌝ }
-    requires { ⌜ 60 * row + 60 ≤ length (now enablers) ⌝ }
-    requires { ⌜ 60 ≤ length (now masks) ⌝ }
-    ensures { λ r. ⌜ r ≡ enabledBy (now (groups .entry)) objects (now (masks .entry)) (bagAt size (now (enablers .entry)) row) ⌝ }
-{
-    let at = 60 * row;
-    let mut those = everyone(objects);
-    for c in 0..size {
-        if 0 < enablers[at + c] {
-            let l = groups[c] as usize;
-            those = those & masks[l];
-        }
-    }
-    those
 }
 
 // What the rule in a row brings into its space: if it is increasing, the objects that it admits, by the members `before` the round.

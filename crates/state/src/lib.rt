@@ -1,12 +1,10 @@
 // The rows of a state as ascending numbers: well-formedness, loading from a buffer and storing to it.
-ghost use Prim.Native.Nat.{ℕ, _+_, _-_, _*_, _≤_, _<_};
-ghost use mathlib.Core.Bool.{true, _&&_};
+ghost use Prim.Native.Nat.{_+_, _-_, _*_, _≤_, _<_};
+ghost use mathlib.Core.Bool.{true};
 ghost use mathlib.Core.Path.{_≡_};
 ghost use mathlib.Core.List.{_++_, _∷_, [], flatMap};
-ghost use lib.Dec.{ltb};
 ghost use lib.ListN.{length, take, drop, replicate};
 ghost use Rattle.model.specs.Strips.{rowRight, wellFormed};
-ghost use Rattle.sets.specs.Numbers.{filled, Becomes};
 ghost use Rattle.state.specs.Rows.{rowNumber, rowBytes, rowAt, numbersIn, signature, inRange, stored, placeRight, rowsIn};
 
 // Four bytes as one number, the first of them highest.

@@ -1,31 +1,11 @@
 // The lines with one or two numbers.
-use crate::numbers::write_byte;
-use crate::numbers::write_item;
+use crate::numbers::write_one;
+use crate::numbers::write_two;
 ghost use mathlib.Core.List.{[], _∷_, _++_};
 ghost use Rattle.model.specs.Lines.{limit, membership, exclusion, total, ceiling};
 ghost use Rattle.model.specs.Text.{decimal, spaced, lineText};
 ghost use Rattle.text.specs.Room.{Room};
 ghost use Rattle.text.specs.Written.{Writes};
-
-// A letter and a number.
-pub fn write_one(out: &mut [u8], letter: u8, a: usize) -> usize
-    requires { ⌜ Room (spaced ((letter ∷ []) ∷ decimal a ∷ [])) (now out) ⌝ }
-    ensures { λ r. ⌜ Writes (spaced ((letter ∷ []) ∷ decimal a ∷ [])) (now (out .entry)) (now (out .exit)) r ⌝ }
-{
-    let at = write_byte(out, letter);
-    let n = write_item(&mut out[at..], a);
-    at + n
-}
-
-// A letter and two numbers.
-pub fn write_two(out: &mut [u8], letter: u8, a: usize, b: usize) -> usize
-    requires { ⌜ Room (spaced ((letter ∷ []) ∷ decimal a ∷ decimal b ∷ [])) (now out) ⌝ }
-    ensures { λ r. ⌜ Writes (spaced ((letter ∷ []) ∷ decimal a ∷ decimal b ∷ [])) (now (out .entry)) (now (out .exit)) r ⌝ }
-{
-    let at = write_one(out, letter, a);
-    let n = write_item(&mut out[at..], b);
-    at + n
-}
 
 // A line of a letter and two numbers.
 fn write_pair(out: &mut [u8], letter: u8, a: usize, b: usize) -> usize

@@ -1,9 +1,9 @@
 // The lines with lists: `S`, `T` and `R`.
-use crate::lines::write_one;
-use crate::lines::write_two;
 use crate::numbers::write_byte;
 use crate::numbers::write_item;
 use crate::numbers::write_mark;
+use crate::numbers::write_one;
+use crate::numbers::write_two;
 use crate::rows::write_last_counts;
 use crate::rows::write_last_members;
 ghost use mathlib.Core.Path.{_≡_};
@@ -82,7 +82,7 @@ fn write_space_head(out: &mut [u8], number: usize, kind: Kind) -> usize
 }
 
 // The properties, of so many, whose group has this lowest property.
-pub fn write_properties(out: &mut [u8], groups: &[u8], size: usize, lowest: u8) -> usize
+fn write_properties(out: &mut [u8], groups: &[u8], size: usize, lowest: u8) -> usize
     requires { ⌜ (size ≤ length (now groups)) × Room (numbers (propertiesOf (now groups) size lowest)) (now out) ⌝ }
     ensures { λ r. ⌜ Writes (numbers (propertiesOf (now (groups .entry)) size lowest)) (now (out .entry)) (now (out .exit)) r ⌝ }
 {

@@ -1,6 +1,6 @@
-// Bytes and decimal numbers. A writer asks for as much room as its bytes take.
+// Bytes, decimal numbers, and the start of a line: a letter and its numbers. A writer asks for as much room as its bytes take.
 ghost use mathlib.Core.List.{[], _∷_};
-ghost use Rattle.model.specs.Text.{decimal};
+ghost use Rattle.model.specs.Text.{decimal, spaced};
 ghost use Rattle.text.specs.Room.{Room};
 ghost use Rattle.text.specs.Written.{Writes};
 
@@ -44,5 +44,25 @@ pub fn write_item(out: &mut [u8], n: usize) -> usize
 {
     let at = write_byte(out, b' ');
     let n = write_decimal(&mut out[at..], n);
+    at + n
+}
+
+// A letter and a number.
+pub fn write_one(out: &mut [u8], letter: u8, a: usize) -> usize
+    requires { ⌜ Room (spaced ((letter ∷ []) ∷ decimal a ∷ [])) (now out) ⌝ }
+    ensures { λ r. ⌜ Writes (spaced ((letter ∷ []) ∷ decimal a ∷ [])) (now (out .entry)) (now (out .exit)) r ⌝ }
+{
+    let at = write_byte(out, letter);
+    let n = write_item(&mut out[at..], a);
+    at + n
+}
+
+// A letter and two numbers.
+pub fn write_two(out: &mut [u8], letter: u8, a: usize, b: usize) -> usize
+    requires { ⌜ Room (spaced ((letter ∷ []) ∷ decimal a ∷ decimal b ∷ [])) (now out) ⌝ }
+    ensures { λ r. ⌜ Writes (spaced ((letter ∷ []) ∷ decimal a ∷ decimal b ∷ [])) (now (out .entry)) (now (out .exit)) r ⌝ }
+{
+    let at = write_one(out, letter, a);
+    let n = write_item(&mut out[at..], b);
     at + n
 }

@@ -3,7 +3,7 @@ use mathlib.Core.Bool.{true}
 use mathlib.Core.Path.{_≡_, subst⁻¹}
 use Rattle.card.specs.Represents.{refusalNumber, taskOf}
 use Rattle.reader_atoms.specs.Atoms.{inRange}
-use Rattle.reader_atoms.proofs.Reading.{accepted-by, kept-as, refusal-by, byte-read, byte-refusal}
+use Rattle.reader_bytes.proofs.Reading.{accepted-by, kept-as, refusal-by, byte-read, byte-refusal}
 use Rattle.reader.proofs.Decoding.{no-predicates, no-objects, no-schemas, no-facts, more-bytes, whole-card, goes-on, is-over}
 use Rattle.reader.proofs.Decoding.{arities-in-range, arities-room, arities-part, schemas-with, facts-with}
 use Rattle.reader.proofs.Decoding.{task-kept, decodes-refused, decodes-accepted}

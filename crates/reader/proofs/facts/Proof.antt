@@ -1,7 +1,7 @@
 -- `facts` reads as the definition does.
-use Rattle.reader_atoms.proofs.Answers.{goes, halts}
-use Rattle.reader_atoms.proofs.Reading.{refuses-beside, reads-as}
-use Rattle.reader_lists.proofs.FactCount.{count-found, count-within, count-refusal, count-held}
+use Rattle.reader_bytes.proofs.Answers.{goes, halts}
+use Rattle.reader_bytes.proofs.Reading.{refuses-beside, reads-as}
+use Rattle.reader_bytes.proofs.FactCount.{count-found, count-within, count-refusal, count-held}
 use Rattle.reader.specs.Parts.{facts}
 use borrow.Author.Needs.{needs}
 use Rattle.reader.proofs.facts.Statement.{statement}

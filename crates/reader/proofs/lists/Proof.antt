@@ -1,7 +1,7 @@
 -- `lists` reads as the definition does.
 use Rattle.model.specs.Card.{bit}
 use Rattle.card.specs.Represents.{schemaOf}
-use Rattle.reader_atoms.proofs.Reading.{accepts, accepted-by, within-card, kept-as, refusal-by}
+use Rattle.reader_bytes.proofs.Reading.{accepts, accepted-by, within-card, kept-as, refusal-by}
 use Rattle.reader.proofs.SchemaParts.{preconditions-refused, deletes-refused, adds-refused, lists-read}
 use Rattle.reader.proofs.SchemaParts.{no-list-kept, list-kept, schema-kept, schema-refused}
 use borrow.Author.Needs.{needs}

@@ -4,8 +4,8 @@ use mathlib.Core.Path.{refl}
 use native.Mathlib.Omega.{arith}
 use borrow.Author.Tests.{lt-ltb, le-ltb}
 use Rattle.card.specs.Represents.{refusalNumber}
-use Rattle.reader_atoms.proofs.Answers.{byteThat-ends, byteThat-passes, byteThat-fails}
-use Rattle.reader_atoms.proofs.Reading.{accepts, refuses, byte-read, byte-within, byte-refused, passed-on}
+use Rattle.reader_bytes.proofs.Answers.{byteThat-ends, byteThat-passes, byteThat-fails}
+use Rattle.reader_bytes.proofs.Reading.{accepts, refuses, byte-read, byte-within, byte-refused, passed-on}
 use borrow.Author.Needs.{needs}
 use Rattle.reader.proofs.map_byte.Statement.{statement}
 use Rattle.reader.proofs.map_byte.Tie as tie

@@ -1,5 +1,5 @@
 -- `no_schema` is a refused schema.
-use Rattle.reader_atoms.specs.declared.Step.the-variants.{Refused}
+use Rattle.reader_bytes.specs.declared.Step.the-variants.{Refused}
 use borrow.Author.Needs.{needs}
 use Rattle.reader.proofs.no_schema.Statement.{statement}
 use Rattle.reader.proofs.no_schema.Tie as tie

@@ -1,7 +1,7 @@
 -- `predicates` reads as the definition does.
 use Rattle.card.specs.Represents.{refusalNumber}
-use Rattle.reader_atoms.proofs.Answers.{goes, halts, between-held}
-use Rattle.reader_atoms.proofs.Reading.{refuses-beside, reads-as, byte-read, byte-within, byte-refusal}
+use Rattle.reader_bytes.proofs.Answers.{goes, halts, between-held}
+use Rattle.reader_bytes.proofs.Reading.{refuses-beside, reads-as, byte-read, byte-within, byte-refusal}
 use Rattle.reader.specs.Parts.{predicates}
 use borrow.Author.Needs.{needs}
 use Rattle.reader.proofs.predicates.Statement.{statement}

@@ -4,8 +4,8 @@ use mathlib.Core.Path.{refl, _∙_}
 use native.Mathlib.Omega.{arith}
 use borrow.Author.Tests.{not-true, not-false}
 use Rattle.card.specs.Represents.{refusalNumber}
-use Rattle.reader_atoms.proofs.Answers.{byteThat-ends, byteThat-passes, byteThat-fails, in-bounds, below-low, above-high}
-use Rattle.reader_atoms.proofs.Reading.{accepts, refuses, byte-read, byte-within, byte-refused, passed-on}
+use Rattle.reader_bytes.proofs.Answers.{byteThat-ends, byteThat-passes, byteThat-fails, in-bounds, below-low, above-high}
+use Rattle.reader_bytes.proofs.Reading.{accepts, refuses, byte-read, byte-within, byte-refused, passed-on}
 use Rattle.reader.proofs.Headers.{role-absent, role-present}
 use borrow.Author.Needs.{needs}
 use Rattle.reader.proofs.role_count.Statement.{statement}

@@ -1,5 +1,5 @@
 -- `schema` reads as the definition does.
-use Rattle.reader_atoms.proofs.Reading.{reads-as, byte-read, byte-within, byte-refusal}
+use Rattle.reader_bytes.proofs.Reading.{reads-as, byte-read, byte-within, byte-refusal}
 use Rattle.reader.proofs.Headers.{bit-zero, map-refused, roles-refused, head-read}
 use Rattle.reader.proofs.SchemaParts.{schema-refused}
 use borrow.Author.Needs.{needs}

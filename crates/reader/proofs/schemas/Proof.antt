@@ -5,8 +5,8 @@ use native.Mathlib.Omega.{arith}
 use lib.ListN.{drop}
 use Rattle.model.specs.Card.{schema}
 use Rattle.card.specs.Represents.{refusalNumber, schemaOf, schemaFor, blankSchema}
-use Rattle.reader_atoms.proofs.Answers.{goes, halts, between-held}
-use Rattle.reader_atoms.proofs.Reading.{refuses-beside, reads-as, accepted-by, within-card, kept-as, refusal-by, byte-read, byte-within, byte-refusal}
+use Rattle.reader_bytes.proofs.Answers.{goes, halts, between-held}
+use Rattle.reader_bytes.proofs.Reading.{refuses-beside, reads-as, accepted-by, within-card, kept-as, refusal-by, byte-read, byte-within, byte-refusal}
 use Rattle.reader_lists.proofs.Plain.{Plain, plain-starts, plain-goes-on, plain-stops}
 use Rattle.reader.specs.Parts.{schemas}
 use Rattle.reader.proofs.Headers.{schemas-counted}

@@ -2,7 +2,7 @@
 use Prim.Native.Nat.{_≤_}
 use mathlib.Core.Path.{_≡_}
 use native.Mathlib.Omega.{arith}
-use Rattle.reader_atoms.proofs.Reading.{refuses, byte-read, byte-within, byte-refusal}
+use Rattle.reader_bytes.proofs.Reading.{refuses, byte-read, byte-within, byte-refusal}
 use Rattle.reader_atoms.proofs.ArgumentBytes.{first-refused, second-refused, third-refused, one-argument, two-arguments, three-arguments}
 use borrow.Author.Needs.{needs}
 use Rattle.reader_atoms.proofs.arguments.Statement.{statement}

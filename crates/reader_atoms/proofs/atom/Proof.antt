@@ -1,7 +1,7 @@
 -- `atom` reads as the definition does.
 use borrow.Author.Tests.{ltb-true}
-use Rattle.reader_atoms.proofs.Answers.{byteThat-held}
-use Rattle.reader_atoms.proofs.Reading.{refuses, byte-read, byte-refusal}
+use Rattle.reader_bytes.proofs.Answers.{byteThat-held}
+use Rattle.reader_bytes.proofs.Reading.{refuses, byte-read, byte-refusal}
 use Rattle.reader_atoms.proofs.ArgumentBytes.{predicate-refused, predicate-read, in-range}
 use borrow.Author.Needs.{needs}
 use Rattle.reader_atoms.proofs.atom.Statement.{statement}

@@ -1,7 +1,7 @@
 -- `fact` reads as the definition does.
 use mathlib.Core.Path.{sym, _∙_}
 use Rattle.card.specs.Represents.{refusalNumber}
-use Rattle.reader_atoms.proofs.Reading.{accepts, refuses}
+use Rattle.reader_bytes.proofs.Reading.{accepts, refuses}
 use Rattle.reader_atoms.proofs.AtomReading.{atom-read, atom-within, atom-kept, atom-refused, atom-passed-on}
 use Rattle.reader_atoms.proofs.Checks.{above-bytes, fact-ends, fact-passes, fact-unordered}
 use borrow.Author.Needs.{needs}

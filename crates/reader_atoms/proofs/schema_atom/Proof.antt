@@ -3,7 +3,7 @@ use mathlib.Core.Path.{ap, sym, _∙_}
 use borrow.Author.Tests.{not-true, not-false}
 use Rattle.model.specs.Answer.{refused}
 use Rattle.card.specs.Represents.{refusalNumber}
-use Rattle.reader_atoms.proofs.Reading.{accepts, refuses}
+use Rattle.reader_bytes.proofs.Reading.{accepts, refuses}
 use Rattle.reader_atoms.proofs.AtomReading.{atom-read, atom-within, atom-kept, atom-refused, atom-passed-on}
 use Rattle.reader_atoms.proofs.Checks.{above-bytes, belongs-bytes, list-long, section-ends, section-unordered, section-strange, section-passes}
 use borrow.Author.Needs.{needs}

@@ -5,7 +5,7 @@ use native.Mathlib.Omega.{arith}
 use lib.ListN.{drop}
 use Rattle.model.specs.Card.{byteThat, between}
 use Rattle.card.specs.Represents.{refusalNumber}
-use Rattle.reader_atoms.proofs.Reading.{refuses-beside, byte-read, byte-within, byte-refusal}
+use Rattle.reader_bytes.proofs.Reading.{refuses-beside, byte-read, byte-within, byte-refusal}
 use Rattle.reader_lists.proofs.Plain.{Plain, plain-starts, plain-goes-on, plain-stops}
 use Rattle.reader_lists.proofs.Blanks.{blank-arities, arities-filled}
 use borrow.Author.Needs.{needs}

@@ -5,7 +5,7 @@ use native.Mathlib.Omega.{arith}
 use borrow.Author.Needs.{needs}
 use Rattle.card.specs.Represents.{atomsOf}
 use Rattle.reader_atoms.specs.Atoms.{sectionAtom}
-use Rattle.reader_atoms.proofs.Reading.{refuses-beside}
+use Rattle.reader_bytes.proofs.Reading.{refuses-beside}
 use Rattle.reader_lists.proofs.Ordered.{Ordered, ordered-starts, ordered-goes-on, ordered-stops}
 use Rattle.reader_lists.proofs.Blanks.{blank-atoms, atoms-filled}
 use Rattle.reader_lists.proofs.atoms.Statement.{statement}

@@ -4,7 +4,7 @@ use mathlib.Core.Path.{refl}
 use native.Mathlib.Omega.{arith}
 use lib.ListN.{drop}
 use Rattle.model.specs.Card.{fact}
-use Rattle.reader_atoms.proofs.Reading.{refuses-beside}
+use Rattle.reader_bytes.proofs.Reading.{refuses-beside}
 use Rattle.reader_lists.proofs.Ordered.{Ordered, ordered-starts, ordered-goes-on, ordered-stops}
 use Rattle.reader_lists.proofs.Blanks.{blank-facts, facts-filled}
 use borrow.Author.Needs.{needs}

@@ -4,8 +4,8 @@ use lib.ListN.{length}
 use native.Mathlib.Omega.{arith}
 use borrow.Author.Tests.{not-true, not-false}
 use Rattle.card.specs.Represents.{refusalNumber}
-use Rattle.reader_atoms.proofs.Answers.{between-held}
-use Rattle.reader_atoms.proofs.Reading.{refuses-beside, byte-read, byte-within, byte-refusal}
+use Rattle.reader_bytes.proofs.Answers.{between-held}
+use Rattle.reader_bytes.proofs.Reading.{refuses-beside, byte-read, byte-within, byte-refusal}
 use Rattle.reader_lists.proofs.AtomLists.{list-absent, list-uncounted, list-counted, part-read, part-refused, part-within, no-list}
 use borrow.Author.Needs.{needs}
 use Rattle.reader_lists.proofs.list.Statement.{statement}

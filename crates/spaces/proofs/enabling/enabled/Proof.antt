@@ -1,0 +1,130 @@
+-- The members of the spaces left, met with those so far, are the members of all.
+use Prim.Native.Nat.{ℕ, _≤_, _-_, _+_, _*_, zero-le}
+use native.Mathlib.Nat.{lt-of-lt-of-le}
+use native.Mathlib.Omega.{arith}
+use mathlib.Core.Path.{_≡_, sym, ap, _∙_}
+use mathlib.Core.Logic.{⊎-elim}
+use mathlib.Core.List.{List, foldl}
+use borrow.Author.Tests.{lt-ltb, le-ltb}
+use lib.Bits.{bitAnd}
+use lib.ListN.{getD}
+use Rattle.laws.specs.Lists.{keep}
+use Rattle.laws.specs.Bags.{support}
+use Rattle.laws.proofs.Walks.{left, pick-starts, pick-passes, pick-fails, pick-ends}
+use Rattle.spaces.specs.Steps.{bagAt, enabledBy}
+use Rattle.spaces.proofs.Rows.{used, support-kept}
+use Rattle.spaces.proofs.enabling.enabled.Statement.{statement}
+use Rattle.spaces.proofs.enabling.enabled.Tie as tie
+
+-- the members of the space of a property
+abbrev meetAt : List ℕ → List ℕ → ℕ → ℕ → ℕ
+meetAt groups masks those c = bitAnd those (getD masks (getD groups c 0) 0)
+
+abbrev Inv-loop : tie.InvT-loop
+Inv-loop masks groups enablers row size objects at those₀ c₀ those c =
+    (c ≤ size)
+    × (foldl (meetAt groups masks) those (keep (used enablers (60 * row)) (left c size))
+    ≡ enabledBy groups objects masks (bagAt size enablers row))
+
+abbrev μ-loop : tie.MeasureT-loop
+μ-loop masks groups enablers row size objects at those₀ c₀ those c = size - c
+
+mul-at : tie.Need-mul-at Inv-loop μ-loop
+mul-at c = omega arith
+
+everyone-requires : tie.Need-everyone-requires Inv-loop μ-loop
+everyone-requires c κs = c .before .before .before .pre .1 .0
+
+loop-holds : tie.Need-loop-holds Inv-loop μ-loop
+unfolding enabledBy
+loop-holds c =
+    let start = c .before .before .before .before in
+    let a = start .args in
+    let meet = meetAt (a .groups .now) (a .masks .now) in (
+      zero-le,
+      pick-starts meet (enabledBy (a .groups .now) (a .objects) (a .masks .now) (bagAt (a .size) (a .enablers .now) (a .row))) (a .size)
+          (used (a .enablers .now) (60 * a .row)) (c .everyone .result)
+          (ap (foldl meet (c .everyone .result))
+          (sym (support-kept (a .size) (start .pre .0 .narrow) (a .row) (a .enablers .now) (start .pre .1 .1 .0)))
+          ∙ ap (λ (n : ℕ). foldl meet n (support (bagAt (a .size) (a .enablers .now) (a .row)))) (c .everyone .ensures)),
+    )
+
+add-if1 : tie.Need-add-if1 Inv-loop μ-loop
+add-if1 c = omega arith
+
+shared-slice-read-if1 : tie.Need-shared-slice-read-if1 Inv-loop μ-loop
+shared-slice-read-if1 c = omega arith
+
+shared-slice-read-l : tie.Need-shared-slice-read-l Inv-loop μ-loop
+shared-slice-read-l c = omega arith
+
+cast-l : tie.Need-cast-l Inv-loop μ-loop
+cast-l c =
+    let head = c .before .before .before .before in
+    omega (arith, head .before .before .before .before .before .pre .0 .known (head .loop .c))
+
+mul-those : tie.Need-mul-those Inv-loop μ-loop
+mul-those c =
+    let head = c .before .before .before .before in
+    omega (arith, head .before .before .before .before .before .pre .0 .known (head .loop .c))
+
+shared-slice-read-those : tie.Need-shared-slice-read-those Inv-loop μ-loop
+shared-slice-read-those c =
+    let head = c .before .before .before .before .before in
+    let start = head .before .before .before .before .before in
+    lt-of-lt-of-le (start .pre .0 .known (head .loop .c)) (start .pre .1 .1 .1)
+
+add-c : tie.Need-add-c Inv-loop μ-loop
+add-c c = omega arith
+
+loop-less : tie.Need-loop-less Inv-loop μ-loop
+loop-less c = omega arith
+
+loop-again : tie.Need-loop-again Inv-loop μ-loop
+unfolding used
+loop-again c =
+    let head = c .before .before .before in
+    let start = head .before .before .before .before .before in
+    let a = start .args in
+    let meet = meetAt (a .groups .now) (a .masks .now) in
+    let answer = enabledBy (a .groups .now) (a .objects) (a .masks .now) (bagAt (a .size) (a .enablers .now) (a .row)) in
+    let test = used (a .enablers .now) (60 * a .row) in
+    let here = c .before .before .loop-test .taken in (
+      omega arith,
+      ⊎-elim
+          (λ w.
+          pick-passes meet answer (a .size) test (head .loop .c) (head .loop .those) (c .if1 .those) here
+          (lt-ltb 0 (getD (a .enablers .now) (60 * a .row + head .loop .c) 0) (w .0 .taken)) (w .3) (head .loop .inv .1))
+          (λ w.
+          pick-fails meet answer (a .size) test (head .loop .c) (head .loop .those) (c .if1 .those) here
+          (le-ltb 0 (getD (a .enablers .now) (60 * a .row + head .loop .c) 0) (w .0 .left)) (w .1) (head .loop .inv .1))
+          (c .if1 .came),
+    )
+
+returns : tie.Need-returns Inv-loop μ-loop
+returns c =
+    let head = c .before in
+    let a = head .before .before .before .before .before .args in
+    pick-ends (meetAt (a .groups .now) (a .masks .now))
+    (enabledBy (a .groups .now) (a .objects) (a .masks .now) (bagAt (a .size) (a .enablers .now) (a .row))) (a .size)
+    (used (a .enablers .now) (60 * a .row)) (head .loop .c) (head .loop .those) (c .loop-test .left) (head .loop .inv .1)
+
+pub enabled-spec : {M : Type 1} → statement M
+enabled-spec =
+    tie.close
+    (tie.spec
+    Inv-loop
+    μ-loop
+    mul-at
+    everyone-requires
+    loop-holds
+    add-if1
+    shared-slice-read-if1
+    shared-slice-read-l
+    cast-l
+    mul-those
+    shared-slice-read-those
+    add-c
+    loop-less
+    loop-again
+    returns)
