@@ -12,7 +12,7 @@ use Rattle.laws.specs.Bags.{Bag}
 use Rattle.laws.proofs.Lists.{flatMap-append, mem-getD}
 use Rattle.laws.proofs.Places.{each-place}
 use Rattle.laws.proofs.Bags.{bag-ext}
-use Rattle.rules.specs.Tables.{stride, row, rows, rowsBefore}
+use Rattle.properties.specs.Tables.{stride, row, rows, rowsBefore}
 use Rattle.extension.specs.Rows.{bagAt, bagsFrom, bagsIn}
 use Rattle.extension.proofs.Rows.{the}
 

@@ -8,8 +8,8 @@ use Rattle.model.proofs.RuleCount.{length-properties}
 use Rattle.model.proofs.Checked.{Checked, checked}
 use Rattle.card.specs.declared.Task.{Task}
 use Rattle.card.specs.Represents.{taskOf, taskFor, aritiesOf, aritiesFor, factsFor, padded, Represented}
-use Rattle.rules.proofs.Predicates.{sum-arities}
-use Rattle.rules.proofs.TaskParts.{arities-right, schemas-few, schema-right}
+use Rattle.properties.proofs.Predicates.{sum-arities}
+use Rattle.properties.proofs.TaskParts.{arities-right, schemas-few, schema-right}
 use Rattle.closing.specs.Fitting.{SchemasFit}
 
 module _ (task : Task) (r : Represented task (taskOf task)) where

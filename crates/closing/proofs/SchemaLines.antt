@@ -14,7 +14,7 @@ use Rattle.model.specs.Text.{text}
 use Rattle.card.specs.declared.Task as code
 use Rattle.card.specs.declared.Schema as code-schema
 use Rattle.card.specs.Represents.{aritiesOf, schemaOf, taskOf, Represented}
-use Rattle.rules.proofs.TaskParts.{schema-count, schema-at}
+use Rattle.properties.proofs.TaskParts.{schema-count, schema-at}
 use Rattle.spaces.specs.declared.Spaces as code-spaces
 use Rattle.spaces.specs.SpaceTable.{SpacesOf}
 use Rattle.text.proofs.Writing.{Begins}

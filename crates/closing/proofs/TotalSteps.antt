@@ -11,8 +11,8 @@ use Rattle.laws.proofs.Fronts.{sum-take-next, sum-take-all}
 use Rattle.model.specs.Lines.{Line, total}
 use Rattle.card.specs.declared.ArityList.{ArityList}
 use Rattle.card.specs.Represents.{aritiesOf}
-use Rattle.rules.specs.Represented.{AritiesRight}
-use Rattle.rules.proofs.Predicates.{sum-arities}
+use Rattle.properties.specs.Represented.{AritiesRight}
+use Rattle.properties.proofs.Predicates.{sum-arities}
 use Rattle.closing.specs.Fixed.{firstSome, totalLine, totalFound}
 use Rattle.closing.proofs.FirstTotals.{line-of, line-of-none}
 

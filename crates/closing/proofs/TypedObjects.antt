@@ -26,8 +26,8 @@ use Rattle.model.specs.Spaces.{Space, hasMember, spaces}
 use Rattle.model.specs.Lines.{Line, types, typesOf}
 use Rattle.model.proofs.Closing.{groups, labels, propertiesAt, spaceWith, spacesWith, belongs, spaces-alone}
 use Rattle.model.proofs.Grouping.{length-grouping}
-use Rattle.rules.specs.Tables.{row}
-use Rattle.rules.proofs.Rows.{length-row, getD-row}
+use Rattle.properties.specs.Tables.{row}
+use Rattle.properties.proofs.Rows.{length-row, getD-row}
 use Rattle.spaces.specs.declared.Spaces as code
 use Rattle.spaces.specs.SpaceTable.{SpacesOf, maskOf, groupsOf, lowestOf}
 use Rattle.spaces.specs.Steps.{enabledBy}

@@ -7,7 +7,7 @@ use Rattle.laws.specs.Lists.{sum}
 use Rattle.model.specs.Card.{Task}
 use Rattle.model.specs.Transitions.{properties}
 use Rattle.model.specs.Lines.{Line, total, Analysis, analysis, totalsBy}
-use Rattle.rules.specs.Tables.{stride}
+use Rattle.properties.specs.Tables.{stride}
 
 -- the first number of a list and one, 0 for none
 unfoldable pub firstAndOne : List ℕ → ℕ

@@ -6,7 +6,7 @@ use Rattle.laws.specs.Lists.{upTo}
 use Rattle.model.specs.Card.{Atom, Schema}
 use Rattle.model.specs.Lines.{Line, types}
 use Rattle.model.specs.Transitions.{propertiesFrom, bagOf}
-use Rattle.rules.specs.Tables.{stride, row}
+use Rattle.properties.specs.Tables.{stride, row}
 use Rattle.spaces.specs.Steps.{enabledBy}
 use Rattle.text.specs.Members.{membersOf}
 

@@ -18,7 +18,7 @@ use Rattle.laws.proofs.Numbers.{member-keep-upTo, kept-below}
 use Rattle.laws.proofs.Walks.{left, left-all, left-one, left-none}
 use Rattle.laws.proofs.Fronts.{Reworked, rework-start, rework-set, rework-keep}
 use Rattle.model.specs.Lines.{countOf, oneNumber}
-use Rattle.rules.specs.Tables.{stride}
+use Rattle.properties.specs.Tables.{stride}
 use Rattle.sections.specs.Limits.{columnOf}
 use Rattle.sections.specs.Rows.{bagAt, bagsIn, HasRows}
 use Rattle.sections.proofs.Rows.{has-row, getD-bagAt}

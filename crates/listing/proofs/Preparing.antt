@@ -10,9 +10,10 @@ use Rattle.model.proofs.Checked.{checked}
 use Rattle.model.proofs.RuleCount.{properties-few}
 use Rattle.card.specs.declared.Task.{Task}
 use Rattle.card.specs.Represents.{taskOf, aritiesOf, Represented}
-use Rattle.rules.specs.declared.Numbering.{Numbering}
-use Rattle.rules.specs.Represented.{Numbers, objectBags}
-use Rattle.rules.specs.Tables.{stride, rows, rowsBefore, rulesAtMost, RuleTable}
+use Rattle.properties.specs.declared.Numbering.{Numbering}
+use Rattle.properties.specs.Represented.{Numbers, objectBags}
+use Rattle.properties.specs.Tables.{stride, rows, rowsBefore}
+use Rattle.rules.specs.Tables.{rulesAtMost, RuleTable}
 use Rattle.rules.specs.Appended.{Room}
 use Rattle.rules.proofs.RuleRoom.{rules-at-most}
 use Rattle.spaces.specs.declared.Spaces.{Spaces}

@@ -3,7 +3,7 @@ use card::ArityList;
 ghost use Prim.Native.Nat.{_+_, _≤_};
 ghost use lib.ListN.{length};
 ghost use Rattle.card.specs.Represents.{aritiesOf};
-ghost use Rattle.rules.specs.Represented.{AritiesRight};
+ghost use Rattle.properties.specs.Represented.{AritiesRight};
 ghost use Rattle.listing.specs.Arities.{ArityPut, PropertyArities};
 
 // Puts the arity of a predicate into the places of its properties, which begin at `first`.

@@ -1,40 +1,19 @@
 -- Rows put into tables one after the other, and rules with them.
 use Prim.Native.Nat.{ℕ, _+_, _-_, _*_, _≤_}
-use native.Mathlib.Nat.{zero-add, add-zero, mul-suc}
+use native.Mathlib.Nat.{zero-add, add-zero}
 use native.Mathlib.Omega.{arith}
 use mathlib.Core.Path.{_≡_, refl, sym, ap, _∙_, subst}
-use mathlib.Core.List.{List, [], _∷_, _++_, map, flatMap, append-assoc, append-nil, List·Memᴰ, List·Memᴰ·head, List·Memᴰ·tail, Memᴰ·of-map}
+use mathlib.Core.List.{List, [], _∷_, _++_, map, flatMap, append-assoc, append-nil, List·Memᴰ, Memᴰ·of-map}
 use lib.ListN.{length, take, drop, length-append, length-map, length-take, length-drop, take-append-drop}
 use lib.Seq.{take-all, take-at, drop-append-add, drop-drop, paste}
 use Rattle.laws.specs.Bags.{Bag, less}
-use Rattle.laws.proofs.Lists.{flatMap-append}
 use Rattle.laws.proofs.Fronts.{map-parts}
-use Rattle.rules.specs.Tables.{row, rows, rowsBefore, RuleTable}
 use Rattle.model.specs.Transitions.{Transition}
 use Rattle.model.proofs.Grouping.{Sized}
+use Rattle.properties.specs.Tables.{row, rows, rowsBefore}
+use Rattle.properties.proofs.Rows.{Narrow, row-whole, length-rows, rows-join}
+use Rattle.rules.specs.Tables.{RuleTable}
 use Rattle.rules.specs.Appended.{rowsAt, ruleFrom, Room, Appended}
-use Rattle.rules.proofs.Rows.{length-row, row-whole}
-
--- no bag is over more than 60 properties
-abbrev pub Narrow : List Bag → Type 0
-Narrow bags = (b : Bag) → List·Memᴰ b bags → length b ≤ 60
-
--- rows are 60 counts each
-pub length-rows : (bags : List Bag) → Narrow bags → length (rows bags) ≡ 60 * length bags
-unfolding rows flatMap
-length-rows [] narrow = refl
-length-rows (b ∷ bags) narrow =
-    length-append (row b) (flatMap row bags)
-    ∙ omega (
-      arith,
-      length-row b (narrow b (List·Memᴰ·head refl)),
-      length-rows bags (λ c m. narrow c (List·Memᴰ·tail m)),
-      mul-suc 60 (length bags),
-    )
-
-pub rows-join : (xs ys : List Bag) → rows (xs ++ ys) ≡ rows xs ++ rows ys
-unfolding rows
-rows-join xs ys = flatMap-append row xs ys
 
 -- one whole row, copied count by count
 pub row-pasted : (table counts : List ℕ) (n : ℕ) → length counts ≡ 60 → paste table (n * 60) counts 60 ≡ rowsAt n (counts ∷ []) table

@@ -1,15 +1,8 @@
-pub mod Firsts
 pub mod Rows
-pub mod Tally
-pub mod Predicates
-pub mod ParameterBag
 pub mod Appending
 pub mod EachItem
 pub mod EachProperty
 pub mod RuleSizes
 pub mod Widening
 pub mod SchemaRules
-pub mod TaskParts
 pub mod RuleRoom
-pub mod ObjectTable
-pub mod ObjectBags

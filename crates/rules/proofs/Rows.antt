@@ -1,46 +1,16 @@
--- Rows of 60 counts: their length and counts, and when a list is the row of a bag.
-use Prim.Native.Nat.{ℕ, zero, suc, _+_, _-_, _≤_, _<_}
+-- Rows that the code makes and tests: one occurrence among zeros, and a count above 0.
+use Prim.Native.Nat.{ℕ, _<_}
 use native.Mathlib.Omega.{arith}
-use mathlib.Core.Path.{_≡_, refl, sym, _∙_, subst}
-use mathlib.Core.List.{List, [], _∷_, _++_}
+use mathlib.Core.Path.{_≡_, sym, _∙_, subst}
 use mathlib.Core.Bool.{false}
 use lib.Dec.{eqb}
-use lib.ListN.{length, getD, set, replicate, length-append, length-replicate, length-set}
-use lib.Seq.{ext-getD, getD-set-same, getD-set-other}
+use lib.ListN.{getD, set, replicate, length-replicate, length-set}
+use lib.Seq.{getD-set-same, getD-set-other}
 use borrow.Author.Tests.{eqb-true, eqb-false}
 use Rattle.laws.specs.Bags.{Bag, single, isEmpty}
 use Rattle.laws.proofs.Tests.{by-test}
 use Rattle.laws.proofs.Bags.{bag-ext, length-single, single-here, single-elsewhere, isEmpty-at}
-use Rattle.rules.specs.Tables.{row}
-
--- zeros behind a list of numbers change no number
-pub getD-zeros : (n i : ℕ) → _≡_ {A = ℕ} (getD (replicate n 0) i 0) 0
-getD-zeros zero i = refl
-getD-zeros (suc n) zero = refl
-getD-zeros (suc n) (suc i) = getD-zeros n i
-
-getD-behind : (b : Bag) (n i : ℕ) → getD (b ++ replicate n 0) i 0 ≡ getD b i 0
-getD-behind [] n i = getD-zeros n i
-getD-behind (x ∷ b) n zero = refl
-getD-behind (x ∷ b) n (suc i) = getD-behind b n i
-
--- a row has 60 counts, those of its bag
-pub length-row : (b : Bag) → length b ≤ 60 → length (row b) ≡ 60
-unfolding row
-length-row b h = length-append b (replicate (60 - length b) 0) ∙ omega (arith, length-replicate {A = ℕ} (60 - length b) 0)
-
-pub getD-row : (b : Bag) (i : ℕ) → getD (row b) i 0 ≡ getD b i 0
-unfolding row
-getD-row b i = getD-behind b (60 - length b) i
-
--- 60 numbers that are the counts of a bag are its row
-pub row-ext : (l : List ℕ) (b : Bag) → length l ≡ 60 → length b ≤ 60 → ((i : ℕ) → i < 60 → getD l i 0 ≡ getD b i 0) → l ≡ row b
-row-ext l b e h same =
-    ext-getD 0 l (row b) (e ∙ sym (length-row b h)) (λ i k. same i (subst (λ (n : ℕ). i < n) e k) ∙ sym (getD-row b i))
-
--- the row of 60 counts is these
-pub row-whole : (b : Bag) → length b ≡ 60 → row b ≡ b
-row-whole b e = sym (row-ext b b e (omega arith) (λ i h. refl))
+use Rattle.properties.proofs.Rows.{getD-zeros}
 
 -- one occurrence, set among zeros
 pub one-set : (c : ℕ) → c < 60 → set (replicate 60 0) c 1 ≡ single 60 c

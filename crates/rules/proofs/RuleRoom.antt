@@ -17,9 +17,9 @@ use Rattle.model.proofs.RuleCount.{rules-bounded, bounds-few}
 use Rattle.card.specs.declared.Schema.{Schema}
 use Rattle.card.specs.declared.Task.{Task}
 use Rattle.card.specs.Represents.{taskOf, aritiesOf, schemaOf, Represented}
-use Rattle.rules.specs.Represented.{SchemaRight}
+use Rattle.properties.specs.Represented.{SchemaRight}
+use Rattle.properties.proofs.TaskParts.{noSchema, schema-count, schemas-inside, schema-at, adds-counted}
 use Rattle.rules.specs.Tables.{schemaRoom, rulesAtMost, mostRules}
-use Rattle.rules.proofs.TaskParts.{noSchema, schema-count, schemas-inside, schema-at, adds-counted}
 
 module _ (t : model.Task) (ok : checkTask t ≡ accepted tt) where
   -- a task has no more rules

@@ -1,17 +1,17 @@
 -- The rules of a schema's parameters: made from the rows of their bags, they are the rules that the tables are to hold.
 use Prim.Native.Nat.{ℕ, _+_, _≤_}
 use native.Mathlib.Omega.{arith}
-use mathlib.Core.Path.{_≡_, sym, ap, _∙_, subst}
+use mathlib.Core.Path.{_≡_, refl, sym, ap, _∙_, subst}
 use mathlib.Core.List.{List, map, flatMap}
 use lib.ListN.{length, length-map}
 use Rattle.laws.specs.Lists.{sum, upTo}
 use Rattle.laws.specs.Bags.{Bag}
 use Rattle.laws.proofs.Lists.{flatMap-at}
-use Rattle.model.specs.Card.{Schema}
-use Rattle.model.specs.Transitions.{propertiesFrom, bagOf, rulesOf}
+use Rattle.model.specs.Card.{Schema, Task}
+use Rattle.model.specs.Transitions.{propertiesFrom, properties, bagOf, rulesOf, parameterRules, transitions}
 use Rattle.model.proofs.Grouping.{Sized, rulesOf-sized, length-bagOf}
 use Rattle.model.proofs.RuleCount.{length-properties}
-use Rattle.rules.specs.Tables.{row}
+use Rattle.properties.specs.Tables.{row}
 use Rattle.rules.specs.Appended.{Room, Appended, parameterRulesOver, schemaRulesOver}
 use Rattle.rules.proofs.Appending.{AllSized, as-rules}
 use Rattle.rules.proofs.Widening.{widened, wide-rules, narrowed}
@@ -60,3 +60,8 @@ pub schemas-sized : (arities : List ℕ) → sum arities ≤ 60 → (schemas : L
     → AllSized (sum arities) (flatMap (schemaRulesOver arities) schemas)
 schemas-sized arities few schemas r m =
     let q = flatMap-at (schemaRulesOver arities) schemas r m in schema-sized arities few (q .0) r (q .2)
+
+-- all rules, schema by schema
+pub transitions-over : (t : Task) → transitions t ≡ flatMap (schemaRulesOver (t .arities)) (t .schemas)
+unfolding transitions parameterRules properties schemaRulesOver parameterRulesOver
+transitions-over t = refl

@@ -13,11 +13,11 @@ use Rattle.laws.proofs.Mapped.{map-ext}
 use Rattle.laws.proofs.Fronts.{keep-rest, map-parts}
 use Rattle.laws.proofs.Bags.{length-less, length-meet, length-single, getD-less, getD-meet, getD-single, isEmpty-at, isEmpty-intro, support-at}
 use Rattle.model.specs.Transitions.{Transition, exchanges, remaining, rulesOf}
-use Rattle.rules.specs.Tables.{row, rows}
+use Rattle.properties.specs.Tables.{row, rows}
+use Rattle.properties.proofs.Rows.{length-row, getD-row, row-ext, row-whole}
 use Rattle.rules.specs.Appended.{rowsAt, ruleFrom, Appended}
 use Rattle.rules.proofs.Appending.{AllSized}
 use Rattle.rules.proofs.RuleSizes.{exchanges-over, increasing-over, remaining-increasing, remaining-one}
-use Rattle.rules.proofs.Rows.{length-row, getD-row, row-ext, row-whole}
 
 -- a rule of rows
 pub widened : Transition → Transition

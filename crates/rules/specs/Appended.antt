@@ -7,7 +7,7 @@ use Rattle.laws.specs.Lists.{upTo}
 use Rattle.laws.specs.Bags.{Bag, less, single, support}
 use Rattle.model.specs.Card.{Schema}
 use Rattle.model.specs.Transitions.{Transition, propertiesFrom, bagOf, rulesOf}
-use Rattle.rules.specs.Tables.{stride, rows}
+use Rattle.properties.specs.Tables.{stride, rows}
 
 -- a table with rows written from row number n on, and what stood before and behind them
 unfoldable pub rowsAt : ℕ → List Bag → List ℕ → List ℕ

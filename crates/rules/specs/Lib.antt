@@ -1,4 +1,2 @@
 pub mod Tables
-pub mod Represented
-pub mod Tallies
 pub mod Appended

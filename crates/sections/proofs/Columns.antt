@@ -12,7 +12,7 @@ use Rattle.laws.proofs.Mapped.{map-ext}
 use Rattle.laws.proofs.Lists.{upTo-at}
 use Rattle.laws.proofs.Walks.{left, left-all, left-one, left-none, kept-all, kept-passes, kept-fails}
 use Rattle.model.specs.Lines.{largest, countOf}
-use Rattle.rules.specs.Tables.{stride}
+use Rattle.properties.specs.Tables.{stride}
 use Rattle.sections.specs.Limits.{columnOf}
 use Rattle.sections.specs.Rows.{bagAt, bagsIn, HasRows}
 use Rattle.sections.proofs.Rows.{has-row, getD-bagAt}

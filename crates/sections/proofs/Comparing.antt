@@ -10,7 +10,7 @@ use lib.ListN.{drop, getD, drop-of-length-le}
 use lib.Seq.{drop-cons}
 use Rattle.laws.specs.Bags.{contains, strictlyContains}
 use Rattle.laws.specs.Lists.{same}
-use Rattle.rules.specs.Tables.{stride}
+use Rattle.properties.specs.Tables.{stride}
 use Rattle.sections.specs.Rows.{bagAt, HasRow}
 use Rattle.sections.proofs.Rows.{length-bagAt, getD-bagAt}
 

@@ -7,7 +7,7 @@ use lib.ListN.{length, take, drop, getD, length-drop}
 use lib.Seq.{length-take-le, getD-take, getD-drop}
 use Rattle.laws.specs.Bags.{Bag}
 use Rattle.laws.proofs.Walks.{left, left-all, left-one, left-none}
-use Rattle.rules.specs.Tables.{stride}
+use Rattle.properties.specs.Tables.{stride}
 use Rattle.sections.specs.Rows.{bagAt, bagsIn, HasRow, HasRows}
 
 -- the bags of the rows from i on

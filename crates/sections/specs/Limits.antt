@@ -6,7 +6,7 @@ use lib.ListN.{getD}
 use Rattle.laws.specs.Bags.{Bag}
 use Rattle.laws.specs.Lists.{keep, upTo}
 use Rattle.model.specs.Lines.{Line, limit, largest, countOf}
-use Rattle.rules.specs.Tables.{stride}
+use Rattle.properties.specs.Tables.{stride}
 
 -- as the model's limits, with the arity of each property, by number, given as a list
 unfoldable pub limitsBy : List ℕ → List ℕ → List Bag → List Line

@@ -4,7 +4,7 @@ use mathlib.Core.List.{List, map}
 use lib.ListN.{length, take, drop}
 use Rattle.laws.specs.Bags.{Bag}
 use Rattle.laws.specs.Lists.{upTo}
-use Rattle.rules.specs.Tables.{stride}
+use Rattle.properties.specs.Tables.{stride}
 
 -- the bag of so many counts in a row of a table
 unfoldable pub bagAt : ℕ → List ℕ → ℕ → Bag

@@ -15,8 +15,8 @@ use Rattle.model.specs.Extension.{Move}
 use Rattle.model.specs.Lines.{analyse, movesOf, initialConditions}
 use Rattle.model.proofs.ListedSpace.{extensionOf, listed-as-property, conditions-listed}
 use Rattle.model.proofs.OwnLists.{lists-sized, joined-from, adjoin-all-from}
-use Rattle.rules.specs.Tables.{stride, rows}
-use Rattle.rules.proofs.Appending.{length-rows}
+use Rattle.properties.specs.Tables.{stride, rows}
+use Rattle.properties.proofs.Rows.{length-rows}
 use Rattle.extension.specs.Extended.{rowsWithin}
 use Rattle.analysis.specs.declared.Analysed.{Analysed}
 use Rattle.analysis.specs.Analysed.{AnalysisOf}

@@ -14,7 +14,8 @@ use Rattle.laws.proofs.Walks.{listed}
 use Rattle.model.specs.Card.{Task}
 use Rattle.model.specs.Transitions.{Transition, properties, bagOf, transitions}
 use Rattle.model.proofs.Grouping.{Sized, length-bagOf, transitions-sized}
-use Rattle.rules.specs.Tables.{row, rows, rowsBefore, RuleTable}
+use Rattle.properties.specs.Tables.{row, rows, rowsBefore}
+use Rattle.rules.specs.Tables.{RuleTable}
 use Rattle.spaces.specs.Steps.{bagAt, ruleAt, rulesIn}
 use Rattle.spaces.specs.Tabled.{TablesOf}
 

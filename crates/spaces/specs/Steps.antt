@@ -9,7 +9,7 @@ use Rattle.laws.specs.Lists.{keep, upTo}
 use Rattle.laws.specs.Bags.{Bag, plus, isEmpty, support}
 use Rattle.model.specs.Transitions.{Transition}
 use Rattle.model.specs.Spaces.{moved}
-use Rattle.rules.specs.Tables.{stride}
+use Rattle.properties.specs.Tables.{stride}
 
 -- the bag over `size` properties in a row of a table
 unfoldable pub bagAt : ℕ → List ℕ → ℕ → Bag

@@ -5,7 +5,7 @@ use mathlib.Core.List.{List}
 use lib.ListN.{length, getD}
 use Rattle.model.specs.Card.{Task}
 use Rattle.model.specs.Transitions.{properties, bagOf, transitions}
-use Rattle.rules.specs.Tables.{stride}
+use Rattle.properties.specs.Tables.{stride}
 use Rattle.spaces.specs.Steps.{bagAt, rulesIn}
 
 -- Room for so many rules in the three tables.

@@ -1,7 +1,7 @@
 -- The tables hold the task, and its spaces are those of the tables.
 use native.Mathlib.Omega.{arith}
 use Rattle.card.specs.Represents.{taskOf}
-use Rattle.rules.proofs.TaskParts.{arities-right}
+use Rattle.properties.proofs.TaskParts.{arities-right}
 use Rattle.listing.proofs.Preparing.{sizes-few, room-for, holds, given, properties-counted}
 use borrow.Author.Needs.{needs}
 use Rattle.listing.proofs.prepare.Statement.{statement}

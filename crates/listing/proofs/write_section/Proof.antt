@@ -1,7 +1,7 @@
 -- The section of a space, or the closing section.
 use mathlib.Core.Path.{_≡_}
 use lib.ListN.{length}
-use Rattle.rules.proofs.TaskParts.{arities-right}
+use Rattle.properties.proofs.TaskParts.{arities-right}
 use Rattle.listing.proofs.Answering.{listed-space, space-written, closing-written}
 use borrow.Author.Needs.{needs}
 use Rattle.listing.proofs.write_section.Statement.{statement}

@@ -6,7 +6,7 @@ use Rattle.laws.specs.Bags.{less}
 use lib.ListN.{length, getD}
 use Rattle.laws.proofs.Fronts.{Reworked, rework-start, rework-set, rework-keep, rework-end}
 use Rattle.laws.proofs.Bags.{getD-less, length-less}
-use Rattle.rules.proofs.Rows.{getD-zeros}
+use Rattle.properties.proofs.Rows.{getD-zeros}
 use native.Mathlib.Omega.{arith}
 use borrow.Author.Needs.{needs}
 use Rattle.rules.proofs.less_row.Statement.{statement}

@@ -1,6 +1,6 @@
 -- The three bags of a parameter, and the rules that they give.
 use Rattle.card.specs.Represents.{aritiesOf, schemaOf}
-use Rattle.rules.proofs.Predicates.{sum-arities}
+use Rattle.properties.proofs.Predicates.{sum-arities}
 use Rattle.rules.proofs.SchemaRules.{wide-room, wide-put}
 use borrow.Author.Needs.{needs}
 use Rattle.rules.proofs.put_parameter_of.Statement.{statement}

@@ -10,8 +10,8 @@ use Rattle.card.specs.declared.Schema.{Schema}
 use Rattle.card.specs.declared.ArityList.{ArityList}
 use Rattle.card.specs.Represents.{aritiesOf, schemaOf}
 use Rattle.model.specs.Transitions.{Transition}
+use Rattle.properties.proofs.Predicates.{sum-arities}
 use Rattle.rules.specs.Appended.{parameterRulesOver, schemaRulesOver}
-use Rattle.rules.proofs.Predicates.{sum-arities}
 use Rattle.rules.proofs.Appending.{as-rules, as-room}
 use Rattle.rules.proofs.EachItem.{ItemsPut, ItemsGiven, items-start, items-kept, room-item, put-item, items-end}
 use Rattle.rules.proofs.SchemaRules.{schema-sized}

@@ -5,14 +5,14 @@ use mathlib.Core.Path.{sym, ap}
 use mathlib.Core.List.{flatMap}
 use lib.ListN.{length}
 use Rattle.card.specs.Represents.{aritiesOf, schemaOf, schemasOf, taskOf}
+use Rattle.properties.proofs.Predicates.{sum-arities}
+use Rattle.properties.proofs.TaskParts.{noSchema, arities-right, schema-count, schemas-few, schema-at, schema-right}
 use Rattle.rules.specs.Tables.{rulesAtMost}
 use Rattle.rules.specs.Appended.{schemaRulesOver}
-use Rattle.rules.proofs.Predicates.{sum-arities}
 use Rattle.rules.proofs.Appending.{room-fewer, as-rules, as-room, whole-table}
 use Rattle.rules.proofs.EachItem.{ItemsPut, ItemsGiven, items-start, items-kept, room-item, put-item, items-end}
 use Rattle.rules.proofs.RuleRoom.{rules-at-most}
-use Rattle.rules.proofs.SchemaRules.{schemas-sized}
-use Rattle.rules.proofs.TaskParts.{noSchema, arities-right, schema-count, schemas-few, schema-at, schema-right, transitions-over}
+use Rattle.rules.proofs.SchemaRules.{schemas-sized, transitions-over}
 use native.Mathlib.Omega.{arith}
 use Rattle.rules.proofs.rules.Statement.{statement}
 use Rattle.rules.proofs.rules.Tie as tie

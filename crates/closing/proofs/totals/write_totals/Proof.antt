@@ -8,7 +8,7 @@ use Rattle.laws.specs.Lists.{sum, upTo}
 use Rattle.model.specs.Lines.{Line, analysis, totals}
 use Rattle.model.specs.Text.{text}
 use Rattle.card.specs.Represents.{aritiesOf, taskOf}
-use Rattle.rules.proofs.TaskParts.{arities-right}
+use Rattle.properties.proofs.TaskParts.{arities-right}
 use Rattle.text.proofs.Writing.{Remains, remains-as, start, next-fits, next, finish}
 use Rattle.closing.specs.Fixed.{totalFound}
 use Rattle.closing.proofs.FirstTotals.{totals-found}

@@ -8,7 +8,7 @@ use Rattle.model.specs.Lines.{typeLines}
 use Rattle.model.specs.Spaces.{spaces}
 use Rattle.model.specs.Text.{text}
 use Rattle.card.specs.Represents.{taskOf}
-use Rattle.rules.proofs.TaskParts.{arities-right, schemas-few, schema-right}
+use Rattle.properties.proofs.TaskParts.{arities-right, schemas-few, schema-right}
 use Rattle.text.proofs.Writing.{Remains, remains-as, start, next-fits, next, finish}
 use Rattle.closing.specs.Typing.{MembersGiven}
 use Rattle.closing.proofs.Defaults.{no-schema}

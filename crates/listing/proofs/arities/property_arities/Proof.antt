@@ -7,7 +7,7 @@ use mathlib.Core.List.{List}
 use lib.ListN.{length, getD, take}
 use lib.Seq.{getD-take, length-take-le}
 use Rattle.card.specs.Represents.{aritiesOf}
-use Rattle.rules.proofs.Predicates.{sum-arities}
+use Rattle.properties.proofs.Predicates.{sum-arities}
 use Rattle.listing.specs.Arities.{PropertyArities}
 use Rattle.listing.proofs.PuttingArities.{Filled, fill-start, next-inside, fill-next, fill-end}
 use Rattle.listing.proofs.arities.property_arities.Statement.{statement}

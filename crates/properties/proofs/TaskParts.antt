@@ -1,0 +1,195 @@
+-- What a represented task says of its parts: its arities, its schemas and its facts are those of the accepted task.
+use Prim.Native.Nat.{ℕ, zero, suc, _-_, _≤_, _<_}
+use native.Mathlib.Nat.{not-suc-le-zero, le-of-suc-le-suc}
+use native.Mathlib.Omega.{arith}
+use mathlib.Core.Path.{_≡_, refl, ap, _∙_, subst}
+use mathlib.Core.Bool.{Bool, true, _&&_}
+use mathlib.Core.List.{List, [], _∷_, map}
+use lib.Dec.{ltb, eqb}
+use lib.ListN.{length, getD, take, replicate, length-append, length-map, List·getD-append, List·getD-map}
+use lib.Seq.{getD-take}
+use borrow.Author.Tests.{ltb-true}
+use Rattle.laws.specs.Lists.{all}
+use Rattle.laws.proofs.Tests.{and-left}
+use Rattle.laws.proofs.Lists.{all-at, all-intro, mem-getD}
+use Rattle.model.specs.Card as model
+use Rattle.model.specs.Writer.{known}
+use Rattle.model.proofs.Checked.{Checked, CheckedSchema, CheckedList, checked}
+use Rattle.card.specs.declared.Atom.{Atom}
+use Rattle.card.specs.declared.Schema.{Schema}
+use Rattle.card.specs.declared.AtomList.{AtomList}
+use Rattle.card.specs.declared.Task.{Task}
+use Rattle.card.specs.Represents.{taskFor, factsFor, atomFor, atomOf, blankAtom, aritiesFor, schemasFor, schemaFor, atomsFor, padded, blankSchema, Represented}
+use Rattle.card.specs.Represents.{taskOf, schemasOf, aritiesOf, schemaOf, atomsOf, factsOf}
+use Rattle.properties.specs.Represented.{AritiesRight, AtomsRight, SchemaRight, firstProperties}
+use Rattle.properties.proofs.Predicates.{Placed, placed, atom-at}
+
+-- a padded list: its front, and that it is no shorter
+getD-padded : {A : Type 0} (size : ℕ) (blank d : A) (xs : List A) (i : ℕ) → i < length xs → getD (padded size blank xs) i d ≡ getD xs i d
+unfolding padded
+getD-padded size blank d xs i h = List·getD-append xs (replicate (size - length xs) blank) d i h
+
+length-padded : {A : Type 0} (size : ℕ) (blank : A) (xs : List A) → length xs ≤ length (padded size blank xs)
+unfolding padded
+length-padded size blank xs = omega (arith, length-append xs (replicate (size - length xs) blank))
+
+-- a known atom's predicate is known
+predicate-known : (arities : List ℕ) (bound : ℕ) (atoms : List model.Atom) → all (known arities bound) atoms ≡ true
+    → all (λ a. ltb (a .predicate) (length arities)) atoms ≡ true
+unfolding known
+predicate-known arities bound atoms e =
+    all-intro (λ a. ltb (a .predicate) (length arities)) atoms
+    (λ a m.
+    and-left (ltb (a .predicate) (length arities)) (eqb (length (a .arguments)) (getD arities (a .predicate) 0))
+    (and-left (ltb (a .predicate) (length arities) && eqb (length (a .arguments)) (getD arities (a .predicate) 0))
+    (all (λ x. ltb x bound) (a .arguments)) (all-at (known arities bound) atoms e a m)))
+
+-- a list of atoms that passed, with its count beside it
+atoms-right : (arities : List ℕ) (bound : ℕ) (test : model.Atom → Bool) (l : AtomList) → l .count ≡ length (atomsOf arities l)
+    → CheckedList arities bound test (atomsOf arities l) → AtomsRight arities l
+atoms-right arities bound test l e c = record {
+  few = let h = c .few in omega arith;
+  predicates-known = predicate-known arities bound (atomsOf arities l) (c .atoms-known);
+}
+
+-- what stands past the schemas
+abbrev pub noSchema : Schema
+noSchema = record {
+  parameters = 0;
+  preconditions = record { count = 0; atoms = [] };
+  deletes = record { count = 0; atoms = [] };
+  adds = record { count = 0; atoms = [] };
+}
+
+module _ (task : Task) (r : Represented task (taskOf task)) where
+  right : Checked (taskOf task)
+  right = checked (taskOf task) (r .checked)
+
+  -- the arities
+  pub arities-right : AritiesRight (task .predicates)
+  unfolding taskOf taskFor aritiesFor
+  arities-right = record {
+    few = let h = right .few-predicates in omega (arith, ap (λ (x : Task). x .predicates .count) (r .stands));
+    in-range = right .arities-right;
+  }
+
+  -- the schemas
+  pub schema-count : task .schemas .count ≡ length (taskOf task .schemas)
+  unfolding taskFor schemasFor
+  schema-count = ap (λ (x : Task). x .schemas .count) (r .stands)
+
+  pub schemas-few : task .schemas .count ≤ 32
+  schemas-few = let h = right .few-schemas in omega (arith, schema-count)
+
+  pub schemas-inside : task .schemas .count ≤ length (task .schemas .schemas)
+  unfolding taskFor schemasFor
+  schemas-inside =
+      omega (
+        arith,
+        schema-count,
+        ap (λ (x : Task). length (x .schemas .schemas)) (r .stands),
+        length-padded 32 blankSchema (map schemaFor (taskOf task .schemas)),
+        length-map (taskOf task .schemas) schemaFor,
+      )
+
+  module _ (i : ℕ) (d : Schema) (h : i < task .schemas .count) where
+    -- the code's schema is the model's, and the other way round
+    pub schema-at : getD (taskOf task .schemas) i (schemaOf (aritiesOf (task .predicates)) d)
+        ≡ schemaOf (aritiesOf (task .predicates)) (getD (task .schemas .schemas) i d)
+    unfolding taskOf schemasOf
+    schema-at =
+        List·getD-map (schemaOf (aritiesOf (task .predicates))) (take (task .schemas .count) (task .schemas .schemas)) i d
+        ∙ ap (schemaOf (aritiesOf (task .predicates))) (getD-take (task .schemas .count) (task .schemas .schemas) i d h)
+
+    schema-from : getD (task .schemas .schemas) i d ≡ schemaFor (schemaOf (aritiesOf (task .predicates)) (getD (task .schemas .schemas) i d))
+    unfolding taskFor schemasFor
+    schema-from =
+        let arities = aritiesOf (task .predicates) in
+        let all = taskOf task .schemas in
+        ap (λ (x : Task). getD (x .schemas .schemas) i d) (r .stands)
+        ∙ getD-padded 32 blankSchema d (map schemaFor all) i (omega (arith, h, schema-count, length-map all schemaFor))
+        ∙ mapped schemaFor all i (schemaOf arities d) d (omega (arith, h, schema-count))
+        ∙ ap schemaFor schema-at
+      where
+        mapped : {A B : Type 0} (f : A → B) (xs : List A) (i : ℕ) (a : A) (b : B) → i < length xs → getD (map f xs) i b ≡ f (getD xs i a)
+        mapped f [] i a b h = absurd (not-suc-le-zero h)
+        mapped f (x ∷ xs) zero a b h = refl
+        mapped f (x ∷ xs) (suc i) a b h = mapped f xs i a b (le-of-suc-le-suc h)
+
+    passed : CheckedSchema (aritiesOf (task .predicates)) (schemaOf (aritiesOf (task .predicates)) (getD (task .schemas .schemas) i d))
+    unfolding taskOf
+    passed =
+        let arities = aritiesOf (task .predicates) in
+        subst (CheckedSchema arities) schema-at
+        (right .schemas-right (getD (taskOf task .schemas) i (schemaOf arities d))
+        (mem-getD (taskOf task .schemas) i (schemaOf arities d) (omega (arith, h, schema-count))))
+
+    -- the added atoms are counted
+    pub adds-counted : getD (task .schemas .schemas) i d .adds .count
+        ≡ length (schemaOf (aritiesOf (task .predicates)) (getD (task .schemas .schemas) i d) .adds)
+    unfolding schemaOf schemaFor atomsFor
+    adds-counted = ap (λ (x : Schema). x .adds .count) schema-from
+
+    pub schema-right : SchemaRight (aritiesOf (task .predicates)) (getD (task .schemas .schemas) i d)
+    unfolding schemaOf schemaFor atomsFor
+    schema-right =
+        let arities = aritiesOf (task .predicates) in
+        let s = getD (task .schemas .schemas) i d in
+        record {
+          few-parameters = passed .few-parameters;
+          preconditions-right =
+              atoms-right arities _ _ (s .preconditions) (ap (λ (x : Schema). x .preconditions .count) schema-from) (passed .preconditions-right);
+          deletes-right = atoms-right arities _ _ (s .deletes) (ap (λ (x : Schema). x .deletes .count) schema-from) (passed .deletes-right);
+          adds-right = atoms-right arities _ _ (s .adds) adds-counted (passed .adds-right);
+        }
+
+-- the facts
+module _ (task : Task) (r : Represented task (taskOf task)) where
+  pub fact-count : task .facts .count ≡ length (taskOf task .facts)
+  unfolding taskFor factsFor
+  fact-count = ap (λ (x : Task). x .facts .count) (r .stands)
+
+  pub facts-few : task .facts .count ≤ 512
+  facts-few = let h = right task r .few-facts in omega (arith, fact-count)
+
+  pub facts-inside : task .facts .count ≤ length (task .facts .facts)
+  unfolding taskFor factsFor
+  facts-inside =
+      omega (
+        arith,
+        fact-count,
+        ap (λ (x : Task). length (x .facts .facts)) (r .stands),
+        length-padded 512 blankAtom (map atomFor (taskOf task .facts)),
+        length-map (taskOf task .facts) atomFor,
+      )
+
+  pub objects-few : task .objects ≤ 64
+  unfolding taskOf
+  objects-few = right task r .few-objects
+
+  -- each is a known atom
+  pub fact-known : (i : ℕ) (d : Atom) → i < task .facts .count
+      → known (aritiesOf (task .predicates)) (task .objects) (atomOf (aritiesOf (task .predicates)) (getD (task .facts .facts) i d)) ≡ true
+  unfolding taskOf factsOf
+  fact-known i d h =
+      let arities = aritiesOf (task .predicates) in
+      subst (λ (a : model.Atom). known arities (task .objects) a ≡ true)
+      (atom-at arities (task .facts .facts) (task .facts .count) facts-inside i d h)
+      (all-at (known arities (task .objects)) (taskOf task .facts) (right task r .facts-right .facts-known)
+      (getD (taskOf task .facts) i (atomOf arities d)) (mem-getD (taskOf task .facts) i (atomOf arities d) (omega (arith, h, fact-count))))
+
+  -- of a predicate whose properties have their places
+  pub fact-placed : (firsts : List ℕ) → firsts ≡ padded 20 0 (firstProperties (aritiesOf (task .predicates))) → length (task .predicates .arities) ≡ 20
+      → (i : ℕ) (d : Atom) → i < task .facts .count
+      → (getD (task .facts .facts) i d .predicate < length (aritiesOf (task .predicates)))
+      × Placed (task .predicates) firsts (getD (task .facts .facts) i d .predicate)
+  unfolding atomOf known
+  fact-placed firsts numbered e i d h =
+      let arities = aritiesOf (task .predicates) in
+      let a = atomOf arities (getD (task .facts .facts) i d) in
+      let p : a .predicate < length arities =
+      ltb-true (a .predicate) (length arities)
+      (and-left (ltb (a .predicate) (length arities)) (eqb (length (a .arguments)) (getD arities (a .predicate) 0))
+      (and-left (ltb (a .predicate) (length arities) && eqb (length (a .arguments)) (getD arities (a .predicate) 0))
+      (all (λ x. ltb x (task .objects)) (a .arguments)) (fact-known i d h))) in
+      (p, placed (task .predicates) firsts (arities-right task r) e numbered (a .predicate) p)

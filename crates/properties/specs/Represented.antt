@@ -1,0 +1,48 @@
+-- The parts of a task as the code has it: its properties numbered, its objects' bags, and what is asked of its lists.
+use Prim.Native.Nat.{ℕ, _≤_}
+use mathlib.Core.Path.{_≡_}
+use mathlib.Core.Bool.{true}
+use mathlib.Core.List.{List, map}
+use lib.Dec.{ltb}
+use lib.ListN.{length, take}
+use Rattle.laws.specs.Lists.{all, sum, upTo}
+use Rattle.laws.specs.Bags.{Bag}
+use Rattle.model.specs.Card as model
+use Rattle.model.specs.Card.{between}
+use Rattle.model.specs.Transitions.{propertiesFrom, properties, bagOf}
+use Rattle.card.specs.declared.ArityList.{ArityList}
+use Rattle.card.specs.declared.AtomList.{AtomList}
+use Rattle.card.specs.declared.Schema.{Schema}
+use Rattle.card.specs.Represents.{padded, aritiesOf, atomsOf}
+use Rattle.properties.specs.declared.Numbering.{Numbering}
+
+-- the bags of all objects over the task's facts, object by object
+unfoldable pub objectBags : model.Task → List Bag
+objectBags t = map (bagOf (properties t) (t .facts)) (upTo (t .objects))
+
+-- the number of each predicate's first property
+unfoldable pub firstProperties : List ℕ → List ℕ
+firstProperties arities = map (λ p. sum (take p arities)) (upTo (length arities))
+
+-- how the properties of predicates with these arities are numbered: how many there are, and where each predicate's begin
+pub record Numbers (arities : List ℕ) (r : Numbering) : Type 0 where
+  pub counted : r .count ≡ length (propertiesFrom 0 arities)
+  pub firsts : r .firsts ≡ padded 20 0 (firstProperties arities)
+
+-- What the parts of such a task are, as far as a function that is handed one of them asks it.
+-- the arities of a task's predicates
+pub record AritiesRight (l : ArityList) : Type 0 where
+  pub few : l .count ≤ 20
+  pub in-range : all (between 1 3) (aritiesOf l) ≡ true
+
+-- a list of atoms of such predicates
+pub record AtomsRight (arities : List ℕ) (l : AtomList) : Type 0 where
+  pub few : l .count ≤ 8
+  pub predicates-known : all (λ a. ltb (a .predicate) (length arities)) (atomsOf arities l) ≡ true
+
+-- a schema over such predicates
+pub record SchemaRight (arities : List ℕ) (s : Schema) : Type 0 where
+  pub few-parameters : s .parameters ≤ 6
+  pub preconditions-right : AtomsRight arities (s .preconditions)
+  pub deletes-right : AtomsRight arities (s .deletes)
+  pub adds-right : AtomsRight arities (s .adds)

@@ -1,0 +1,162 @@
+// Properties, and the bags of parameters and objects, in tables of rows.
+
+use card::ArityList;
+use card::Atom;
+use card::AtomList;
+use card::Task;
+ghost use mathlib.Core.List.{[], _∷_, _++_};
+ghost use mathlib.Core.Path.{_≡_};
+ghost use Prim.Native.Nat.{ℕ, _+_, _*_, _≤_, _<_};
+ghost use lib.ListN.{length, getD, take, drop, replicate};
+ghost use Rattle.model.specs.Transitions.{propertiesFrom, bagOf};
+ghost use Rattle.card.specs.Represents.{aritiesOf, atomsOf, taskOf, padded, Represented};
+ghost use Rattle.properties.specs.Represented.{objectBags, Numbers, AritiesRight, AtomsRight, firstProperties};
+ghost use Rattle.properties.specs.Tables.{row, rowsBefore};
+ghost use Rattle.properties.specs.Tallies.{raised, marked, tallied, entered, Enterable};
+
+// How properties are numbered: how many there are, and the number of each predicate's first one.
+pub struct Numbering {
+    pub count: usize,
+    pub firsts: [usize; 20],
+}
+
+// A byte as an index.
+fn wide(b: u8) -> usize
+    ensures { λ r. ⌜ (r ≡ b) × (r ≤ 255) ⌝ }
+{
+    b as usize
+}
+
+// The numbers of the properties of a task's predicates.
+pub fn numbered(predicates: ArityList) -> Numbering
+    requires { ⌜ predicates .count ≤ 20 ⌝ }
+    ensures { λ r. ⌜ Numbers (aritiesOf predicates) r ⌝ }
+{
+    let arities = predicates.arities;
+    let n = predicates.count;
+    let mut firsts = [0usize; 20];
+    let mut count: usize = 0;
+    let mut p: usize = 0;
+    while p < n {
+        firsts[p] = count;
+        count = count + wide(arities[p]);
+        p = p + 1;
+    }
+    Numbering { count, firsts }
+}
+
+// Counts one argument: the property at `place` is x's if the argument is x.
+fn count_argument(bag: &mut [u8], place: usize, argument: u8, x: u8)
+    requires { ⌜ place < length (now bag) ⌝ }
+    requires { ⌜ getD (now bag) place 0 < 255 ⌝ }
+    ensures { λ _. ⌜ now (bag .exit) ≡ marked x argument place (now (bag .entry)) ⌝ }
+{
+    if x == argument {
+        bag[place] = bag[place] + 1;
+    }
+}
+
+// Counts an atom: the properties of its predicate begin at `first`, and it has `arity` arguments.
+fn count_atom(bag: &mut [u8], first: usize, a: Atom, arity: usize, x: u8)
+    requires { ⌜ (1 ≤ arity) × (arity ≤ 3) × (first + arity ≤ length (now bag)) ⌝ }
+    requires { ⌜ ((i : ℕ) → getD (now bag) i 0 < 255) ⌝ }
+    ensures { λ _. ⌜ now (bag .exit) ≡ tallied x first (take arity (a .first ∷ a .second ∷ a .third ∷ [])) (now (bag .entry)) ⌝ }
+{
+    count_argument(bag, first, a.first, x);
+    if arity < 2 {
+        return;
+    }
+    count_argument(bag, first + 1, a.second, x);
+    if arity < 3 {
+        return;
+    }
+    count_argument(bag, first + 2, a.third, x);
+}
+
+// The bag of a parameter over a list of atoms, as a row.
+pub fn bag_of_parameter(
+    atoms: AtomList,
+    predicates: ArityList,
+    firsts: [usize; 20],
+    k: u8,
+) -> [u8; 60]
+    requires { ⌜ AritiesRight predicates ⌝ }
+    requires { ⌜ AtomsRight (aritiesOf predicates) atoms ⌝ }
+    requires { ⌜ firsts ≡ padded 20 0 (firstProperties (aritiesOf predicates)) ⌝ }
+    ensures { λ r. ⌜ r ≡ row (bagOf (propertiesFrom 0 (aritiesOf predicates)) (atomsOf (aritiesOf predicates) atoms) k) ⌝ }
+{
+    let n = atoms.count;
+    let mut bag = [0u8; 60];
+    let mut i: usize = 0;
+    while i < n {
+        let a = atoms.atoms[i];
+        let p = wide(a.predicate);
+        let arity = wide(predicates.arities[p]);
+        count_atom(&mut bag, firsts[p], a, arity, k);
+        i = i + 1;
+    }
+    bag
+}
+
+// Empties the first rows of a table of objects' bags.
+fn clear_rows(counts: &mut [u16], rows: usize)
+    requires { ⌜ 60 * rows ≤ length (now counts) ⌝ }
+    ensures { λ _. ⌜ now (counts .exit) ≡ replicate (60 * rows) 0 ++ drop (60 * rows) (now (counts .entry)) ⌝ }
+{
+    let end = rows * 60;
+    let mut i: usize = 0;
+    while i < end {
+        counts[i] = 0;
+        i = i + 1;
+    }
+}
+
+// Counts a property of an object, in the object's row.
+fn enter_argument(counts: &mut [u16], object: u8, property: usize)
+    requires { ⌜ 60 * object + property < length (now counts) ⌝ }
+    requires { ⌜ getD (now counts) (60 * object + property) 0 < 65535 ⌝ }
+    ensures { λ _. ⌜ now (counts .exit) ≡ raised (now (counts .entry)) (60 * object + property) ⌝ }
+{
+    let place = 60 * wide(object) + property;
+    counts[place] = counts[place] + 1;
+}
+
+// Counts a fact for each of its objects: the properties of its predicate begin at `first`, and it has `arity` arguments.
+fn enter_fact(counts: &mut [u16], first: usize, fact: Atom, arity: usize)
+    requires { ⌜ (1 ≤ arity) × (arity ≤ 3) ⌝ }
+    requires { ⌜ Enterable first (take arity (fact .first ∷ fact .second ∷ fact .third ∷ [])) (now counts) ⌝ }
+    ensures { λ _. ⌜ now (counts .exit) ≡ entered first (take arity (fact .first ∷ fact .second ∷ fact .third ∷ [])) (now (counts .entry)) ⌝ }
+{
+    enter_argument(counts, fact.first, first);
+    if arity < 2 {
+        return;
+    }
+    enter_argument(counts, fact.second, first + 1);
+    if arity < 3 {
+        return;
+    }
+    enter_argument(counts, fact.third, first + 2);
+}
+
+// The bags of all objects over the task's facts: one row an object.
+pub fn object_bags(task: Task, counts: &mut [u16])
+    requires { ⌜ Represented task (taskOf task) ⌝ }
+    requires { ⌜ 3840 ≤ length (now counts) ⌝ }
+    ensures { λ _. ⌜ now (counts .exit) ≡ rowsBefore (objectBags (taskOf task)) (now (counts .entry)) ⌝ }
+{
+    let predicates = task.predicates;
+    let facts = task.facts;
+    let numbers = numbered(predicates);
+    let firsts = numbers.firsts;
+    let m = facts.count;
+    let objects = task.objects;
+    clear_rows(counts, objects);
+    let mut i: usize = 0;
+    while i < m {
+        let fact = facts.facts[i];
+        let p = wide(fact.predicate);
+        let arity = wide(predicates.arities[p]);
+        enter_fact(counts, firsts[p], fact, arity);
+        i = i + 1;
+    }
+}
