@@ -1,2 +1,4 @@
 pub mod Showing
 pub mod Within
+pub mod Turns
+pub mod Cleared

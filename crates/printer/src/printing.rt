@@ -4,13 +4,17 @@ use libc::STDOUT_FILENO;
 use listing::Prepared;
 use listing::prepare;
 use listing::write_section;
+ghost use mathlib.Core.List.{[], _∷_};
 ghost use Prim.Native.Nat.{_≤_};
-ghost use lib.ListN.{length};
+ghost use lib.ListN.{length, getD};
+ghost use Rattle.model.specs.Lines.{sections};
 ghost use Rattle.card.specs.Represents.{taskOf, Represented};
 ghost use Rattle.rules.specs.Tables.{rulesAtMost};
 ghost use Rattle.rules.specs.Appended.{Room};
 ghost use Rattle.printer.specs.Ready.{Ready, Lent};
+ghost use Rattle.printer.specs.Leaves.{Leaves, Filled};
 
+// Writes a section from byte 0 of `out`, and prints it from there.
 fn print_section(
     number: usize,
     task: Task,
@@ -25,6 +29,16 @@ fn print_section(
     requires { ⌜ Ready task prepared (now starts) (now finishes) (now counts) ⌝ }
     requires { ⌜ Lent (now origins) (now targets) (now out) ⌝ }
     requires { ⌜ number ≤ prepared .spaces .count ⌝ }
+    ensures { λ _. ⌜
+        Leaves
+        (getD (sections (taskOf task)) number [] ∷ [])
+        (now (out .entry))
+        (now (out .exit))
+        (now (origins .entry))
+        (now (origins .exit))
+        (now (targets .entry))
+        (now (targets .exit))
+        ⌝ }
 {
     let length = write_section(
         out,
@@ -40,7 +54,7 @@ fn print_section(
     io::write_all(STDOUT_FILENO, &out[0..length]);
 }
 
-// The sections of the spaces, and the closing one behind them.
+// The sections of the spaces, and the closing one behind them, each written over the one before.
 fn print_sections(
     task: Task,
     prepared: Prepared,
@@ -53,6 +67,16 @@ fn print_sections(
 )
     requires { ⌜ Ready task prepared (now starts) (now finishes) (now counts) ⌝ }
     requires { ⌜ Lent (now origins) (now targets) (now out) ⌝ }
+    ensures { λ _. ⌜
+        Leaves
+        (sections (taskOf task))
+        (now (out .entry))
+        (now (out .exit))
+        (now (origins .entry))
+        (now (origins .exit))
+        (now (targets .entry))
+        (now (targets .exit))
+        ⌝ }
 {
     let spaces = prepared.spaces;
     let last = spaces.count;
@@ -99,6 +123,17 @@ fn print_with(
     requires { ⌜ Room (rulesAtMost (taskOf task)) (now enablers) (now starts) (now finishes) ⌝ }
     requires { ⌜ 3840 ≤ length (now counts) ⌝ }
     requires { ⌜ Lent (now origins) (now targets) (now out) ⌝ }
+    ensures { λ _. ⌜ Filled (taskOf task) (now (starts .exit)) (now (finishes .exit)) (now (counts .exit)) ⌝ }
+    ensures { λ _. ⌜
+        Leaves
+        (sections (taskOf task))
+        (now (out .entry))
+        (now (out .exit))
+        (now (origins .entry))
+        (now (origins .exit))
+        (now (targets .entry))
+        (now (targets .exit))
+        ⌝ }
 {
     let prepared = prepare(task, enablers, starts, finishes, counts);
     print_sections(

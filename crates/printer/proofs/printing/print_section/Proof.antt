@@ -10,6 +10,7 @@ use Rattle.model.specs.Writer.{checkTask}
 use Rattle.model.specs.Transitions.{transitions}
 use Rattle.model.proofs.RuleCount.{rules-few}
 use Rattle.printer.proofs.Within.{written-within}
+use Rattle.printer.proofs.Turns.{one-left}
 use Rattle.printer.proofs.printing.print_section.Statement.{statement}
 use Rattle.printer.proofs.printing.print_section.Tie as tie
 
@@ -50,7 +51,10 @@ same-length-3 : tie.Need-same-length-3
 same-length-3 c = search needs
 
 returns : tie.Need-returns
-returns c = search needs
+returns c =
+    let called = c .before .before .before .before .before .before .before .before .before .write-section in
+    let kept = called .kept .1 .1 .1 .1 .1 .1 .1 in
+    one-left _ (called .ensures) (called .kept .0) (kept .0) (kept .1 .0)
 
 pub print-section-spec : {M : Type 1} → statement M
 print-section-spec =
