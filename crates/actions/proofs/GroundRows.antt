@@ -40,14 +40,21 @@ row-of (suc (suc zero)) p x y z low high = refl
 row-of (suc (suc (suc zero))) p x y z low high = refl
 row-of (suc (suc (suc (suc n)))) p x y z low high = absurd (omega arith)
 
+-- the number of a row by its bytes
+row-by :
+    (p x y z x₁ y₁ z₁ : ℕ) → x ≡ x₁ → y ≡ y₁ → z ≡ z₁ → rowNumber (p ∷ x ∷ y ∷ z ∷ []) ≡ rowNumber (p ∷ x₁ ∷ y₁ ∷ z₁ ∷ [])
+row-by p x y z x₁ y₁ z₁ e f g = λ k. rowNumber (p ∷ e k ∷ f k ∷ g k ∷ [])
+
 -- the number of a fact's row
 pub fact-row :
-    (arities : List ℕ) (f : Kept) → inRange arities ≡ true → f .predicate < length arities
-    → rowNumber (f .predicate ∷ upTo (getD arities (f .predicate) 0) 1 (f .first) ∷ upTo (getD arities (f .predicate) 0) 2 (f .second)
-    ∷ upTo (getD arities (f .predicate) 0) 3 (f .third) ∷ []) ≡ factNumber (atomOf arities f)
+    (arities : List ℕ) (f : Kept) → inRange arities ≡ true → f .predicate < length arities → (x y z : ℕ)
+    → x ≡ upTo (getD arities (f .predicate) 0) 1 (f .first) → y ≡ upTo (getD arities (f .predicate) 0) 2 (f .second)
+    → z ≡ upTo (getD arities (f .predicate) 0) 3 (f .third)
+    → rowNumber (f .predicate ∷ x ∷ y ∷ z ∷ []) ≡ factNumber (atomOf arities f)
 unfolding factNumber atomOf
-fact-row arities f right h =
-    ap rowNumber (row-of (getD arities (f .predicate) 0) (f .predicate) (f .first) (f .second) (f .third)
+fact-row arities f right h x y z first second third =
+    row-by (f .predicate) x y z _ _ _ first second third
+    ∙ ap rowNumber (row-of (getD arities (f .predicate) 0) (f .predicate) (f .first) (f .second) (f .third)
     (arity-low arities (f .predicate) right h) (arity-high arities (f .predicate) right h))
 
 -- a function of each argument, up to the arity
@@ -58,14 +65,16 @@ map-take g (suc n) (x ∷ xs) = ap (λ (l : List ℕ). g x ∷ l) (map-take g n 
 
 -- the number of the row of a ground atom
 pub ground-row :
-    (arities objects : List ℕ) (a : Kept) → inRange arities ≡ true → a .predicate < length arities
-    → rowNumber (a .predicate ∷ upTo (getD arities (a .predicate) 0) 1 (getD objects (a .first) 0)
-    ∷ upTo (getD arities (a .predicate) 0) 2 (getD objects (a .second) 0)
-    ∷ upTo (getD arities (a .predicate) 0) 3 (getD objects (a .third) 0) ∷ []) ≡ factNumber (ground objects (atomOf arities a))
+    (arities objects : List ℕ) (a : Kept) → inRange arities ≡ true → a .predicate < length arities → (x y z : ℕ)
+    → x ≡ upTo (getD arities (a .predicate) 0) 1 (getD objects (a .first) 0)
+    → y ≡ upTo (getD arities (a .predicate) 0) 2 (getD objects (a .second) 0)
+    → z ≡ upTo (getD arities (a .predicate) 0) 3 (getD objects (a .third) 0)
+    → rowNumber (a .predicate ∷ x ∷ y ∷ z ∷ []) ≡ factNumber (ground objects (atomOf arities a))
 unfolding factNumber ground atomOf
-ground-row arities objects a right h =
+ground-row arities objects a right h x y z first second third =
     let arity : ℕ = getD arities (a .predicate) 0 in
-    ap rowNumber
+    row-by (a .predicate) x y z _ _ _ first second third
+    ∙ ap rowNumber
     (row-of arity (a .predicate) (getD objects (a .first) 0) (getD objects (a .second) 0) (getD objects (a .third) 0)
     (arity-low arities (a .predicate) right h) (arity-high arities (a .predicate) right h)
     ∙ ap (λ (l : List ℕ). factBytes (record { predicate = a .predicate; arguments = l }))

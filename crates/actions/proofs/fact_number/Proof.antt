@@ -1,5 +1,5 @@
 -- The row of a fact.
-use mathlib.Core.Path.{sym, _∙_}
+use mathlib.Core.Path.{_∙_}
 use Rattle.actions.proofs.GroundRows.{fact-row}
 use borrow.Author.Needs.{needs}
 use Rattle.actions.proofs.fact_number.Statement.{statement}
@@ -26,7 +26,9 @@ row-number-requires c κs = search needs
 returns : tie.Need-returns
 returns c =
     let start = c .before .before .before .before .before .before in
-    cc (fact-row (start .args .arities .now) (start .args .f) (start .pre .0) (start .pre .1))
+    c .row-number .ensures
+    ∙ fact-row (start .args .arities .now) (start .args .f) (start .pre .0) (start .pre .1) _ _ _ (c .before .before .before .up-to .ensures)
+    (c .before .before .up-to2 .ensures) (c .before .up-to3 .ensures)
 
 pub fact-number-spec : {M : Type 1} → statement M
 fact-number-spec =

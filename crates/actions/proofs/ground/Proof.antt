@@ -1,5 +1,5 @@
 -- The row of a ground atom.
-use mathlib.Core.Path.{sym, _∙_}
+use mathlib.Core.Path.{_∙_}
 use lib.ListN.{length}
 use Rattle.actions.proofs.GroundRows.{ground-row, atom-predicate, atom-arguments}
 use borrow.Author.Needs.{needs}
@@ -35,8 +35,10 @@ row-number-requires c κs = search needs
 returns : tie.Need-returns
 returns c =
     let start = c .before .before .before .before .before .before .before in
-    cc (ground-row (start .args .arities .now) (start .args .objects .now) (start .args .a) (start .pre .0)
-    (atom-predicate (start .args .arities .now) (length (start .args .objects .now)) (start .args .a) (start .pre .1)))
+    c .row-number .ensures
+    ∙ ground-row (start .args .arities .now) (start .args .objects .now) (start .args .a) (start .pre .0)
+    (atom-predicate (start .args .arities .now) (length (start .args .objects .now)) (start .args .a) (start .pre .1)) _ _ _
+    (c .before .before .before .object .ensures) (c .before .before .object2 .ensures) (c .before .object3 .ensures)
 
 pub ground-spec : {M : Type 1} → statement M
 ground-spec =

@@ -1,5 +1,5 @@
 -- `output::map_of` meets its contract: the four bits add up within a byte.
-use Prim.Native.Nat.{ℕ, _≤_}
+use Prim.Native.Nat.{ℕ, _+_, _≤_}
 use native.Mathlib.Omega.{arith}
 use mathlib.Core.Path.{_≡_}
 use mathlib.Core.Bool.{Bool, true, false}
@@ -48,9 +48,14 @@ add-result-3 c =
       bit-at-most _ _ _ (c .bit-where4 .ensures),
     )
 
+sum-of-four : {w x y z w₁ x₁ y₁ z₁ : ℕ} → w ≡ w₁ → x ≡ x₁ → y ≡ y₁ → z ≡ z₁ → w + x + y + z ≡ w₁ + x₁ + y₁ + z₁
+sum-of-four e f g h = λ k. e k + f k + g k + h k
+
 returns : tie.Need-returns
 unfolding mapOf
-returns c = cc
+returns c =
+    sum-of-four (c .before .before .before .before .before .before .bit-where .ensures) (c .before .before .before .before .bit-where2 .ensures)
+    (c .before .before .bit-where3 .ensures) (c .bit-where4 .ensures)
 
 pub map-of-spec : {M : Type 1} → statement M
 map-of-spec =
