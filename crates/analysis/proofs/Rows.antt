@@ -13,42 +13,11 @@ use Rattle.laws.proofs.Lists.{flatMap-append, mem-getD}
 use Rattle.laws.proofs.Places.{each-place}
 use Rattle.laws.proofs.Bags.{bag-ext}
 use Rattle.properties.specs.Tables.{stride, row, rows, rowsBefore}
+use Rattle.properties.proofs.Rows.{Narrow, length-row, getD-row, length-rows}
 use Rattle.extension.specs.Rows.{bagAt, bagsFrom, bagsIn}
 use Rattle.extension.proofs.Rows.{the}
 
--- ---- one row
-
-pub length-row : (b : Bag) → length b ≤ 60 → length (row b) ≡ 60
-unfolding row
-length-row b h = length-append b (replicate (stride - length b) 0) ∙ omega (arith, length-replicate {A = ℕ} (stride - length b) 0)
-
--- a row has the counts of its bag, and 0 behind them
-pub getD-row : (b : Bag) (j : ℕ) → getD (row b) j 0 ≡ getD b j 0
-unfolding row
-getD-row b j = behind b (stride - length b) j
-  where
-    zeros : (n j : ℕ) → getD {A = ℕ} (replicate n 0) j 0 ≡ 0
-    zeros zero j = refl
-    zeros (suc n) zero = refl
-    zeros (suc n) (suc j) = zeros n j
-
-    behind : (b : Bag) (n j : ℕ) → getD (b ++ replicate n 0) j 0 ≡ getD b j 0
-    behind [] n j = zeros n j
-    behind (x ∷ b) n zero = refl
-    behind (x ∷ b) n (suc j) = behind b n j
-
 -- ---- rows in sequence
-
--- bags of at most 60 counts
-unfoldable pub Narrow : List Bag → Type 0
-Narrow bags = (b : Bag) → List·Memᴰ b bags → length b ≤ 60
-
-pub length-rows : (bags : List Bag) → Narrow bags → length (rows bags) ≡ 60 * length bags
-unfolding rows flatMap Narrow
-length-rows [] h = refl
-length-rows (b ∷ bags) h =
-    length-append (row b) (flatMap row bags)
-    ∙ omega (arith, length-row b (h b (List·Memᴰ·head refl)), length-rows bags (λ x m. h x (List·Memᴰ·tail m)))
 
 -- a row behind others
 pub rows-next : (bags : List Bag) (b : Bag) → rows (bags ++ (b ∷ [])) ≡ rows bags ++ row b
@@ -90,7 +59,7 @@ length-rows-before bags before h k =
 -- a count of a row of a table that begins with rows
 pub row-count : (bags : List Bag) (rest : List ℕ) (i c : ℕ) → Narrow bags → i < length bags → c < 60
     → getD (rows bags ++ rest) (stride * i + c) 0 ≡ getD (getD bags i []) c 0
-unfolding rows flatMap Narrow
+unfolding rows flatMap
 row-count [] rest i c h k l = absurd (omega arith)
 row-count (b ∷ bags) rest zero c h k l =
     let sized = length-row b (h b (List·Memᴰ·head refl)) in
@@ -107,11 +76,9 @@ row-count (b ∷ bags) rest (suc i) c h k l =
 
 -- one bag more
 pub narrow-none : Narrow []
-unfolding Narrow
 narrow-none b m = absurd (List·Memᴰ·not-nil m)
 
 pub narrow-next : (bags : List Bag) (b : Bag) → Narrow bags → length b ≤ 60 → Narrow (bags ++ (b ∷ []))
-unfolding Narrow
 narrow-next bags b h k x m =
     ⊎-elim (h x) (λ j. subst (λ (y : Bag). length y ≤ 60) (sym (List·Memᴰ·eq-of-singleton j)) k) (List·Memᴰ·append-cases bags m)
 
@@ -127,7 +94,6 @@ sized-next n bags b h k x m =
     ⊎-elim (h x) (λ j. ap length (List·Memᴰ·eq-of-singleton j) ∙ k) (List·Memᴰ·append-cases bags m)
 
 pub sized-narrow : (n : ℕ) (bags : List Bag) → n ≤ 60 → Sized n bags → Narrow bags
-unfolding Narrow
 sized-narrow n bags k h b m = omega (arith, h b m)
 
 -- the bag of a row of a table that begins with rows

@@ -26,6 +26,7 @@ use Rattle.model.specs.Spaces.{Space, hasMember, spaces}
 use Rattle.model.specs.Lines.{Line, types, typesOf}
 use Rattle.model.proofs.Closing.{groups, labels, propertiesAt, spaceWith, spacesWith, belongs, spaces-alone}
 use Rattle.model.proofs.Grouping.{length-grouping}
+use Rattle.model.proofs.Grouping.{length-bagOf}
 use Rattle.properties.specs.Tables.{row}
 use Rattle.properties.proofs.Rows.{length-row, getD-row}
 use Rattle.spaces.specs.declared.Spaces as code
@@ -173,12 +174,8 @@ module _ (t : Task) (sp : code.Spaces) (of : SpacesOf t sp) (narrow : length (pr
       ∙ any-ext _ _ (labels t)
       (λ l m. ap (λ (b : Bool). member c (propertiesAt t l) && b) (member-keep-upTo (λ x. belongs t x l) (t .objects) o h)))
 
-  length-bag : (atoms : List Atom) (k : ℕ) → length (bagOf (properties t) atoms k) ≡ length (properties t)
-  unfolding bagOf
-  length-bag atoms k = length-map (properties t) _
-
   below : (atoms : List Atom) (k c : ℕ) → List·Memᴰ c (support (bagOf (properties t) atoms k)) → c < length (properties t)
-  below atoms k c m = omega (arith, support-at (bagOf (properties t) atoms k) c m .0, length-bag atoms k)
+  below atoms k c m = omega (arith, support-at (bagOf (properties t) atoms k) c m .0, length-bagOf (properties t) atoms k)
 
   mask-of-property : (c : ℕ) → c < length (properties t)
       → getD masks (getD (sp .groups) c 0) 0 ≡ getD (masksOf (t .objects) (belongs t)) (getD (groupArray t) c 0) 0
@@ -195,7 +192,7 @@ module _ (t : Task) (sp : code.Spaces) (of : SpacesOf t sp) (narrow : length (pr
       let n = t .objects in
       let b = bagOf (properties t) atoms k in
       let cs = support b in
-      let size = length-bag atoms k in
+      let size = length-bagOf (properties t) atoms k in
       ap (foldl (λ those c. bitAnd those (getD masks (getD (sp .groups) c 0) 0)) (2 ^ n - 1)) (support-row b (omega arith))
       ∙ foldl-ext
       (λ those c. bitAnd those (getD masks (getD (sp .groups) c 0) 0))

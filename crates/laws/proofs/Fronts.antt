@@ -14,7 +14,7 @@ use Rattle.laws.proofs.Tests.{by-test}
 use Rattle.laws.proofs.Lists.{length-upTo}
 
 -- one more number in sequence
-from-next : (start n : ℕ) → from start (suc n) ≡ from start n ++ ((start + n) ∷ [])
+pub from-next : (start n : ℕ) → from start (suc n) ≡ from start n ++ ((start + n) ∷ [])
 unfolding from
 from-next start zero = ap (λ (k : ℕ). k ∷ []) (omega arith)
 from-next start (suc n) =

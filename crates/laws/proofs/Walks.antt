@@ -11,6 +11,7 @@ use lib.Seq.{set-getD, ext-getD}
 use Rattle.laws.specs.Lists.{any, keep, count, from, upTo}
 use Rattle.laws.proofs.Tests.{cond-true, cond-false}
 use Rattle.laws.proofs.Lists.{length-keep, length-upTo, getD-upTo}
+use Rattle.laws.proofs.Fronts.{from-next, keep-parts}
 use Rattle.laws.proofs.Mapped.{getD-map}
 use Rattle.laws.proofs.Counting.{count-most}
 
@@ -132,32 +133,14 @@ module _ {A : Type 0} (f : A → A) where
   length-changed (suc i) [] = refl
   length-changed (suc i) (x ∷ xs) = ap suc (length-changed i xs)
 
--- one more number in sequence
-from-suc : (start size : ℕ) → from start (suc size) ≡ from start size ++ ((start + size) ∷ [])
-unfolding from
-from-suc start zero = ap (λ (k : ℕ). k ∷ []) (sym (add-zero start))
-from-suc start (suc size) =
-    ap (λ (l : List ℕ). start ∷ l) (from-suc (suc start) size)
-    ∙ ap (λ (k : ℕ). start ∷ from (suc start) size ++ (k ∷ [])) (suc-add start size ∙ sym (add-suc start size))
-
 pub upTo-next : (n : ℕ) → upTo (n + 1) ≡ upTo n ++ (n ∷ [])
 unfolding upTo
-upTo-next n = ap (from 0) (add-one n) ∙ from-suc 0 n ∙ ap (λ (k : ℕ). from 0 n ++ (k ∷ [])) (zero-add n)
+upTo-next n = ap (from 0) (add-one n) ∙ from-next 0 n ∙ ap (λ (k : ℕ). from 0 n ++ (k ∷ [])) (zero-add n)
 
 -- one more number that passes a test, or fails it
-keep-append : {A : Type 0} (test : A → Bool) (xs ys : List A) → keep test (xs ++ ys) ≡ keep test xs ++ keep test ys
-unfolding keep
-keep-append test [] ys = refl
-keep-append {A} test (x ∷ xs) ys = go (test x) (keep-append test xs ys)
-  where
-    go : (b : Bool) → keep test (xs ++ ys) ≡ keep test xs ++ keep test ys
-        → cond b (x ∷ keep test (xs ++ ys)) (keep test (xs ++ ys)) ≡ cond b (x ∷ keep test xs) (keep test xs) ++ keep test ys
-    go true e = ap (λ (l : List A). x ∷ l) e
-    go false e = e
-
 module _ (test : ℕ → Bool) (n : ℕ) where
   more : keep test (upTo (n + 1)) ≡ keep test (upTo n) ++ keep test (n ∷ [])
-  more = ap (keep test) (upTo-next n) ∙ keep-append test (upTo n) (n ∷ [])
+  more = ap (keep test) (upTo-next n) ∙ keep-parts test (upTo n) (n ∷ [])
 
   pub keep-one-more : test n ≡ true → keep test (upTo (n + 1)) ≡ keep test (upTo n) ++ (n ∷ [])
   unfolding keep

@@ -1,15 +1,15 @@
 -- What the writer's check says of a table that it accepts, part by part.
-use Prim.Native.Nat.{ℕ, _≤_}
+use Prim.Native.Nat.{ℕ, _≤_, _<_}
 use mathlib.Core.Path.{_≡_, refl, _∙_}
-use mathlib.Core.Bool.{Bool, true, _&&_, not}
+use mathlib.Core.Bool.{Bool, true, false, _&&_, not}
 use mathlib.Core.Logic.{⊎-elim}
 use mathlib.Core.List.{List, [], _∷_, List·Memᴰ, List·Memᴰ·not-nil, List·Memᴰ·cases-cons}
 use mathlib.Core.Option.{Option, none, some}
 use lib.Dec.{leb, ltb, eqb}
 use lib.ListN.{length, getD}
-use borrow.Author.Tests.{leb-true, le-leb, eqb-true, eq-eqb}
+use borrow.Author.Tests.{leb-true, le-leb, lt-leb, eqb-true, eq-eqb}
 use Rattle.laws.specs.Lists.{all}
-use Rattle.laws.proofs.Tests.{and-left, and-right, and-intro}
+use Rattle.laws.proofs.Tests.{and-left, and-right, and-intro, and-false-left, and-false-right}
 use Rattle.model.specs.Answer.{Answer, accepted}
 use Rattle.model.specs.Card.{Atom, Schema, Task, between, has}
 use Rattle.model.specs.Writer.{each, known, checkSchemaAtom, checkList, checkSchema, checkFact, checkTask}
@@ -25,6 +25,14 @@ between-parts low high n e =
 pub between-intro : (low high n : ℕ) → low ≤ n → n ≤ high → between low high n ≡ true
 unfolding between
 between-intro low high n p q = and-intro (leb low n) (leb n high) (le-leb low n p) (le-leb n high q)
+
+pub between-below : (low high n : ℕ) → n < low → between low high n ≡ false
+unfolding between
+between-below low high n h = and-false-left (leb low n) (leb n high) (lt-leb low n h)
+
+pub between-above : (low high n : ℕ) → high < n → between low high n ≡ false
+unfolding between
+between-above low high n h = and-false-right (leb low n) (leb n high) (lt-leb n high h)
 
 -- a known atom: its predicate is one of the task, with as many arguments as its arity, each below the bound
 pub record Known (arities : List ℕ) (bound : ℕ) (a : Atom) : Type 0 where

@@ -22,7 +22,7 @@ use Rattle.properties.specs.Represented.{AritiesRight}
 use Rattle.properties.specs.Tables.{row}
 use Rattle.properties.specs.Tallies.{tallied, entered, Enterable}
 use Rattle.properties.proofs.Rows.{row-ext}
-use Rattle.properties.proofs.Tally.{length-bag}
+use Rattle.model.proofs.Grouping.{length-bagOf}
 use Rattle.properties.proofs.Predicates.{Placed}
 use Rattle.properties.proofs.ParameterBag.{counted-next, row-small}
 use Rattle.properties.proofs.ObjectTable.{rowOf, getD-rowOf, length-rowOf, BagTable, row-entered, length-entered, beyond-entered}
@@ -34,7 +34,7 @@ cleared-table arities few n before h = record {
   kept = sized;
   rows-are =
       λ o k. row-ext (rowOf o table) (bagOf (propertiesFrom 0 arities) [] o) (length-rowOf o table (omega (arith, sized)))
-      (omega (arith, length-bag (propertiesFrom 0 arities) [] o, length-properties 0 arities))
+      (omega (arith, length-bagOf (propertiesFrom 0 arities) [] o, length-properties 0 arities))
       (λ i j. getD-rowOf o table i j ∙ zero-there (60 * o + i) (omega arith) ∙ sym (nothing o i));
   beyond = drop-at (replicate (60 * n) 0) (drop (60 * n) before) (60 * n) (length-replicate {A = ℕ} (60 * n) 0);
 }

@@ -10,6 +10,7 @@ use Rattle.laws.specs.Lists.{all, sum}
 use Rattle.model.specs.Card as model
 use Rattle.model.specs.Transitions.{propertiesFrom, bagOf}
 use Rattle.model.proofs.RuleCount.{length-properties, bag-at-most}
+use Rattle.model.proofs.Grouping.{length-bagOf}
 use Rattle.card.specs.declared.Atom.{Atom}
 use Rattle.card.specs.declared.AtomList.{AtomList}
 use Rattle.card.specs.declared.ArityList.{ArityList}
@@ -18,14 +19,14 @@ use Rattle.properties.specs.Represented.{AritiesRight, AtomsRight, first
 use Rattle.properties.specs.Tables.{row}
 use Rattle.properties.specs.Tallies.{tallied}
 use Rattle.properties.proofs.Rows.{getD-zeros, getD-row, row-ext}
-use Rattle.properties.proofs.Tally.{length-bag, tallied-atom}
+use Rattle.properties.proofs.Tally.{tallied-atom}
 use Rattle.properties.proofs.Predicates.{Placed, placed, sum-arities, length-atoms, atom-at, atom-known}
 
 -- nothing counted yet
 pub nothing-counted : (arities : List ℕ) (x : ℕ) → sum arities ≤ 60 → replicate 60 0 ≡ row (bagOf (propertiesFrom 0 arities) [] x)
 nothing-counted arities x few =
     row-ext (replicate 60 0) (bagOf (propertiesFrom 0 arities) [] x) (length-replicate {A = ℕ} 60 0)
-    (omega (arith, length-bag (propertiesFrom 0 arities) [] x, length-properties 0 arities))
+    (omega (arith, length-bagOf (propertiesFrom 0 arities) [] x, length-properties 0 arities))
     (λ i h. omega (arith, getD-zeros 60 i, bag-at-most (propertiesFrom 0 arities) [] x i))
 
 -- an atom's arguments are as many as its predicate's arity

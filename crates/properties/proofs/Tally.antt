@@ -18,6 +18,7 @@ use Rattle.laws.proofs.Fronts.{sum-take-next, sum-take-within, sum-take-all, Lo
 use Rattle.model.specs.Card.{Atom}
 use Rattle.model.specs.Transitions.{Property, propertiesFrom, occurs, bagOf}
 use Rattle.model.proofs.Totals.{property-at}
+use Rattle.model.proofs.Grouping.{length-bagOf}
 use Rattle.model.proofs.RuleCount.{length-properties}
 use Rattle.properties.specs.Tables.{row}
 use Rattle.properties.specs.Tallies.{raised, marked, tallied}
@@ -122,10 +123,6 @@ bag-next (q ∷ cs) atoms a x zero d h = count-append (λ b. occurs x b q) atoms
     one = unfold count in refl
 bag-next (q ∷ cs) atoms a x (suc c) d h = bag-next cs atoms a x c d (le-of-suc-le-suc h)
 
-pub length-bag : (cs : List Property) (atoms : List Atom) (x : ℕ) → length (bagOf cs atoms x) ≡ length cs
-unfolding bagOf
-length-bag cs atoms x = length-map cs _
-
 module _ (arities : List ℕ) (few : sum arities ≤ 60) (a : Atom) (known : a .predicate < length arities)
     (whole : length (a .arguments) ≡ getD arities (a .predicate) 0) (x : ℕ) where
   first : ℕ
@@ -218,7 +215,7 @@ module _ (arities : List ℕ) (few : sum arities ≤ 60) (a : Atom) (known : a .
   tallied-atom atoms =
       row-ext (tallied x first (a .arguments) old) (bagOf cs (atoms ++ (a ∷ [])) x)
       (length-tallied x first (a .arguments) old ∙ sized)
-      (omega (arith, length-bag cs (atoms ++ (a ∷ [])) x, all))
+      (omega (arith, length-bagOf cs (atoms ++ (a ∷ [])) x, all))
       (λ c h. by-test (ltb c (sum arities)) (λ t. at-property c (ltb-true _ _ t)) (λ t. behind c (ltb-false _ _ t)))
     where
       cs : List Property
@@ -231,7 +228,7 @@ module _ (arities : List ℕ) (few : sum arities ≤ 60) (a : Atom) (known : a .
       old = row (bagOf cs atoms x)
 
       sized : length old ≡ 60
-      sized = length-row (bagOf cs atoms x) (omega (arith, length-bag cs atoms x, all))
+      sized = length-row (bagOf cs atoms x) (omega (arith, length-bagOf cs atoms x, all))
 
       none : Property
       none = record { predicate = 0; position = 0 }
@@ -246,5 +243,5 @@ module _ (arities : List ℕ) (few : sum arities ≤ 60) (a : Atom) (known : a .
       behind c h =
           past old c sized (omega (arith, within))
           ∙ getD-row (bagOf cs atoms x) c
-          ∙ List·getD-eq-default (bagOf cs atoms x) 0 (omega (arith, length-bag cs atoms x, all))
-          ∙ sym (List·getD-eq-default (bagOf cs (atoms ++ (a ∷ [])) x) 0 (omega (arith, length-bag cs (atoms ++ (a ∷ [])) x, all)))
+          ∙ List·getD-eq-default (bagOf cs atoms x) 0 (omega (arith, length-bagOf cs atoms x, all))
+          ∙ sym (List·getD-eq-default (bagOf cs (atoms ++ (a ∷ [])) x) 0 (omega (arith, length-bagOf cs (atoms ++ (a ∷ [])) x, all)))

@@ -12,6 +12,7 @@ use borrow.Author.Tests.{ltb-true}
 use Rattle.laws.specs.Lists.{all}
 use Rattle.laws.proofs.Tests.{and-left}
 use Rattle.laws.proofs.Lists.{all-at, all-intro, mem-getD}
+use Rattle.laws.proofs.Mapped.{getD-map}
 use Rattle.model.specs.Card as model
 use Rattle.model.specs.Writer.{known}
 use Rattle.model.proofs.Checked.{Checked, CheckedSchema, CheckedList, checked}
@@ -108,13 +109,8 @@ module _ (task : Task) (r : Represented task (taskOf task)) where
         let all = taskOf task .schemas in
         ap (λ (x : Task). getD (x .schemas .schemas) i d) (r .stands)
         ∙ getD-padded 32 blankSchema d (map schemaFor all) i (omega (arith, h, schema-count, length-map all schemaFor))
-        ∙ mapped schemaFor all i (schemaOf arities d) d (omega (arith, h, schema-count))
+        ∙ getD-map schemaFor all i (schemaOf arities d) d (omega (arith, h, schema-count))
         ∙ ap schemaFor schema-at
-      where
-        mapped : {A B : Type 0} (f : A → B) (xs : List A) (i : ℕ) (a : A) (b : B) → i < length xs → getD (map f xs) i b ≡ f (getD xs i a)
-        mapped f [] i a b h = absurd (not-suc-le-zero h)
-        mapped f (x ∷ xs) zero a b h = refl
-        mapped f (x ∷ xs) (suc i) a b h = mapped f xs i a b (le-of-suc-le-suc h)
 
     passed : CheckedSchema (aritiesOf (task .predicates)) (schemaOf (aritiesOf (task .predicates)) (getD (task .schemas .schemas) i d))
     unfolding taskOf

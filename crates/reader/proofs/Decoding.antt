@@ -19,7 +19,8 @@ use Rattle.card.specs.declared.Verdict.the-variants.{Accepted}
 use Rattle.card.specs.Represents.{refusalNumber, aritiesOf, aritiesFor, schemasOf, schemasFor, factsOf, factsFor, padded}
 use Rattle.card.specs.Represents.{taskOf, taskFor, answerOf, taskBeside, Decodes}
 use Rattle.reader_atoms.specs.Atoms.{inRange}
-use Rattle.reader_bytes.proofs.Answers.{goes, halts, passes, fails, regroup, differ, byteThat-held}
+use Rattle.model.proofs.Answers.{need-both}
+use Rattle.reader_bytes.proofs.Answers.{goes, halts, fails, regroup, differ, byteThat-held}
 use Rattle.reader_atoms.proofs.Many.{many-all}
 use Rattle.reader_lists.specs.declared.FactsRead.{FactsRead}
 use Rattle.reader_lists.specs.ListReads.{FactsReads}
@@ -85,7 +86,7 @@ module _ (card : List ℕ) where
           pub whole-card : model.isEnd s₄ ≡ true
               → model.decode card ≡ accepted (record { arities = arities; objects = objects; schemas = ss; facts = fs })
           unfolding afterPredicates afterObjects afterSchemas afterFacts
-          whole-card e = in-parts card ∙ goes _ p ∙ goes _ o ∙ goes _ q ∙ goes _ f ∙ passes _ _ e
+          whole-card e = in-parts card ∙ goes _ p ∙ goes _ o ∙ goes _ q ∙ goes _ f ∙ need-both _ _ e
 
 -- the card goes on at a place, or ends there
 pub goes-on : (card : List ℕ) (at : ℕ) → at < length card → model.isEnd (drop at card) ≡ false

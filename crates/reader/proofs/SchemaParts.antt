@@ -18,7 +18,8 @@ use Rattle.reader_bytes.specs.declared.Step.the-variants.{At}
 use Rattle.reader_atoms.specs.declared.Section.the-variants.{Preconditions, Deletes, Adds}
 use Rattle.reader_bytes.specs.Reads.{Reads}
 use Rattle.reader_atoms.specs.Atoms.{sectionAtom, sectionTest, AtomsKept}
-use Rattle.reader_bytes.proofs.Answers.{goes, halts, value-of, differ, between-held}
+use Rattle.model.proofs.Answers.{one-value}
+use Rattle.reader_bytes.proofs.Answers.{goes, halts, differ, between-held}
 use Rattle.reader_atoms.proofs.Many.{many-count}
 use Rattle.reader_bytes.proofs.Reading.{refuses, accepted-by, kept-as}
 use Rattle.reader_lists.proofs.AtomLists.{list-absent, list-uncounted, list-counted}
@@ -29,7 +30,7 @@ use Rattle.reader.specs.Parts.{schemaLists, schemaRefused, SchemaReads}
 list-few : (present : Bool) (read : Option model.Atom → model.Reader model.Atom) (s : List ℕ) {xs : List model.Atom} {rest : List ℕ}
     → model.list present read s ≡ accepted (xs, rest) → length xs ≤ 8
 list-few false read s {xs} e =
-    let none-read : xs ≡ [] = sym (ap (λ v. v .0) (value-of (sym (list-absent false read s refl) ∙ e))) in
+    let none-read : xs ≡ [] = sym (ap (λ v. v .0) (one-value (sym (list-absent false read s refl) ∙ e))) in
     rw none-read (omega arith)
 list-few true read s {xs} {rest} e = counted (model.byteThat (model.between 1 8) 6 s) refl
   where

@@ -18,7 +18,8 @@ use Rattle.reader_atoms.specs.declared.Section.{Section}
 use Rattle.reader_atoms.specs.declared.Section.the-variants.{Preconditions, Deletes, Adds}
 use Rattle.reader_atoms.specs.Atoms.{previousOf, previousFor, aboveBytes, hasBytes, AtomsKept, PreviousKept}
 use Rattle.reader_atoms.specs.Atoms.{sectionTest, belongsBytes, sectionRefusal, sectionAtom}
-use Rattle.reader_bytes.proofs.Answers.{goes, halts, passes, fails}
+use Rattle.model.proofs.Answers.{need-both}
+use Rattle.reader_bytes.proofs.Answers.{goes, halts, fails}
 use Rattle.reader_atoms.proofs.Orders.{Kept, below-bytes, has-bytes}
 
 module _ (arities : List ℕ) (a : Atom) (ka : Kept arities a) where
@@ -76,12 +77,12 @@ module _ (arities : List ℕ) (parameters : ℕ) (section : Section) (preconditi
     pub section-strange : model.above previous a ≡ true → sectionTest section preconditions a ≡ false
         → sectionAtom arities parameters section preconditions previous s ≡ refused (refusalNumber (sectionRefusal section))
     unfolding sectionAtom model.schemaAtom
-    section-strange o t = goes _ e ∙ passes _ _ o ∙ fails _ _ t
+    section-strange o t = goes _ e ∙ need-both _ _ o ∙ fails _ _ t
 
     pub section-passes : model.above previous a ≡ true → sectionTest section preconditions a ≡ true
         → sectionAtom arities parameters section preconditions previous s ≡ accepted (a, s₁)
     unfolding sectionAtom model.schemaAtom
-    section-passes o t = goes _ e ∙ passes _ _ o ∙ passes _ _ t
+    section-passes o t = goes _ e ∙ need-both _ _ o ∙ need-both _ _ t
 
 module _ (arities : List ℕ) (objects : ℕ) (previous : Option model.Atom) (s : List ℕ) where
   -- the fact is refused
@@ -97,4 +98,4 @@ module _ (arities : List ℕ) (objects : ℕ) (previous : Option model.Atom) (s 
 
     pub fact-passes : model.above previous a ≡ true → model.fact arities objects previous s ≡ accepted (a, s₁)
     unfolding model.fact
-    fact-passes o = goes _ e ∙ passes _ _ o
+    fact-passes o = goes _ e ∙ need-both _ _ o

@@ -11,6 +11,7 @@ use lib.Dec.{ltb, eqb}
 use lib.ListN.{length, take, drop, getD, length-take, drop-of-length-le}
 use lib.Seq.{drop-cons, getD-take}
 use Rattle.laws.specs.Lists.{any, same, before}
+use Rattle.laws.proofs.Orders.{before-append}
 use Rattle.model.specs.Card as model
 use Rattle.card.specs.declared.Atom.{Atom}
 use Rattle.card.specs.declared.AtomList.{AtomList}
@@ -66,17 +67,6 @@ same-ends [] (y ∷ ys) zs l = absurd (omega arith)
 same-ends (x ∷ xs) [] zs l = absurd (omega arith)
 same-ends (x ∷ xs) (y ∷ ys) zs l = ap (λ t. eqb x y && t) (same-ends xs ys zs (omega arith))
 
-pub before-ends : (xs ys zs : List ℕ) → length xs ≡ length ys → before (xs ++ zs) (ys ++ zs) ≡ before xs ys
-unfolding before
-before-ends [] [] zs l = self zs
-  where
-    self : (zs : List ℕ) → before zs zs ≡ false
-    self [] = refl
-    self (z ∷ zs) = rw (eqb-self z, ltb-self z) (self zs)
-before-ends [] (y ∷ ys) zs l = absurd (omega arith)
-before-ends (x ∷ xs) [] zs l = absurd (omega arith)
-before-ends (x ∷ xs) (y ∷ ys) zs l = ap (λ t. ltb x y || (eqb x y && t)) (before-ends xs ys zs (omega arith))
-
 -- the atom is kept as atoms are read: places past its arity hold 0
 abbrev pub Kept : List ℕ → Atom → Type 0
 Kept arities a = a ≡ atomFor (atomOf arities a)
@@ -127,7 +117,7 @@ module _ (arities : List ℕ) (a b : Atom) (ka : Kept arities a) (kb : Kept arit
   pub below-bytes : model.below (atomOf arities a) (atomOf arities b) ≡ before (bytesOf a) (bytesOf b)
   unfolding model.below before atomOf
   below-bytes =
-      ap (λ t. ltb (a .predicate) (b .predicate) || t) (compared before before-ends a b arities ka kb (eqb (a .predicate) (b .predicate)) refl)
+      ap (λ t. ltb (a .predicate) (b .predicate) || t) (compared before before-append a b arities ka kb (eqb (a .predicate) (b .predicate)) refl)
 
 -- an atom is on a list as read: one with its bytes is
 pub has-bytes : (arities : List ℕ) (a : Atom) (atoms : List Atom) → Kept arities a → atoms ≡ map atomFor (map (atomOf arities) atoms)

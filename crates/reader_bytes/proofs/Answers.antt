@@ -8,6 +8,7 @@ use lib.Dec.{leb}
 use borrow.Author.Tests.{leb-true, le-leb, lt-leb}
 use Rattle.model.specs.Answer.{Answer, refused, accepted, _>>=_, _>>_, need}
 use Rattle.model.specs.Card.{byte, byteThat, between}
+use Rattle.model.proofs.Answers.{need-both, one-value}
 
 -- a value goes to what follows
 pub goes : {A B : Type 0} {x : Answer A} {a : A} (f : A → Answer B) → x ≡ accepted a → (x >>= f) ≡ f a
@@ -18,11 +19,6 @@ goes f e = ap (λ x. x >>= f) e
 pub halts : {A B : Type 0} {x : Answer A} {n : ℕ} (f : A → Answer B) → x ≡ refused n → (x >>= f) ≡ refused n
 unfolding _>>=_
 halts f e = ap (λ x. x >>= f) e
-
--- a check whose test holds
-pub passes : {A : Type 0} {t : Bool} (n : ℕ) (y : Answer A) → t ≡ true → (need t n >> y) ≡ y
-unfolding _>>_ need
-passes n y e = ap (λ t. need t n >> y) e
 
 -- a check whose test fails
 pub fails : {A : Type 0} {t : Bool} (n : ℕ) (y : Answer A) → t ≡ false → (need t n >> y) ≡ refused n
@@ -43,15 +39,11 @@ module _ (test : ℕ → Bool) (number : ℕ) (s : List ℕ) where
 
   pub byteThat-passes : {b : ℕ} {rest : List ℕ} → byte s ≡ accepted (b, rest) → test b ≡ true → byteThat test number s ≡ accepted (b, rest)
   unfolding byteThat
-  byteThat-passes e t = goes _ e ∙ passes _ _ t
+  byteThat-passes e t = goes _ e ∙ need-both _ _ t
 
   pub byteThat-fails : {b : ℕ} {rest : List ℕ} → byte s ≡ accepted (b, rest) → test b ≡ false → byteThat test number s ≡ refused number
   unfolding byteThat
   byteThat-fails e t = goes _ e ∙ fails _ _ t
-
--- answers that are the same have the same value
-pub value-of : {A : Type 0} {a b : A} → accepted a ≡ accepted b → a ≡ b
-value-of e = cc
 
 -- no answer is both a refusal and a value
 pub differ : {A : Type 0} {n : ℕ} {a : A} → refused n ≡ accepted a → ⊥
@@ -68,7 +60,7 @@ byteThat-held test number (x ∷ xs) {b} {rest} e = tested (test x) refl e
     checked t = need t number >> accepted (x, xs)
 
     tested : (t : Bool) → test x ≡ t → checked t ≡ accepted (b, rest) → test b ≡ true
-    tested true h e = subst (λ y. test y ≡ true) (ap (λ v. v .0) (value-of e)) h
+    tested true h e = subst (λ y. test y ≡ true) (ap (λ v. v .0) (one-value e)) h
     tested false h e = absurd (differ e)
 
 -- a byte that was accepted between two bounds is between them
@@ -81,16 +73,3 @@ between-held low high number s {b} e = both (leb low b) (leb b high) refl refl (
     both true true l h e = (leb-true low b l, leb-true b high h)
     both true false l h e = absurd (false≢true e)
     both false u l h e = absurd (false≢true e)
-
--- a number is between its bounds, below the low one or above the high one
-pub in-bounds : (low high n : ℕ) → low ≤ n → n ≤ high → between low high n ≡ true
-unfolding between
-in-bounds low high n l h = rw (le-leb low n l, le-leb n high h)
-
-pub below-low : (low high n : ℕ) → n < low → between low high n ≡ false
-unfolding between
-below-low low high n l = rw (lt-leb low n l)
-
-pub above-high : (low high n : ℕ) → high < n → between low high n ≡ false
-unfolding between
-above-high low high n h = rw (lt-leb n high h) (and-false (leb low n))

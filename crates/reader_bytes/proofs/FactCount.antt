@@ -11,7 +11,8 @@ use Rattle.model.specs.Card.{byte, factCount}
 use Rattle.card.specs.declared.Refusal.{Refusal}
 use Rattle.card.specs.Represents.{refusalNumber}
 use Rattle.reader_bytes.specs.declared.Cursor.{Cursor}
-use Rattle.reader_bytes.proofs.Answers.{goes, halts, passes, fails, value-of, differ}
+use Rattle.model.proofs.Answers.{need-both, one-value}
+use Rattle.reader_bytes.proofs.Answers.{goes, halts, fails, differ}
 use Rattle.reader_bytes.proofs.Reading.{accepted-by, within-card, refused-by}
 use Rattle.reader_bytes.specs.declared.CountRead.{CountRead}
 use Rattle.reader_bytes.specs.declared.CountRead.the-variants.{Count, Refused as NoCount}
@@ -32,7 +33,7 @@ module _ (s : List ℕ) where
     module _ {low : ℕ} {s₂ : List ℕ} (f : byte s₁ ≡ accepted (low, s₂)) where
       pub count-read : high * 256 + low ≤ 512 → factCount s ≡ accepted (high * 256 + low, s₂)
       unfolding factCount
-      count-read h = goes _ e ∙ goes _ f ∙ passes _ _ (le-leb _ _ h)
+      count-read h = goes _ e ∙ goes _ f ∙ need-both _ _ (le-leb _ _ h)
 
       -- 11: there are too many
       pub count-over : 512 < high * 256 + low → factCount s ≡ refused 11
@@ -50,7 +51,7 @@ count-held (high ∷ low ∷ s) {n} {rest} e = tested (leb (high * 256 + low) 51
     checked t = need t 11 >> accepted (high * 256 + low, s)
 
     tested : (t : Bool) → leb (high * 256 + low) 512 ≡ t → checked t ≡ accepted (n, rest) → n ≤ 512
-    tested true h e = subst (λ m. m ≤ 512) (ap (λ v. v .0) (value-of e)) (leb-true _ _ h)
+    tested true h e = subst (λ m. m ≤ 512) (ap (λ v. v .0) (one-value e)) (leb-true _ _ h)
     tested false h e = absurd (differ e)
 
 -- what a read of the count answers

@@ -19,6 +19,7 @@ use Rattle.model.specs.Lines.{Line, space, spaceLines, arityOf, analyse, analys
 use Rattle.model.specs.Text.{lineText, text}
 use Rattle.model.proofs.Checked.{checked}
 use Rattle.model.proofs.Closing.{belongs}
+use Rattle.model.proofs.ListedSpace.{space-of-analysis}
 use Rattle.model.proofs.RuleCount.{properties-few}
 use Rattle.spaces.specs.declared.Spaces.{Spaces}
 use Rattle.analysis.specs.declared.Analysed.{Analysed}
@@ -44,24 +45,12 @@ use Rattle.space_lines.proofs.SectionRoom.{bag-of-table, conditions-len
 
 -- ---- the definition's lines
 
--- the space of an analysis is the one analysed
-analysed-space : (t : Task) (u : Space) → analyse t u .space ≡ u
-unfolding analyse analyseAs analysePropertySpace
-analysed-space t u = go (kindOf (u .rules))
-  where
-    go : (k : model.Kind) → analyseAs k t u .space ≡ u
-    go model.Kind.static = refl
-    go model.Kind.attribute = refl
-    go model.Kind.property = refl
-    go model.Kind.mixed = refl
-    go model.Kind.wide = refl
-
 -- its S line, and the lines of its conditions by the arities of its properties
 section-lines : (t : Task) (number : ℕ) (u : Space) (arities : List ℕ) → ((c : ℕ) → List·Memᴰ c (u .properties) → arityOf t c ≡ getD arities c 0)
     → spaceLines t number (analyse t u)
     ≡ space number (analyse t u .kind) (u .properties) (u .members) ∷ conditionLines arities (u .properties) (analyse t u .conditions)
 unfolding spaceLines conditionLines
-section-lines t number u arities h = rw (analysed-space t u, limits-are arities (u .properties) (analyse t u .conditions) t h)
+section-lines t number u arities h = rw (space-of-analysis t u, limits-are arities (u .properties) (analyse t u .conditions) t h)
 
 -- ---- properties and members, as lines have them
 

@@ -14,6 +14,7 @@ use Rattle.laws.proofs.Tests.{by-test}
 use Rattle.laws.proofs.Lists.{mem-getD}
 use Rattle.laws.proofs.Walks.{keep-one-more, keep-no-more, keep-few}
 use Rattle.card.specs.Represents.{padded}
+use Rattle.properties.proofs.Rows.{getD-zeros}
 
 module _ {A : Type 0} (n : ℕ) (blank : A) where
   -- the next element takes the first place past the elements
@@ -79,17 +80,12 @@ map-written n f xs array i room h filled =
     one-more = ap (λ (k : ℕ). take k xs) (add-one i) ∙ take-suc xs i 0 h
 
 -- past the elements stands the blank, and past the array nothing
-zeros-at : (k i : ℕ) → getD {A = ℕ} (replicate k 0) i 0 ≡ 0
-zeros-at zero i = refl
-zeros-at (suc k) zero = refl
-zeros-at (suc k) (suc i) = zeros-at k i
-
 pub padded-past : (n : ℕ) (xs : List ℕ) (i : ℕ) → length xs ≤ i → getD (padded n 0 xs) i 0 ≡ 0
 unfolding padded
 padded-past n xs i h =
     ap (λ (k : ℕ). getD (xs ++ replicate (n - length xs) 0) k 0) (beyond h)
     ∙ getD-append-add xs (replicate (n - length xs) 0) (i - length xs) 0
-    ∙ zeros-at (n - length xs) (i - length xs)
+    ∙ getD-zeros (n - length xs) (i - length xs)
   where
     beyond : {a b : ℕ} → a ≤ b → b ≡ a + (b - a)
     beyond p = omega arith

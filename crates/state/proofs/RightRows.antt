@@ -12,7 +12,7 @@ use lib.ListN.{length, getD, take, drop, replicate, length-drop}
 use lib.Seq.{drop-drop, getD-drop}
 use borrow.Author.Tests.{lt-ltb, le-ltb, eq-eqb, eqb-true, ltb-true, ltb-false, leb-true, le-leb, lt-leb}
 use Rattle.laws.specs.Lists.{all, before}
-use Rattle.laws.proofs.Tests.{never, and-left, and-right, and-intro, same-test, by-test}
+use Rattle.laws.proofs.Tests.{never, and-left, and-right, and-intro, and-swap, same-test, by-test}
 use Rattle.laws.proofs.Lists.{all-at, mem-getD}
 use Rattle.model.specs.Card.{Atom, Task, below, above, between}
 use Rattle.model.specs.Writer.{known}
@@ -102,12 +102,6 @@ right-row-fact arities objects p x y z right e =
     go (suc (suc (suc zero))) k low high r = rw k
     go (suc (suc (suc (suc n)))) k low high r = absurd (omega arith)
 
--- tests in another order
-regrouped : (a b c : Bool) → (a && (b && c)) ≡ (b && (a && c))
-regrouped true b c = refl
-regrouped false true c = refl
-regrouped false false c = refl
-
 -- a number at or above the next one is above
 leb-next : (m n : ℕ) → leb (suc m) n ≡ ltb m n
 leb-next m n = same-test (leb (suc m) n) (ltb m n) (λ e. lt-ltb m n (leb-true (suc m) n e)) (λ e. le-leb (suc m) n (ltb-true m n e))
@@ -181,7 +175,7 @@ module _ (arities : List ℕ) (objects : ℕ) (right : inRange arities ≡ true)
           ∙ ap (λ (b : Bool). b && rowsIn (signature arities objects) (suc (factNumber f)) n (drop 4 buffer))
           (in-order previous least before f is-known four-bytes)
           ∙ ap (λ (b : Bool). above previous f && b) (later (after f is-known four-bytes))
-          ∙ regrouped (above previous f) (rowsRight (signature arities objects) n (drop 4 buffer))
+          ∙ and-swap (above previous f) (rowsRight (signature arities objects) n (drop 4 buffer))
           (ascending (some f) (factsIn arities n (drop 4 buffer)))
 
 -- so 15 is one pass over the rows

@@ -25,17 +25,18 @@ use Rattle.writer.specs.declared.checking.Checked.{Checked}
 use Rattle.writer.specs.declared.checking.Checked.the-variants as checked
 use Rattle.writer.specs.declared.Writing.the-variants as writing
 use Rattle.writer.proofs.Entries.{length-entries, length-table}
-use Rattle.writer.proofs.Sequence.{then-left, then-right, need-passed, passed-says}
+use Rattle.model.proofs.Answers.{need-inv}
+use Rattle.writer.proofs.Sequence.{then-left, then-right, passed-says}
 use Rattle.writer.proofs.SchemaLaws.{passed-list}
 
 -- a number that passed a test against a bound
 bounded : (n bound number : ℕ) (rest : Answer (Unit {0})) → need (leb n bound) number >> rest ≡ accepted tt → n ≤ bound
-bounded n bound number rest e = leb-true n bound (need-passed (leb n bound) number (then-left (need (leb n bound) number) rest e))
+bounded n bound number rest e = leb-true n bound (need-inv (leb n bound) number (then-left (need (leb n bound) number) rest e))
 
 ranged : (low high n number : ℕ) (rest : Answer (Unit {0})) → need (model.between low high n) number >> rest ≡ accepted tt → n ≤ high
 unfolding model.between
 ranged low high n number rest e =
-    leb-true n high (and-right (leb low n) (leb n high) (need-passed _ number (then-left (need (model.between low high n) number) rest e)))
+    leb-true n high (and-right (leb low n) (leb n high) (need-inv _ number (then-left (need (model.between low high n) number) rest e)))
 
 -- a schema that passed fits
 passed-schema : (arities : List ℕ) (s : Schema) → checkSchema arities (schemaTable arities s) ≡ accepted tt → schemaFits s ≡ true

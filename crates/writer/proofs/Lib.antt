@@ -1,4 +1,3 @@
-pub mod Ranges
 pub mod AtomLaws
 pub mod Entries
 pub mod KeptTables

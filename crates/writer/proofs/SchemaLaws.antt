@@ -20,8 +20,9 @@ use Rattle.writer.specs.declared.checking.Checked.the-variants.{Passed, 
 use Rattle.writer.specs.declared.checking.Place.{Place}
 use Rattle.writer.specs.declared.checking.Place.the-variants.{Preconditions, Deletes, Adds}
 use Rattle.writer.proofs.Entries.{length-table}
-use Rattle.writer.proofs.Ranges.{below-range, above-range, in-range}
-use Rattle.writer.proofs.Sequence.{passed-says, then-left, need-passed, then-refused, then-passed}
+use Rattle.model.proofs.CheckParts.{between-below, between-above, between-intro}
+use Rattle.model.proofs.Answers.{need-inv}
+use Rattle.writer.proofs.Sequence.{passed-says, then-left, then-refused, then-passed}
 
 -- the schema of zeros, which stands past the end of a list of schemas
 abbrev pub zeros : Schema
@@ -52,7 +53,7 @@ module _ (check : Option model.Atom → model.Atom → Answer (Unit {0})) (ariti
   pub passed-list : checkList check (atomTable arities list) ≡ accepted tt → list .count ≤ 8
   unfolding checkList
   passed-list e =
-      let fits = need-passed _ 6 (then-left _ (each check none (atomTable arities list)) e) in
+      let fits = need-inv _ 6 (then-left _ (each check none (atomTable arities list)) e) in
       leb-true (list .count) 8 (rw (length-atoms arities list) at fits)
 
 -- one list of a schema
@@ -64,11 +65,11 @@ listCheck arities s place list =
 module _ (arities : List ℕ) (s : Schema) where
   pub low-header : s .parameters < 1 → checkedSays (Refused HeaderRange) ≡ checkSchema arities (schemaTable arities s)
   unfolding checkedSays checkSchema schemaTable need _>>_ refusalNumber
-  low-header h = rw (below-range 1 6 (s .parameters) h)
+  low-header h = rw (between-below 1 6 (s .parameters) h)
 
   pub high-header : 6 < s .parameters → checkedSays (Refused HeaderRange) ≡ checkSchema arities (schemaTable arities s)
   unfolding checkedSays checkSchema schemaTable need _>>_ refusalNumber
-  high-header h = rw (above-range 1 6 (s .parameters) h)
+  high-header h = rw (between-above 1 6 (s .parameters) h)
 
   module _ (low : 1 ≤ s .parameters) (high : s .parameters ≤ 6) where
     three-lists : (answer : Answer (Unit {0}))
@@ -77,7 +78,7 @@ module _ (arities : List ℕ) (s : Schema) where
         >> (listCheck arities s Deletes (s .deletes) >> listCheck arities s Adds (s .adds))
         → answer ≡ checkSchema arities (schemaTable arities s)
     unfolding checkSchema schemaTable need _>>_ placeTest placeNumber
-    three-lists answer e = rw (in-range 1 6 (s .parameters) low high) e
+    three-lists answer e = rw (between-intro 1 6 (s .parameters) low high) e
 
     module _ (c₁ : Checked) (says₁ : checkedSays c₁ ≡ listCheck arities s Preconditions (s .preconditions)) where
       pub preconditions-refused : (r : Refusal) → c₁ ≡ Refused r → checkedSays c₁ ≡ checkSchema arities (schemaTable arities s)

@@ -36,12 +36,6 @@ unfolding _>>_
 then-right (refused n) y e = let z : _≡_ {A = ℕ} 0 1 = cc in absurd (omega arith)
 then-right (accepted done) y e = e
 
--- a check that passed: its test did
-pub need-passed : (test : Bool) (number : ℕ) → need test number ≡ accepted tt → test ≡ true
-unfolding need
-need-passed true number e = refl
-need-passed false number e = let z : _≡_ {A = ℕ} 0 1 = cc in absurd (omega arith)
-
 -- the code's check that passed: the definition's did
 pub passed-says : (c : Checked) (x : Answer (Unit {0})) → checkedSays c ≡ x → c ≡ Passed → x ≡ accepted tt
 unfolding checkedSays

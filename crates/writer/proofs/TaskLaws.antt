@@ -24,22 +24,22 @@ use Rattle.writer.specs.Checking.{checkedSays, checkRest}
 use Rattle.writer.specs.declared.checking.Checked.{Checked}
 use Rattle.writer.specs.declared.checking.Checked.the-variants.{Passed, Refused}
 use Rattle.writer.proofs.Entries.{entries-within, length-entries, length-table}
-use Rattle.writer.proofs.Ranges.{below-range, above-range, in-range}
+use Rattle.model.proofs.CheckParts.{between-below, between-above, between-intro}
 use Rattle.writer.proofs.Sequence.{then-refused, then-passed}
 
 module _ (arities : List ℕ) (objects : ℕ) (schemas : SchemaList) (facts : FactList) where
   pub few-objects : objects < 1 → checkedSays (Refused ObjectRange) ≡ checkRest arities objects schemas facts
   unfolding checkedSays checkRest need _>>_ refusalNumber
-  few-objects h = rw (below-range 1 64 objects h)
+  few-objects h = rw (between-below 1 64 objects h)
 
   pub many-objects : 64 < objects → checkedSays (Refused ObjectRange) ≡ checkRest arities objects schemas facts
   unfolding checkedSays checkRest need _>>_ refusalNumber
-  many-objects h = rw (above-range 1 64 objects h)
+  many-objects h = rw (between-above 1 64 objects h)
 
   module _ (low : 1 ≤ objects) (high : objects ≤ 64) where
     pub many-schemas : 32 < schemas .count → checkedSays (Refused SchemaRange) ≡ checkRest arities objects schemas facts
     unfolding checkedSays checkRest need _>>_ refusalNumber
-    many-schemas h = rw (in-range 1 64 objects low high, lt-leb (schemas .count) 32 h)
+    many-schemas h = rw (between-intro 1 64 objects low high, lt-leb (schemas .count) 32 h)
 
     module _ (few : schemas .count ≤ 32) (c : Checked)
         (says : checkedSays c ≡ each (λ before. checkSchema arities) none
@@ -50,7 +50,7 @@ module _ (arities : List ℕ) (objects : ℕ) (schemas : SchemaList) (facts : Fa
           >> each (checkFact arities objects) none (map (atomOf arities) (entries (facts .count) blankAtom (facts .facts))))
           → answer ≡ checkRest arities objects schemas facts
       unfolding checkRest need _>>_
-      from-schemas answer e = rw (in-range 1 64 objects low high, le-leb (schemas .count) 32 few) e
+      from-schemas answer e = rw (between-intro 1 64 objects low high, le-leb (schemas .count) 32 few) e
 
       pub schemas-refused : (r : Refusal) → c ≡ Refused r → checkedSays c ≡ checkRest arities objects schemas facts
       schemas-refused r e = from-schemas _ (then-refused _ _ _ says r e)
@@ -74,11 +74,11 @@ arities-part t h = rw sub-zero (sym (entries-within (t .predicates .count) 0 (t 
 module _ (t : Task) where
   pub no-predicates : t .predicates .count < 1 → checkedSays (Refused PredicateRange) ≡ checkTask (tableOf t)
   unfolding checkedSays checkTask tableOf need _>>_ refusalNumber
-  no-predicates h = rw (length-entries (t .predicates .count) 0 (t .predicates .arities), below-range 1 20 (t .predicates .count) h)
+  no-predicates h = rw (length-entries (t .predicates .count) 0 (t .predicates .arities), between-below 1 20 (t .predicates .count) h)
 
   pub many-predicates : 20 < t .predicates .count → checkedSays (Refused PredicateRange) ≡ checkTask (tableOf t)
   unfolding checkedSays checkTask tableOf need _>>_ refusalNumber
-  many-predicates h = rw (length-entries (t .predicates .count) 0 (t .predicates .arities), above-range 1 20 (t .predicates .count) h)
+  many-predicates h = rw (length-entries (t .predicates .count) 0 (t .predicates .arities), between-above 1 20 (t .predicates .count) h)
 
   module _ (low : 1 ≤ t .predicates .count) (high : t .predicates .count ≤ 20) (twenty : length (t .predicates .arities) ≡ 20)
       (r : Bool) (says : r ≡ all (between 1 3) (take (t .predicates .count - 0) (drop 0 (t .predicates .arities)))) where
@@ -86,7 +86,7 @@ module _ (t : Task) where
     unfolding checkedSays checkTask tableOf need _>>_ refusalNumber
     bad-arity e =
         let bad = sym (rw (arities-part t (omega arith)) at says) ∙ e in
-        rw (length-entries (t .predicates .count) 0 (t .predicates .arities), in-range 1 20 (t .predicates .count) low high, bad)
+        rw (length-entries (t .predicates .count) 0 (t .predicates .arities), between-intro 1 20 (t .predicates .count) low high, bad)
 
     pub good-arities : r ≡ true → (answer : Answer (Unit {0}))
         → answer ≡ checkRest (take (t .predicates .count - 0) (drop 0 (t .predicates .arities))) (t .objects) (t .schemas) (t .facts)
@@ -97,7 +97,7 @@ module _ (t : Task) where
         let arities : List ℕ = entries (t .predicates .count) 0 (t .predicates .arities) in
         rw (
           length-entries (t .predicates .count) 0 (t .predicates .arities),
-          in-range 1 20 (t .predicates .count) low high,
+          between-intro 1 20 (t .predicates .count) low high,
           good,
           length-table (schemaTable arities) (t .schemas .count) blankSchema (t .schemas .schemas),
           length-table (atomOf arities) (t .facts .count) blankAtom (t .facts .facts),

@@ -4,7 +4,8 @@ use mathlib.Core.Path.{refl, _∙_}
 use native.Mathlib.Omega.{arith}
 use borrow.Author.Tests.{not-true, not-false}
 use Rattle.card.specs.Represents.{refusalNumber}
-use Rattle.reader_bytes.proofs.Answers.{byteThat-ends, byteThat-passes, byteThat-fails, in-bounds, below-low, above-high}
+use Rattle.model.proofs.CheckParts.{between-intro, between-below, between-above}
+use Rattle.reader_bytes.proofs.Answers.{byteThat-ends, byteThat-passes, byteThat-fails}
 use Rattle.reader_bytes.proofs.Reading.{accepts, refuses, byte-read, byte-within, byte-refused, passed-on}
 use Rattle.reader.proofs.Headers.{role-absent, role-present}
 use borrow.Author.Needs.{needs}
@@ -36,7 +37,7 @@ unfolding refusalNumber
 returns-3 c =
     let read = byte-read (c .before .before .before .before .byte .ensures) (c .before .before .read .given .1) in
     let few : c .before .before .read .given .0 .0 < 2 = omega (arith, c .if2 .taken) in
-    refuses (role-present _ _ (not-false _ (c .before .before .before .before .before .if1 .left)) ∙ byteThat-fails _ _ _ read (below-low _ _ _ few))
+    refuses (role-present _ _ (not-false _ (c .before .before .before .before .before .if1 .left)) ∙ byteThat-fails _ _ _ read (between-below _ _ _ few))
 
 returns-4 : tie.Need-returns-4
 returns-4 c =
@@ -44,7 +45,7 @@ returns-4 c =
     let e = c .before .before .before .read .given .1 in
     let low : 2 ≤ c .before .before .before .read .given .0 .0 = omega (arith, c .before .if2 .left) in
     let high : c .before .before .before .read .given .0 .0 ≤ 6 = omega (arith, c .if3 .taken) in
-    let passes = byteThat-passes _ _ _ (byte-read w e) (in-bounds _ _ _ low high) in
+    let passes = byteThat-passes _ _ _ (byte-read w e) (between-intro _ _ _ low high) in
     accepts (role-present _ _ (not-false _ (c .before .before .before .before .before .before .if1 .left)) ∙ passes) (byte-within w e) refl
 
 returns-5 : tie.Need-returns-5
@@ -55,7 +56,7 @@ returns-5 c =
     let at-if1 = at-byte .before in
     let read = byte-read (at-byte .byte .ensures) (at-read .read .given .1) in
     let many : 6 < at-read .read .given .0 .0 = omega (arith, c .if3 .left) in
-    refuses (role-present _ _ (not-false _ (at-if1 .if1 .left)) ∙ byteThat-fails _ _ _ read (above-high _ _ _ many))
+    refuses (role-present _ _ (not-false _ (at-if1 .if1 .left)) ∙ byteThat-fails _ _ _ read (between-above _ _ _ many))
 
 pub role-count-spec : {M : Type 1} → statement M
 role-count-spec =

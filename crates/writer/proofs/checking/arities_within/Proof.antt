@@ -7,7 +7,7 @@ use mathlib.Core.List.{List, _∷_}
 use lib.ListN.{length, getD, drop, drop-of-length-le}
 use lib.Seq.{drop-cons}
 use native.Mathlib.Numerals.{add-one}
-use Rattle.writer.proofs.Ranges.{below-range, above-range, in-range}
+use Rattle.model.proofs.CheckParts.{between-below, between-above, between-intro}
 use Rattle.writer.proofs.Loops.{all-failed, all-next}
 use borrow.Author.Needs.{needs}
 use Rattle.laws.specs.Lists.{all}
@@ -25,13 +25,13 @@ module _ (arities : List ℕ) (i : ℕ) (left : Left arities i) where
     taken-apart = rw add-one (rw (drop-cons arities i 0 at) at left)
 
     low : getD arities i 0 < 1 → false ≡ all (between 1 3) arities
-    low h = all-failed _ _ _ _ taken-apart (below-range 1 3 _ h)
+    low h = all-failed _ _ _ _ taken-apart (between-below 1 3 _ h)
 
     high : 3 < getD arities i 0 → false ≡ all (between 1 3) arities
-    high h = all-failed _ _ _ _ taken-apart (above-range 1 3 _ h)
+    high h = all-failed _ _ _ _ taken-apart (between-above 1 3 _ h)
 
     within : 1 ≤ getD arities i 0 → getD arities i 0 ≤ 3 → Left arities (i + 1)
-    within h k = all-next _ _ _ _ taken-apart (in-range 1 3 _ h k)
+    within h k = all-next _ _ _ _ taken-apart (between-intro 1 3 _ h k)
 
   ended : length arities ≤ i → true ≡ all (between 1 3) arities
   unfolding all
