@@ -23,15 +23,15 @@ use Rattle.spaces.specs.SpaceTable.{SpacesOf}
 use Rattle.analysis.specs.declared.Analysed.{Analysed}
 use Rattle.analysis.specs.Analysed.{Given, AnalysisOf, spaceAt}
 use Rattle.space_lines.specs.Listed as space
+use Rattle.totals.specs.Arities.{PropertyArities}
+use Rattle.totals.proofs.PuttingArities.{arities-by-property}
 use Rattle.model.proofs.RuleCount.{properties-few}
 use Rattle.card.specs.declared.Task.{Task}
 use Rattle.text.specs.Written.{Writes}
 use Rattle.listing.specs.declared.Listed.{Listed}
 use Rattle.listing.specs.declared.Listed.the-variants.{Length, CardRefused, OutputShort, SectionUnknown}
 use Rattle.listing.specs.Answers.{listedSays, Lists}
-use Rattle.listing.specs.Arities.{PropertyArities}
 use Rattle.listing.specs.Sections.{sectionOf, TaskLists}
-use Rattle.listing.proofs.PuttingArities.{arities-by-property}
 use Rattle.listing.proofs.SectionsOf.{section-count, section-of-space, section-closing}
 
 -- ---- what is written

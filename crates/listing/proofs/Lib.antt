@@ -1,6 +1,4 @@
 pub mod SectionsOf
-pub mod PuttingArities
-pub mod EnteringTotals
-pub mod AllTotals
 pub mod Preparing
 pub mod Answering
+pub mod Cleared

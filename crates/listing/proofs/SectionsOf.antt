@@ -4,13 +4,13 @@ use native.Mathlib.Nat.{le-of-suc-le-suc, not-suc-le-zero, add-zero, zero-add}
 use native.Mathlib.Omega.{arith}
 use mathlib.Core.Path.{_≡_, refl, sym, ap, _∙_, subst}
 use mathlib.Core.List.{List, [], _∷_, _++_, map}
-use lib.ListN.{length, getD, length-append, length-map, List·getD-append}
+use lib.ListN.{length, getD, length-append, List·getD-append}
 use lib.Seq.{getD-append-add}
-use Rattle.laws.proofs.Mapped.{getD-map}
 use Rattle.model.specs.Card.{Task}
-use Rattle.model.specs.Spaces.{Space, spaces}
+use Rattle.model.specs.Spaces.{spaces}
 use Rattle.model.specs.Lines.{Line, Analysis, analyse, analysis, spaceLines, spaceSections, closingLines, sections}
 use Rattle.analysis.specs.Analysed.{spaceAt}
+use Rattle.totals.proofs.Analyses.{length-analysis, analysis-at}
 
 -- as many sections as analyses
 length-space-sections : (t : Task) (n : ℕ) (analyses : List Analysis) → length (spaceSections t n analyses) ≡ length analyses
@@ -29,17 +29,8 @@ space-section-at t n (a ∷ analyses) (suc i) d h =
     ∙ ap (λ (k : ℕ). spaceLines t k (getD analyses i d)) (omega arith)
 
 module _ (t : Task) where
-  pub length-analysis : length (analysis t) ≡ length (spaces t)
-  unfolding analysis
-  length-analysis = length-map (spaces t) (analyse t)
-
   count-fronts : length (spaceSections t 0 (analysis t)) ≡ length (spaces t)
-  count-fronts = length-space-sections t 0 (analysis t) ∙ length-analysis
-
-  -- the analysis at a place is that of the space there
-  pub analysis-at : (i : ℕ) (d : Analysis) → i < length (spaces t) → getD (analysis t) i d ≡ analyse t (spaceAt t i)
-  unfolding analysis spaceAt
-  analysis-at i d h = getD-map (analyse t) (spaces t) i (record { properties = []; rules = []; members = [] }) d h
+  count-fronts = length-space-sections t 0 (analysis t) ∙ length-analysis t
 
   -- one section for each space, and one more
   pub section-count : length (sections t) ≡ length (spaces t) + 1
@@ -55,9 +46,9 @@ module _ (t : Task) where
       let none : Analysis = analyse t (spaceAt t 0) in
       List·getD-append (spaceSections t 0 (analysis t)) (closingLines t (analysis t) ∷ []) [] i
       (subst (λ (n : ℕ). i < n) (sym count-fronts) h)
-      ∙ space-section-at t 0 (analysis t) i none (subst (λ (n : ℕ). i < n) (sym length-analysis) h)
+      ∙ space-section-at t 0 (analysis t) i none (subst (λ (n : ℕ). i < n) (sym (length-analysis t)) h)
       ∙ ap (λ (k : ℕ). spaceLines t k (getD (analysis t) i none)) (zero-add i)
-      ∙ ap (spaceLines t i) (analysis-at i none h)
+      ∙ ap (spaceLines t i) (analysis-at t i none h)
 
   -- the closing section
   pub section-closing : (i : ℕ) → i ≡ length (spaces t) → getD (sections t) i [] ≡ closingLines t (analysis t)

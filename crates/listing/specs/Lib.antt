@@ -1,4 +1,2 @@
 pub mod Answers
-pub mod Arities
-pub mod Totals
 pub mod Sections

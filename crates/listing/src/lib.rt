@@ -1,9 +1,5 @@
 // The listing call: one section per call, written as text.
-pub mod arities;
-pub mod totals;
-
 use analysis::analyse;
-use arities::property_arities;
 use card::Refusal;
 use card::Task;
 use card::Verdict;
@@ -15,6 +11,7 @@ use rules::rules_at_most;
 use space_lines::write_space;
 use spaces::Spaces;
 use spaces::spaces_of;
+use totals::arities::property_arities;
 use totals::fixed_totals;
 ghost use mathlib.Core.Path.{_≡_};
 ghost use mathlib.Core.List.{[]};

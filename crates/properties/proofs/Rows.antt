@@ -4,11 +4,11 @@ use native.Mathlib.Nat.{mul-suc}
 use native.Mathlib.Omega.{arith}
 use mathlib.Core.Path.{_≡_, refl, sym, _∙_, subst}
 use mathlib.Core.List.{List, [], _∷_, _++_, flatMap, List·Memᴰ, List·Memᴰ·head, List·Memᴰ·tail}
-use lib.ListN.{length, getD, replicate, length-append, length-replicate}
-use lib.Seq.{ext-getD}
+use lib.ListN.{length, getD, drop, replicate, length-append, length-drop, length-replicate}
+use lib.Seq.{ext-getD, length-take-le, getD-take, getD-drop}
 use Rattle.laws.specs.Bags.{Bag}
 use Rattle.laws.proofs.Lists.{flatMap-append}
-use Rattle.properties.specs.Tables.{row, rows}
+use Rattle.properties.specs.Tables.{stride, row, rows, bagAt, HasRow}
 
 -- zeros behind a list of numbers change no number
 pub getD-zeros : (n i : ℕ) → _≡_ {A = ℕ} (getD (replicate n 0) i 0) 0
@@ -59,3 +59,13 @@ length-rows (b ∷ bags) narrow =
 pub rows-join : (xs ys : List Bag) → rows (xs ++ ys) ≡ rows xs ++ rows ys
 unfolding rows
 rows-join xs ys = flatMap-append row xs ys
+
+-- the bag read back from a row inside a table: so many counts, those of the row
+module _ {size i : ℕ} {table : List ℕ} (h : HasRow size i table) where
+  pub length-bagAt : length (bagAt size table i) ≡ size
+  unfolding bagAt
+  length-bagAt = length-take-le size (drop (stride * i) table) (omega (arith, length-drop (stride * i) table))
+
+  pub getD-bagAt : (k : ℕ) → k < size → getD (bagAt size table i) k 0 ≡ getD table (stride * i + k) 0
+  unfolding bagAt
+  getD-bagAt k l = getD-take size (drop (stride * i) table) k 0 l ∙ getD-drop (stride * i) table k 0

@@ -12,10 +12,10 @@ use Rattle.laws.proofs.Mapped.{map-ext}
 use Rattle.laws.proofs.Lists.{upTo-at}
 use Rattle.laws.proofs.Walks.{left, left-all, left-one, left-none, kept-all, kept-passes, kept-fails}
 use Rattle.model.specs.Lines.{largest, countOf}
-use Rattle.properties.specs.Tables.{stride}
+use Rattle.properties.specs.Tables.{stride, bagAt, bagsIn, HasRows}
 use Rattle.sections.specs.Limits.{columnOf}
-use Rattle.sections.specs.Rows.{bagAt, bagsIn, HasRows}
-use Rattle.sections.proofs.Rows.{has-row, getD-bagAt}
+use Rattle.properties.proofs.Rows.{getD-bagAt}
+use Rattle.sections.proofs.Rows.{has-row}
 use Rattle.text.proofs.MaskMembers.{Below}
 
 -- The largest of a column: what is found so far and the rows from i on say the same as all.

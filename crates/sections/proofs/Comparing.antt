@@ -10,9 +10,8 @@ use lib.ListN.{drop, getD, drop-of-length-le}
 use lib.Seq.{drop-cons}
 use Rattle.laws.specs.Bags.{contains, strictlyContains}
 use Rattle.laws.specs.Lists.{same}
-use Rattle.properties.specs.Tables.{stride}
-use Rattle.sections.specs.Rows.{bagAt, HasRow}
-use Rattle.sections.proofs.Rows.{length-bagAt, getD-bagAt}
+use Rattle.properties.specs.Tables.{stride, bagAt, HasRow}
+use Rattle.properties.proofs.Rows.{length-bagAt, getD-bagAt}
 
 -- Two rows of a table, from the count at k on.
 module _ {size i j : ℕ} {table : List ℕ} (h : HasRow size i table × HasRow size j table) (k : ℕ) where

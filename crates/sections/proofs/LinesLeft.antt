@@ -15,7 +15,7 @@ use Rattle.laws.proofs.Lists.{all-at, mem-getD, flatMap-append}
 use Rattle.laws.proofs.Tests.{and-right}
 use Rattle.model.specs.Lines.{Line, state, membership, exclusion, exclusions, excluded}
 use Rattle.model.specs.Text.{lineText, text}
-use Rattle.sections.specs.Rows.{bagsIn}
+use Rattle.properties.specs.Tables.{bagsIn}
 use Rattle.sections.proofs.Rows.{bagsFrom, rows-start, rows-next, rows-end, lent, row-lent}
 use Rattle.text.proofs.Writing.{Begins}
 

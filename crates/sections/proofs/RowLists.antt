@@ -9,7 +9,7 @@ use Rattle.laws.specs.Lists.{any, keep, upTo}
 use Rattle.laws.proofs.Mapped.{getD-map}
 use Rattle.laws.proofs.Lists.{length-upTo, getD-upTo, upTo-at}
 use Rattle.model.specs.Lines.{minimal, excluded}
-use Rattle.sections.specs.Rows.{bagAt, bagsIn}
+use Rattle.properties.specs.Tables.{bagAt, bagsIn}
 
 -- tests that agree keep the same
 pub keep-ext : {A : Type 0} (f g : A → Bool) (xs : List A) → ((x : A) → List·Memᴰ x xs → f x ≡ g x) → keep f xs ≡ keep g xs

@@ -8,8 +8,7 @@ use lib.ListN.{length, take, drop, replicate, length-append, length-replicate}
 use lib.Seq.{take-at, drop-append-add}
 use Rattle.laws.specs.Bags.{Bag}
 use Rattle.laws.specs.Lists.{from, upTo}
-use Rattle.properties.specs.Tables.{stride, row, rows}
-use Rattle.sections.specs.Rows.{bagAt, bagsIn}
+use Rattle.properties.specs.Tables.{stride, row, rows, bagAt, bagsIn}
 
 -- a row has 60 counts
 length-row : (b : Bag) → length b ≤ stride → length (row b) ≡ stride

@@ -5,7 +5,7 @@ use mathlib.Core.Bool.{Bool, true, false, _||_, not}
 use mathlib.Core.List.{List}
 use Rattle.laws.specs.Bags.{Bag}
 use Rattle.laws.specs.Lists.{any}
-use Rattle.sections.specs.Rows.{bagAt, bagsIn}
+use Rattle.properties.specs.Tables.{bagAt, bagsIn}
 use Rattle.sections.proofs.Rows.{bagsFrom, rows-start, rows-next, rows-end}
 
 module _ (test : Bag → Bool) (size count : ℕ) (table : List ℕ) where

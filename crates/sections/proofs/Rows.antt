@@ -3,12 +3,10 @@ use Prim.Native.Nat.{ℕ, _+_, _-_, _*_, _≤_, _<_}
 use native.Mathlib.Omega.{arith}
 use mathlib.Core.Path.{_≡_, sym, ap, _∙_}
 use mathlib.Core.List.{List, [], _∷_, map}
-use lib.ListN.{length, take, drop, getD, length-drop}
-use lib.Seq.{length-take-le, getD-take, getD-drop}
+use lib.ListN.{take, drop}
 use Rattle.laws.specs.Bags.{Bag}
 use Rattle.laws.proofs.Walks.{left, left-all, left-one, left-none}
-use Rattle.properties.specs.Tables.{stride}
-use Rattle.sections.specs.Rows.{bagAt, bagsIn, HasRow, HasRows}
+use Rattle.properties.specs.Tables.{stride, bagAt, bagsIn, HasRow, HasRows}
 
 -- the bags of the rows from i on
 unfoldable pub bagsFrom : ℕ → ℕ → List ℕ → ℕ → List Bag
@@ -33,17 +31,6 @@ module _ (size count : ℕ) (table : List ℕ) where
   -- each of the rows is inside the table
   pub has-row : HasRows size count table → (i : ℕ) → i < count → HasRow size i table
   has-row h i k = record { inside = omega arith }
-
-module _ {size i : ℕ} {table : List ℕ} (h : HasRow size i table) where
-  -- a bag has so many counts
-  pub length-bagAt : length (bagAt size table i) ≡ size
-  unfolding bagAt
-  length-bagAt = length-take-le size (drop (stride * i) table) (omega (arith, length-drop (stride * i) table))
-
-  -- and they are those of its row
-  pub getD-bagAt : (k : ℕ) → k < size → getD (bagAt size table i) k 0 ≡ getD table (stride * i + k) 0
-  unfolding bagAt
-  getD-bagAt k l = getD-take size (drop (stride * i) table) k 0 l ∙ getD-drop (stride * i) table k 0
 
 -- the part of a table that is lent as a row
 abbrev pub lent : ℕ → List ℕ → ℕ → List ℕ

@@ -2,7 +2,7 @@
 ghost use mathlib.Core.Path.{_≡_};
 ghost use Rattle.laws.specs.Bags as laws;
 ghost use Rattle.laws.specs.Lists.{same};
-ghost use Rattle.sections.specs.Rows.{bagAt, HasRow};
+ghost use Rattle.properties.specs.Tables.{bagAt, HasRow};
 
 // None of the counts of row i is smaller than that of row j.
 pub fn contains(table: &[u16], size: usize, i: usize, j: usize) -> bool

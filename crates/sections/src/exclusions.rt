@@ -9,7 +9,7 @@ ghost use lib.Dec.{ltb};
 ghost use Rattle.laws.specs.Lists.{all, keep};
 ghost use Rattle.model.specs.Lines.{exclusion, exclusions, excluded};
 ghost use Rattle.model.specs.Text.{text};
-ghost use Rattle.sections.specs.Rows.{bagsIn, HasRows};
+ghost use Rattle.properties.specs.Tables.{bagsIn, HasRows};
 ghost use Rattle.text.specs.Room.{Room};
 ghost use Rattle.text.specs.Written.{Writes};
 

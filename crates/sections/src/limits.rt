@@ -9,7 +9,7 @@ ghost use lib.ListN.{length};
 ghost use Rattle.model.specs.Lines.{limit, largest};
 ghost use Rattle.model.specs.Text.{lineText, text};
 ghost use Rattle.sections.specs.Limits.{limitsBy, columnOf};
-ghost use Rattle.sections.specs.Rows.{bagsIn, HasRows};
+ghost use Rattle.properties.specs.Tables.{bagsIn, HasRows};
 ghost use Rattle.text.specs.Kinds.{propertiesOf};
 ghost use Rattle.text.specs.Room.{Room};
 ghost use Rattle.text.specs.Written.{Writes};

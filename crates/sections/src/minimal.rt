@@ -9,7 +9,7 @@ ghost use Rattle.laws.specs.Bags.{strictlyContains};
 ghost use Rattle.laws.specs.Lists.{any};
 ghost use Rattle.model.specs.Lines.{membership, minimal};
 ghost use Rattle.model.specs.Text.{text};
-ghost use Rattle.sections.specs.Rows.{bagAt, bagsIn, HasRows};
+ghost use Rattle.properties.specs.Tables.{bagAt, bagsIn, HasRows};
 ghost use Rattle.sections.specs.Indices.{IndicesOf};
 ghost use Rattle.text.specs.Room.{Room};
 ghost use Rattle.text.specs.Written.{Writes};

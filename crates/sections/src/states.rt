@@ -3,7 +3,7 @@ use text::lists::write_state;
 ghost use mathlib.Core.List.{map};
 ghost use Rattle.model.specs.Lines.{state};
 ghost use Rattle.model.specs.Text.{text};
-ghost use Rattle.sections.specs.Rows.{bagsIn, HasRows};
+ghost use Rattle.properties.specs.Tables.{bagsIn, HasRows};
 ghost use Rattle.text.specs.Room.{Room};
 ghost use Rattle.text.specs.Written.{Writes};
 

@@ -15,12 +15,11 @@ use Rattle.model.specs.Extension.{Move}
 use Rattle.model.specs.Lines.{analyse, movesOf, initialConditions}
 use Rattle.model.proofs.ListedSpace.{extensionOf, listed-as-property, conditions-listed}
 use Rattle.model.proofs.OwnLists.{lists-sized, joined-from, adjoin-all-from}
-use Rattle.properties.specs.Tables.{stride, rows}
+use Rattle.properties.specs.Tables.{stride, rows, bagsIn, HasRows}
 use Rattle.properties.proofs.Rows.{length-rows}
 use Rattle.extension.specs.Extended.{rowsWithin}
 use Rattle.analysis.specs.declared.Analysed.{Analysed}
 use Rattle.analysis.specs.Analysed.{AnalysisOf}
-use Rattle.sections.specs.Rows.{bagsIn, HasRows}
 use Rattle.sections.proofs.RowTables.{bags-of-rows}
 
 -- rules and initial conditions are over the space's properties

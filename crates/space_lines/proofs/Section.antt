@@ -29,7 +29,7 @@ use Rattle.analysis.specs.Own.{ownOf}
 use Rattle.analysis.specs.Sorting as analysis
 use Rattle.analysis.proofs.Places as places-of
 use Rattle.analysis.proofs.Places.{own-at, members-at, objects-are, own-few, place-few, members-inside, labelAt}
-use Rattle.sections.specs.Rows.{bagsIn, HasRows}
+use Rattle.properties.specs.Tables.{bagsIn, HasRows}
 use Rattle.sections.proofs.LimitLines.{limits-are}
 use Rattle.sections.proofs.LinesLeft.{first-line}
 use Rattle.sections.proofs.RowLists.{length-bagsIn}

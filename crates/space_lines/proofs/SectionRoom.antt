@@ -13,9 +13,8 @@ use Rattle.laws.proofs.Lists.{keep-at, upTo-at, place-of, mem-take, flatMap-app
 use Rattle.laws.proofs.Walks.{keep-few}
 use Rattle.model.specs.Lines.{Line, space, state, membership, minimal, exclusions, largest, countOf}
 use Rattle.model.specs.Text.{lineText, text}
-use Rattle.properties.specs.Tables.{stride}
+use Rattle.properties.specs.Tables.{stride, bagAt, bagsIn}
 use Rattle.sections.specs.Limits.{limitsBy}
-use Rattle.sections.specs.Rows.{bagAt, bagsIn}
 use Rattle.sections.proofs.RowLists.{length-bagsIn}
 use Rattle.sections.proofs.SectionLengths.{states-length, limits-length, memberships-length, exclusions-length}
 use Rattle.text.proofs.Lengths.{AllBelow, space-length}

@@ -16,7 +16,7 @@ use Rattle.model.specs.Text.{text}
 use Rattle.sections.specs.declared.minimal.Indices.{Indices}
 use Rattle.sections.specs.Indices.{IndicesOf}
 use Rattle.sections.specs.Limits.{limitsBy}
-use Rattle.sections.specs.Rows.{bagsIn, HasRows}
+use Rattle.properties.specs.Tables.{bagsIn, HasRows}
 use Rattle.sections.proofs.RowLists.{length-bagsIn}
 use Rattle.text.specs.Room.{Room}
 use Rattle.text.specs.Written.{Writes}

@@ -16,7 +16,7 @@ ghost use Rattle.model.specs.Card.{Task};
 ghost use Rattle.model.specs.Lines.{spaceLines, analyse};
 ghost use Rattle.model.specs.Text.{text};
 ghost use Rattle.analysis.specs.Analysed.{spaceAt};
-ghost use Rattle.sections.specs.Rows.{bagsIn, HasRows};
+ghost use Rattle.properties.specs.Tables.{bagsIn, HasRows};
 ghost use Rattle.text.specs.Kinds.{kindSays, propertiesOf};
 ghost use Rattle.text.specs.Room.{Room};
 ghost use Rattle.text.specs.Written.{Writes};

@@ -16,7 +16,8 @@ use Rattle.model.proofs.Grouping.{grouping-lowest}
 use Rattle.model.proofs.Closing.{groups, labels, spacesWith, spaceWith, belongs, spaces-alone}
 use Rattle.card.specs.Represents.{padded}
 use Rattle.spaces.specs.SpaceTable.{maskOf, groupsOf, lowestOf, SpacesOf}
-use Rattle.spaces.specs.Steps.{bagAt, ruleAt, rulesIn, movedAt, labelled, opened, roundsOf}
+use Rattle.properties.specs.Tables.{bagAt}
+use Rattle.spaces.specs.Steps.{ruleAt, rulesIn, movedAt, labelled, opened, roundsOf}
 use Rattle.spaces.specs.Tabled.{TablesOf}
 use Rattle.spaces.proofs.Filling.{padded-below}
 use Rattle.spaces.proofs.Rows.{moved-below}

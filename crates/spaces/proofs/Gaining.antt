@@ -10,7 +10,8 @@ use Rattle.laws.specs.Bags.{isEmpty}
 use Rattle.laws.proofs.Tests.{cond-true, cond-false}
 use Rattle.model.specs.Transitions.{Transition}
 use Rattle.model.specs.Spaces.{moved}
-use Rattle.spaces.specs.Steps.{bagAt, ruleAt, movedAt, firstOr, joinAt, joinFirst, enabledBy, gainBy, roundOf, roundsOf}
+use Rattle.properties.specs.Tables.{bagAt}
+use Rattle.spaces.specs.Steps.{ruleAt, movedAt, firstOr, joinAt, joinFirst, enabledBy, gainBy, roundOf, roundsOf}
 use Rattle.spaces.proofs.Rows.{moved-below}
 
 -- no property is moved: nobody joins

@@ -14,9 +14,9 @@ use Rattle.laws.proofs.Walks.{listed}
 use Rattle.model.specs.Card.{Task}
 use Rattle.model.specs.Transitions.{Transition, properties, bagOf, transitions}
 use Rattle.model.proofs.Grouping.{Sized, length-bagOf, transitions-sized}
-use Rattle.properties.specs.Tables.{row, rows, rowsBefore}
+use Rattle.properties.specs.Tables.{row, rows, rowsBefore, bagAt}
 use Rattle.rules.specs.Tables.{RuleTable}
-use Rattle.spaces.specs.Steps.{bagAt, ruleAt, rulesIn}
+use Rattle.spaces.specs.Steps.{ruleAt, rulesIn}
 use Rattle.spaces.specs.Tabled.{TablesOf}
 
 module _ (size : ℕ) (narrow : size ≤ 60) where

@@ -16,7 +16,8 @@ use Rattle.laws.proofs.Mapped.{getD-map, map-ext, keep-ext}
 use Rattle.laws.proofs.Masks.{mask, mask-and, mask-or, mask-none, mask-one, mask-all}
 use Rattle.model.specs.Transitions.{Transition}
 use Rattle.model.specs.Spaces.{moved}
-use Rattle.spaces.specs.Steps.{bagAt, openAt, opened, joinAt, joinFirst, enabledBy, gainBy, roundOf, roundsOf}
+use Rattle.properties.specs.Tables.{bagAt}
+use Rattle.spaces.specs.Steps.{openAt, opened, joinAt, joinFirst, enabledBy, gainBy, roundOf, roundsOf}
 
 -- an object is a member of the space of a label
 abbrev pub Joins : Type 0

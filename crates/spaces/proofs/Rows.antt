@@ -5,8 +5,7 @@ use mathlib.Core.Path.{_≡_, refl, sym, ap, _∙_, subst}
 use mathlib.Core.Bool.{Bool, true, false}
 use mathlib.Core.List.{List, [], _∷_, List·Memᴰ, List·Memᴰ·head, List·Memᴰ·not-nil}
 use lib.Dec.{ltb}
-use lib.ListN.{length, getD, drop, length-drop}
-use lib.Seq.{getD-take, getD-drop, length-take-le}
+use lib.ListN.{length, getD}
 use Rattle.laws.specs.Lists.{keep, upTo}
 use Rattle.laws.specs.Bags.{plus, support, isEmpty}
 use Rattle.laws.proofs.Tests.{by-test}
@@ -14,7 +13,9 @@ use Rattle.laws.proofs.Lists.{upTo-at, upTo-intro, keep-at, keep-intro}
 use Rattle.laws.proofs.Bags.{getD-plus, length-plus, isEmpty-at, isEmpty-intro}
 use Rattle.laws.proofs.Mapped.{keep-ext}
 use Rattle.laws.proofs.Walks.{left, kept-passes, kept-fails, kept-none}
-use Rattle.spaces.specs.Steps.{bagAt, movedAt, firstOr}
+use Rattle.properties.specs.Tables.{bagAt, HasRow}
+use Rattle.properties.proofs.Rows.{length-bagAt, getD-bagAt}
+use Rattle.spaces.specs.Steps.{movedAt, firstOr}
 
 -- a property has a count in the row of a table that begins at a place; and a rule moves it by its counts in two tables
 unfoldable pub used : List ℕ → ℕ → ℕ → Bool
@@ -25,47 +26,42 @@ movedBy starts finishes at c = ltb 0 (getD starts (at + c) 0 + getD finishes (at
 
 module _ (size : ℕ) (narrow : size ≤ 60) (row : ℕ) where
   module _ (table : List ℕ) (whole : 60 * row + 60 ≤ length table) where
-    pub length-bagAt : length (bagAt size table row) ≡ size
-    unfolding bagAt
-    length-bagAt = length-take-le size (drop (60 * row) table) (simp length-drop (omega arith))
-
-    pub bagAt-at : (c : ℕ) → c < size → getD (bagAt size table row) c 0 ≡ getD table (60 * row + c) 0
-    unfolding bagAt
-    bagAt-at c h = getD-take size (drop (60 * row) table) c 0 h ∙ getD-drop (60 * row) table c 0
+    inside : HasRow size row table
+    inside = record { inside = omega arith }
 
     -- the properties of a row's bag
     pub support-kept : support (bagAt size table row) ≡ keep (used table (60 * row)) (upTo size)
     unfolding support used
     support-kept =
-        ap (λ (n : ℕ). keep (λ c. ltb 0 (getD (bagAt size table row) c 0)) (upTo n)) length-bagAt
-        ∙ keep-ext _ _ (upTo size) (λ c m. ap (ltb 0) (bagAt-at c (upTo-at size c m)))
+        ap (λ (n : ℕ). keep (λ c. ltb 0 (getD (bagAt size table row) c 0)) (upTo n)) (length-bagAt inside)
+        ∙ keep-ext _ _ (upTo size) (λ c m. ap (ltb 0) (getD-bagAt inside c (upTo-at size c m)))
 
     -- the bag is empty where every count is 0, and not where one is not
     pub row-empty : ((c : ℕ) → c < size → getD table (60 * row + c) 0 ≡ 0) → isEmpty (bagAt size table row) ≡ true
     row-empty none =
         isEmpty-intro (bagAt size table row)
-        (λ c h. let k = subst (λ (n : ℕ). c < n) length-bagAt h in bagAt-at c k ∙ none c k)
+        (λ c h. let k = subst (λ (n : ℕ). c < n) (length-bagAt inside) h in getD-bagAt inside c k ∙ none c k)
 
     pub row-used : (c : ℕ) → c < size → (getD table (60 * row + c) 0 ≡ 0 → ⊥) → isEmpty (bagAt size table row) ≡ false
     row-used c h some =
-        by-test (isEmpty (bagAt size table row)) (λ e. absurd (some (sym (bagAt-at c h) ∙ isEmpty-at (bagAt size table row) e c))) (λ e. e)
+        by-test (isEmpty (bagAt size table row)) (λ e. absurd (some (sym (getD-bagAt inside c h) ∙ isEmpty-at (bagAt size table row) e c))) (λ e. e)
 
   module _ (starts finishes : List ℕ) (s : 60 * row + 60 ≤ length starts) (f : 60 * row + 60 ≤ length finishes) where
     same-length : length (bagAt size starts row) ≡ length (bagAt size finishes row)
-    same-length = length-bagAt starts s ∙ sym (length-bagAt finishes f)
+    same-length = length-bagAt (inside starts s) ∙ sym (length-bagAt (inside finishes f))
 
     -- the properties that a row's rule moves
     pub moved-kept : movedAt size starts finishes row ≡ keep (movedBy starts finishes (60 * row)) (upTo size)
     unfolding movedAt support movedBy
     moved-kept =
         ap (λ (n : ℕ). keep (λ c. ltb 0 (getD (plus (bagAt size starts row) (bagAt size finishes row)) c 0)) (upTo n))
-        (length-plus size (bagAt size starts row) (bagAt size finishes row) (length-bagAt starts s) (length-bagAt finishes f))
+        (length-plus size (bagAt size starts row) (bagAt size finishes row) (length-bagAt (inside starts s)) (length-bagAt (inside finishes f)))
         ∙ keep-ext _ _ (upTo size)
         (λ c m.
         let h = upTo-at size c m in
         ap (ltb 0)
         (getD-plus (bagAt size starts row) (bagAt size finishes row) same-length c
-        ∙ (λ i. bagAt-at starts s c h i + bagAt-at finishes f c h i)))
+        ∙ (λ i. getD-bagAt (inside starts s) c h i + getD-bagAt (inside finishes f) c h i)))
 
     -- they are among the first `size`
     pub moved-below : (c : ℕ) → List·Memᴰ c (movedAt size starts finishes row) → c < size

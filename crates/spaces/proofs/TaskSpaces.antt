@@ -24,7 +24,8 @@ use Rattle.model.specs.Spaces.{moved, moves, condition, spaces}
 use Rattle.model.proofs.Grouping.{Lowest, label-known, grouping-joins, grouping-lowest, transitions-sized, moved-known}
 use Rattle.model.proofs.Closing.{groups, labels, propertiesAt, rulesAt, opens, spaceWith, spacesWith, admitted, step, belongs, spaces-alone}
 use Rattle.card.specs.Represents.{padded}
-use Rattle.spaces.specs.Steps.{bagAt, labelled, opened, roundsOf}
+use Rattle.properties.specs.Tables.{bagAt}
+use Rattle.spaces.specs.Steps.{labelled, opened, roundsOf}
 use Rattle.spaces.specs.SpaceTable.{maskOf}
 use Rattle.spaces.proofs.Filling.{padded-at, padded-below}
 use Rattle.spaces.proofs.Joins.{Joins, firstLabel, admittedBy, brings, oneRound, manyRounds, opensBy}

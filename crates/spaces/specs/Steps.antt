@@ -3,17 +3,13 @@ use Prim.Native.Nat.{ℕ, zero, suc, _*_, _^_, _-_}
 use mathlib.Core.Bool.{cond}
 use mathlib.Core.List.{List, [], _∷_, map, foldl}
 use lib.Dec.{eqb}
-use lib.ListN.{getD, set, take, drop, replicate}
+use lib.ListN.{getD, set, replicate}
 use lib.Bits.{bitAnd, bitOr}
 use Rattle.laws.specs.Lists.{keep, upTo}
 use Rattle.laws.specs.Bags.{Bag, plus, isEmpty, support}
 use Rattle.model.specs.Transitions.{Transition}
 use Rattle.model.specs.Spaces.{moved}
-use Rattle.properties.specs.Tables.{stride}
-
--- the bag over `size` properties in a row of a table
-unfoldable pub bagAt : ℕ → List ℕ → ℕ → Bag
-bagAt size table row = take size (drop (stride * row) table)
+use Rattle.properties.specs.Tables.{stride, bagAt}
 
 -- the rule in a row of the three tables, and the first `count` rules
 unfoldable pub ruleAt : ℕ → List ℕ → List ℕ → List ℕ → ℕ → Transition

@@ -5,8 +5,8 @@ use mathlib.Core.List.{List}
 use lib.ListN.{length, getD}
 use Rattle.model.specs.Card.{Task}
 use Rattle.model.specs.Transitions.{properties, bagOf, transitions}
-use Rattle.properties.specs.Tables.{stride}
-use Rattle.spaces.specs.Steps.{bagAt, rulesIn}
+use Rattle.properties.specs.Tables.{stride, bagAt}
+use Rattle.spaces.specs.Steps.{rulesIn}
 
 -- Room for so many rules in the three tables.
 pub record Room (count : ℕ) (enablers starts finishes : List ℕ) : Type 0 where

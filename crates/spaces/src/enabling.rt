@@ -3,7 +3,8 @@ ghost use mathlib.Core.Path.{_≡_};
 ghost use Prim.Native.Nat.{_+_, _-_, _*_, _^_, _≤_};
 ghost use lib.ListN.{length};
 ghost use Rattle.spaces.specs.Tabled.{Grouped};
-ghost use Rattle.spaces.specs.Steps.{bagAt, enabledBy};
+ghost use Rattle.properties.specs.Tables.{bagAt};
+ghost use Rattle.spaces.specs.Steps.{enabledBy};
 
 // The mask of all objects.
 fn everyone(objects: usize) -> u64

@@ -10,7 +10,8 @@ ghost use Rattle.laws.specs.Lists.{same};
 ghost use Rattle.laws.specs.Bags.{isEmpty};
 ghost use Rattle.card.specs.Represents.{padded};
 ghost use Rattle.spaces.specs.Tabled.{Room, Grouped};
-ghost use Rattle.spaces.specs.Steps.{bagAt, ruleAt, rulesIn, openAt, opened, gainBy, roundOf, roundsOf};
+ghost use Rattle.properties.specs.Tables.{bagAt};
+ghost use Rattle.spaces.specs.Steps.{ruleAt, rulesIn, openAt, opened, gainBy, roundOf, roundsOf};
 
 // The object joins the space of each property that it has at first.
 fn open_object(masks: &mut [u64], groups: &[u8], counts: &[u16], object: usize, size: usize)

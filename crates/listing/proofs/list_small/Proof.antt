@@ -1,46 +1,34 @@
 -- Tables for 64 rules.
-use Prim.Native.Nat.{ℕ}
 use native.Mathlib.Omega.{arith}
-use lib.ListN.{length-replicate}
-use borrow.Author.Needs.{needs}
+use Rattle.listing.proofs.Cleared.{cleared-length, cleared-tables}
 use Rattle.listing.proofs.list_small.Statement.{statement}
 use Rattle.listing.proofs.list_small.Tie as tie
 
 slice-aggregate-list-with : tie.Need-slice-aggregate-list-with
-slice-aggregate-list-with c = search needs
+slice-aggregate-list-with c = cleared-length 3840
 
 slice-aggregate-list-with-2 : tie.Need-slice-aggregate-list-with-2
-slice-aggregate-list-with-2 c = search needs
+slice-aggregate-list-with-2 c = cleared-length 3840
 
 slice-aggregate-list-with-3 : tie.Need-slice-aggregate-list-with-3
-slice-aggregate-list-with-3 c = search needs
+slice-aggregate-list-with-3 c = cleared-length 3840
 
 slice-aggregate-list-with-4 : tie.Need-slice-aggregate-list-with-4
-slice-aggregate-list-with-4 c = search needs
+slice-aggregate-list-with-4 c = cleared-length 3840
 
 slice-aggregate-list-with-5 : tie.Need-slice-aggregate-list-with-5
-slice-aggregate-list-with-5 c = search needs
+slice-aggregate-list-with-5 c = cleared-length 3840
 
 list-with-requires : tie.Need-list-with-requires
 list-with-requires c κs =
     let pre = c .before .before .before .before .before .before .before .pre in
-    let few = pre .1 .0 in
-    let rows = length-replicate {A = ℕ} 3840 0 in (
-      pre .0,
-      (
-        pre .1 .1,
-        (
-          record { enablers-room = omega (arith, rows, few); starts-room = omega (arith, rows, few); finishes-room = omega (arith, rows, few) },
-          (omega (arith, rows), omega (arith, rows, few)),
-        ),
-      ),
-    )
+    (pre .0, (pre .1 .1, cleared-tables 64 3840 (omega arith) (pre .1 .0)))
 
 same-length : tie.Need-same-length
-same-length c = search needs
+same-length c = c .before .before .before .before .before .before .before .list-with .kept .1 .1 .0
 
 returns : tie.Need-returns
-returns c = search needs
+returns c = c .before .before .before .before .before .before .before .list-with .ensures
 
 pub list-small-spec : {M : Type 1} → statement M
 list-small-spec =

@@ -4,7 +4,8 @@ use native.Mathlib.Omega.{arith}
 use mathlib.Core.Path.{_≡_, refl, sym, ap, _∙_}
 use lib.ListN.{length}
 use lib.Seq.{take-all}
-use Rattle.spaces.specs.Steps.{bagAt, enabledBy}
+use Rattle.properties.specs.Tables.{bagAt}
+use Rattle.spaces.specs.Steps.{enabledBy}
 use Rattle.closing.specs.Typing.{typedBy}
 use borrow.Author.Needs.{needs}
 use Rattle.closing.proofs.typing.typed.Statement.{statement}

@@ -4,7 +4,7 @@ use mathlib.Core.Path.{_≡_, refl, sym, _∙_}
 use native.Mathlib.Omega.{arith}
 use lib.ListN.{drop}
 use Rattle.laws.specs.Bags.{contains}
-use Rattle.sections.specs.Rows.{bagAt}
+use Rattle.properties.specs.Tables.{bagAt}
 use Rattle.sections.proofs.Comparing.{contains-end, contains-decided, contains-later}
 use borrow.Author.Needs.{needs}
 use Rattle.sections.proofs.bags.contains.Statement.{statement}

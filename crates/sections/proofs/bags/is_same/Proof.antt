@@ -4,7 +4,7 @@ use mathlib.Core.Path.{_≡_, refl, sym, _∙_}
 use native.Mathlib.Omega.{arith}
 use lib.ListN.{drop}
 use Rattle.laws.specs.Lists.{same}
-use Rattle.sections.specs.Rows.{bagAt}
+use Rattle.properties.specs.Tables.{bagAt}
 use Rattle.sections.proofs.Comparing.{same-end, same-decided, same-later}
 use borrow.Author.Needs.{needs}
 use Rattle.sections.proofs.bags.is_same.Statement.{statement}

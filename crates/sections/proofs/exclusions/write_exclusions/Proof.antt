@@ -4,7 +4,7 @@ use native.Mathlib.Omega.{arith}
 use lib.ListN.{length, drop}
 use Rattle.model.specs.Lines.{exclusions}
 use Rattle.model.specs.Text.{text}
-use Rattle.sections.specs.Rows.{bagsIn}
+use Rattle.properties.specs.Tables.{bagsIn}
 use Rattle.sections.proofs.LinesLeft.{pairs-next, pairs-end, index-below, all-lent}
 use Rattle.text.proofs.Writing.{Remains, start, next-fits, next, finish}
 use borrow.Author.Needs.{needs}

@@ -7,7 +7,7 @@ use Rattle.laws.specs.Lists.{keep}
 use Rattle.laws.proofs.Tests.{not-true, not-false}
 use Rattle.model.specs.Lines.{exclusion, excluded}
 use Rattle.model.specs.Text.{text}
-use Rattle.sections.specs.Rows.{bagsIn}
+use Rattle.properties.specs.Tables.{bagsIn}
 use Rattle.sections.proofs.LinesLeft.{exclusionsFrom, exclusions-start, exclusion-next, exclusion-skipped, exclusions-end, index-below}
 use Rattle.text.proofs.Writing.{Remains, remains-as, start, next-fits, next, finish}
 use borrow.Author.Needs.{needs}

@@ -10,7 +10,7 @@ use lib.ListN.{length, getD}
 use Rattle.model.specs.Text.{text}
 use Rattle.text.specs.Kinds.{propertiesOf}
 use Rattle.sections.specs.Limits.{limitsBy}
-use Rattle.sections.specs.Rows.{bagsIn}
+use Rattle.properties.specs.Tables.{bagsIn}
 use Rattle.sections.proofs.Columns.{Passed, passed-none, passed-one, passed-other, column-inside}
 use Rattle.sections.proofs.LimitLines.{limitsFrom, limits-start, limit-at, limit-skipped, limits-end, no-limits}
 use Rattle.text.proofs.Writing.{Remains, remains-as, start, next-fits, next, finish}

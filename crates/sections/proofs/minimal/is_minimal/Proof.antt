@@ -2,7 +2,7 @@
 use Prim.Native.Nat.{_-_, _≤_}
 use native.Mathlib.Omega.{arith}
 use Rattle.laws.specs.Bags.{strictlyContains}
-use Rattle.sections.specs.Rows.{bagAt}
+use Rattle.properties.specs.Tables.{bagAt}
 use Rattle.sections.proofs.Rows.{has-row}
 use Rattle.sections.proofs.RowTests.{Decides, tests-start, one-passes, row-fails, none-passes}
 use borrow.Author.Needs.{needs}

@@ -3,7 +3,7 @@ use Prim.Native.Nat.{_-_}
 use mathlib.Core.Path.{refl}
 use Rattle.laws.proofs.Tests.{not-true, not-false}
 use Rattle.model.specs.Lines.{minimal}
-use Rattle.sections.specs.Rows.{bagsIn}
+use Rattle.properties.specs.Tables.{bagsIn}
 use Rattle.sections.proofs.Gathering.{Gathered, gather-start, gather-passes, gather-fails, gathered, gathered-count}
 use Rattle.sections.proofs.RowLists.{least, minimal-rows, least-as}
 use borrow.Author.Needs.{needs}

@@ -4,7 +4,7 @@ use mathlib.Core.List.{map}
 use native.Mathlib.Omega.{arith}
 use Rattle.model.specs.Lines.{state}
 use Rattle.model.specs.Text.{text}
-use Rattle.sections.specs.Rows.{bagsIn}
+use Rattle.properties.specs.Tables.{bagsIn}
 use Rattle.sections.proofs.Rows.{bagsFrom}
 use Rattle.sections.proofs.LinesLeft.{states-start, states-next, states-end}
 use Rattle.text.proofs.Writing.{Remains, remains-as, start, next-fits, next, finish}

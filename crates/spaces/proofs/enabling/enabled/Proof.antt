@@ -11,7 +11,8 @@ use lib.ListN.{getD}
 use Rattle.laws.specs.Lists.{keep}
 use Rattle.laws.specs.Bags.{support}
 use Rattle.laws.proofs.Walks.{left, pick-starts, pick-passes, pick-fails, pick-ends}
-use Rattle.spaces.specs.Steps.{bagAt, enabledBy}
+use Rattle.properties.specs.Tables.{bagAt}
+use Rattle.spaces.specs.Steps.{enabledBy}
 use Rattle.spaces.proofs.Rows.{used, support-kept}
 use Rattle.spaces.proofs.enabling.enabled.Statement.{statement}
 use Rattle.spaces.proofs.enabling.enabled.Tie as tie

@@ -1,4 +1,6 @@
 // The totals that properties give, space by space: where all conditions have one count, that many times the members.
+pub mod arities;
+
 use analysis::analyse;
 use spaces::Spaces;
 ghost use mathlib.Core.Path.{_≡_};
@@ -8,9 +10,9 @@ ghost use Rattle.model.specs.Card.{Task};
 ghost use Rattle.analysis.specs.Analysed.{Given};
 ghost use Rattle.closing.specs.Fixed.{FixedTable};
 ghost use Rattle.sections.specs.Limits.{columnOf};
-ghost use Rattle.sections.specs.Rows.{bagsIn};
+ghost use Rattle.properties.specs.Tables.{bagsIn};
 ghost use Rattle.text.specs.Kinds.{propertiesOf};
-ghost use Rattle.listing.specs.Totals.{givenBy, Entered, Enterable, TablesGiven};
+ghost use Rattle.totals.specs.Totals.{givenBy, Entered, Enterable, TablesGiven};
 
 // One more than the total of a property whose counts stand in a column, if they are all the same; 0 if not.
 fn total_by(table: &[u16], count: usize, column: usize, members: u32) -> u32

@@ -8,10 +8,10 @@ use lib.ListN.{length, getD, take}
 use lib.Seq.{getD-take, length-take-le}
 use Rattle.card.specs.Represents.{aritiesOf}
 use Rattle.properties.proofs.Predicates.{sum-arities}
-use Rattle.listing.specs.Arities.{PropertyArities}
-use Rattle.listing.proofs.PuttingArities.{Filled, fill-start, next-inside, fill-next, fill-end}
-use Rattle.listing.proofs.arities.property_arities.Statement.{statement}
-use Rattle.listing.proofs.arities.property_arities.Tie as tie
+use Rattle.totals.specs.Arities.{PropertyArities}
+use Rattle.totals.proofs.PuttingArities.{Filled, fill-start, next-inside, fill-next, fill-end}
+use Rattle.totals.proofs.arities.property_arities.Statement.{statement}
+use Rattle.totals.proofs.arities.property_arities.Tie as tie
 
 abbrev Inv-loop : tie.InvT-loop
 Inv-loop arities n table₀ first₀ p₀ table first p = Filled (take n arities) p first table × (p ≤ n)

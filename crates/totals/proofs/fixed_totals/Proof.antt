@@ -7,9 +7,9 @@ use lib.ListN.{length}
 use Rattle.model.specs.Card.{Task}
 use Rattle.analysis.specs.Analysed.{Given}
 use Rattle.analysis.proofs.Whole.{place-small}
-use Rattle.listing.proofs.AllTotals.{TotalsTo, totals-start, totals-end, enterable, entered}
-use Rattle.listing.proofs.totals.fixed_totals.Statement.{statement}
-use Rattle.listing.proofs.totals.fixed_totals.Tie as tie
+use Rattle.totals.proofs.AllTotals.{TotalsTo, totals-start, totals-end, enterable, entered}
+use Rattle.totals.proofs.fixed_totals.Statement.{statement}
+use Rattle.totals.proofs.fixed_totals.Tie as tie
 
 abbrev Inv-loop : tie.InvT-loop
 Inv-loop spaces properties rules starts finishes counts origins₀ targets₀ groups lowest members n fixed₀ place₀ origins targets fixed place =

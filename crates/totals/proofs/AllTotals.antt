@@ -34,12 +34,13 @@ use Rattle.analysis.specs.Own.{ownOf}
 use Rattle.analysis.specs.declared.Analysed.{Analysed}
 use Rattle.analysis.specs.Analysed.{Given, AnalysisOf, spaceAt}
 use Rattle.analysis.proofs.Places.{label-inside, labelAt, members-are, members-at, own-at, own-few}
-use Rattle.sections.specs.Rows.{bagsIn, HasRows}
+use Rattle.properties.specs.Tables.{bagsIn, HasRows}
+use Rattle.properties.proofs.Rows.{getD-zeros}
 use Rattle.space_lines.proofs.Conditions.{has-rows, bags-are}
 use Rattle.text.specs.Kinds.{propertiesOf}
 use Rattle.closing.specs.Fixed.{firstAndOne, fixedOf, FixedTable}
-use Rattle.listing.specs.Totals.{givenBy, Entered, Enterable}
-use Rattle.listing.proofs.SectionsOf.{length-analysis, analysis-at}
+use Rattle.totals.specs.Totals.{givenBy, Entered, Enterable}
+use Rattle.totals.proofs.Analyses.{length-analysis, analysis-at}
 
 -- ---- one analysis more
 
@@ -90,14 +91,9 @@ next-total c analyses a alone =
 pub record TotalsTo (t : Task) (place : ℕ) (fixed : List ℕ) : Type 0 where
   pub entries : (c : ℕ) → getD fixed c 0 ≡ fixedOf (take place (analysis t)) c
 
-no-entries : (n c : ℕ) → _≡_ {A = ℕ} (getD (replicate n 0) c 0) 0
-no-entries zero c = refl
-no-entries (suc n) zero = refl
-no-entries (suc n) (suc c) = no-entries n c
-
 pub totals-start : (t : Task) → TotalsTo t 0 (replicate 60 0)
 unfolding fixedOf firstAndOne
-totals-start t = record { entries = λ c. no-entries 60 c ∙ sym (ap firstAndOne (no-totals c [] (λ a m. absurd (List·Memᴰ·not-nil m)))) }
+totals-start t = record { entries = λ c. getD-zeros 60 c ∙ sym (ap firstAndOne (no-totals c [] (λ a m. absurd (List·Memᴰ·not-nil m)))) }
 
 -- all of them
 pub totals-end : (t : Task) (place : ℕ) (fixed : List ℕ) → length (spaces t) ≤ place → length fixed ≡ 60 → TotalsTo t place fixed → FixedTable t fixed

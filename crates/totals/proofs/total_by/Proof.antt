@@ -4,9 +4,9 @@ use native.Mathlib.Omega.{arith}
 use borrow.Author.Needs.{needs}
 use denote.Ref.{now}
 use lib.ListN.{getD}
-use Rattle.listing.proofs.EnteringTotals.{Decides, none-given, first-number, another, same-number, one-number, total-small}
-use Rattle.listing.proofs.totals.total_by.Statement.{statement}
-use Rattle.listing.proofs.totals.total_by.Tie as tie
+use Rattle.totals.proofs.EnteringTotals.{Decides, none-given, first-number, another, same-number, one-number, total-small}
+use Rattle.totals.proofs.total_by.Statement.{statement}
+use Rattle.totals.proofs.total_by.Tie as tie
 
 abbrev Inv-loop : tie.InvT-loop
 Inv-loop table count column members n i₀ i = Decides table count column n i × (i ≤ count)

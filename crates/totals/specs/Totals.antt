@@ -10,7 +10,7 @@ use Rattle.model.specs.Card.{Task}
 use Rattle.model.specs.Lines.{countOf, oneNumber}
 use Rattle.spaces.specs.declared.Spaces.{Spaces}
 use Rattle.analysis.specs.Analysed.{Given}
-use Rattle.sections.specs.Rows.{HasRows}
+use Rattle.properties.specs.Tables.{HasRows}
 use Rattle.text.specs.Kinds.{propertiesOf}
 use Rattle.closing.specs.Fixed.{firstAndOne}
 

@@ -2,10 +2,10 @@
 use Prim.Native.Nat.{_+_, _-_, _≤_}
 use native.Mathlib.Omega.{arith}
 use borrow.Author.Needs.{needs}
-use Rattle.listing.specs.Arities.{ArityPut}
-use Rattle.listing.proofs.PuttingArities.{put-none, put-next, put-all}
-use Rattle.listing.proofs.arities.put_arity.Statement.{statement}
-use Rattle.listing.proofs.arities.put_arity.Tie as tie
+use Rattle.totals.specs.Arities.{ArityPut}
+use Rattle.totals.proofs.PuttingArities.{put-none, put-next, put-all}
+use Rattle.totals.proofs.arities.put_arity.Statement.{statement}
+use Rattle.totals.proofs.arities.put_arity.Tie as tie
 
 abbrev Inv-loop : tie.InvT-loop
 Inv-loop table₀ first arity n i₀ table i = ArityPut first arity i table₀ table × (i ≤ n)

@@ -4,7 +4,7 @@ ghost use Prim.Native.Nat.{_+_, _≤_};
 ghost use lib.ListN.{length};
 ghost use Rattle.card.specs.Represents.{aritiesOf};
 ghost use Rattle.properties.specs.Represented.{AritiesRight};
-ghost use Rattle.listing.specs.Arities.{ArityPut, PropertyArities};
+ghost use Rattle.totals.specs.Arities.{ArityPut, PropertyArities};
 
 // Puts the arity of a predicate into the places of its properties, which begin at `first`.
 fn put_arity(table: &mut [u8], first: usize, arity: u8)

@@ -18,13 +18,13 @@ use Rattle.laws.proofs.Numbers.{member-keep-upTo, kept-below}
 use Rattle.laws.proofs.Walks.{left, left-all, left-one, left-none}
 use Rattle.laws.proofs.Fronts.{Reworked, rework-start, rework-set, rework-keep}
 use Rattle.model.specs.Lines.{countOf, oneNumber}
-use Rattle.properties.specs.Tables.{stride}
+use Rattle.properties.specs.Tables.{stride, bagAt, bagsIn, HasRows}
 use Rattle.sections.specs.Limits.{columnOf}
-use Rattle.sections.specs.Rows.{bagAt, bagsIn, HasRows}
-use Rattle.sections.proofs.Rows.{has-row, getD-bagAt}
+use Rattle.properties.proofs.Rows.{getD-bagAt}
+use Rattle.sections.proofs.Rows.{has-row}
 use Rattle.sections.proofs.Columns.{Passed, column-inside, column-counts}
 use Rattle.closing.specs.Fixed.{firstAndOne}
-use Rattle.listing.specs.Totals.{givenBy, Entered}
+use Rattle.totals.specs.Totals.{givenBy, Entered}
 
 -- ---- a column
 

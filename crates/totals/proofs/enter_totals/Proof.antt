@@ -9,11 +9,11 @@ use mathlib.Core.List.{List}
 use lib.Dec.{eqb}
 use lib.ListN.{length, getD}
 use Rattle.text.specs.Kinds.{propertiesOf}
-use Rattle.sections.specs.Rows.{bagsIn}
+use Rattle.properties.specs.Tables.{bagsIn}
 use Rattle.sections.proofs.Columns.{Passed, passed-none, passed-one, passed-other, column-inside}
-use Rattle.listing.proofs.EnteringTotals.{EnteredTo, enter-start, enter-own, enter-other, enter-end, column-gives}
-use Rattle.listing.proofs.totals.enter_totals.Statement.{statement}
-use Rattle.listing.proofs.totals.enter_totals.Tie as tie
+use Rattle.totals.proofs.EnteringTotals.{EnteredTo, enter-start, enter-own, enter-other, enter-end, column-gives}
+use Rattle.totals.proofs.enter_totals.Statement.{statement}
+use Rattle.totals.proofs.enter_totals.Tie as tie
 
 -- the property's group has this lowest property
 abbrev inGroup : List ℕ → ℕ → ℕ → Bool

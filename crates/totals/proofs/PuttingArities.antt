@@ -17,7 +17,7 @@ use Rattle.model.specs.Transitions.{Property, properties}
 use Rattle.model.specs.Lines.{arityOf}
 use Rattle.model.proofs.RuleCount.{length-properties}
 use Rattle.model.proofs.Totals.{property-at}
-use Rattle.listing.specs.Arities.{ArityPut, PropertyArities}
+use Rattle.totals.specs.Arities.{ArityPut, PropertyArities}
 
 -- ---- one predicate
 

@@ -1,0 +1,4 @@
+pub mod Analyses
+pub mod PuttingArities
+pub mod EnteringTotals
+pub mod AllTotals
