@@ -1,4 +1,4 @@
--- Tables of zeros: each is as long as it is made, and one made for the rows of so many rules has room for fewer.
+-- Tables of zeros: each is as long as it is made, and one made for the rows of so many rules has room for those of fewer.
 use Prim.Native.Nat.{ℕ, _*_, _≤_}
 use native.Mathlib.Omega.{arith}
 use mathlib.Core.Path.{_≡_, sym, subst}
@@ -10,7 +10,7 @@ use Rattle.rules.specs.Appended.{Room}
 abbrev pub cleared : ℕ → List ℕ
 cleared size = replicate size 0
 
--- for any length: to compare the two numbers would walk through the table
+-- stated for every size: at one size the two numbers can be compared too, but that walks through the whole table
 pub cleared-length : (size : ℕ) → size ≡ length (cleared size)
 cleared-length size = sym (length-replicate size 0)
 

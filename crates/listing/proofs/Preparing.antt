@@ -21,7 +21,6 @@ use Rattle.spaces.specs.SpaceTable.{SpacesOf}
 use Rattle.spaces.specs.Tabled as tabled
 use Rattle.spaces.proofs.Held.{tables-held}
 use Rattle.analysis.specs.Analysed.{Begins, Given, initialBags}
-use Rattle.text.specs.Written.{Writes}
 
 -- rows from the start of a table
 begins : (bags : List (List ℕ)) (before table : List ℕ) → table ≡ rowsBefore bags before → Begins bags table

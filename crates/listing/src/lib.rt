@@ -13,7 +13,6 @@ use spaces::Spaces;
 use spaces::spaces_of;
 use totals::arities::property_arities;
 use totals::fixed_totals;
-ghost use mathlib.Core.Path.{_≡_};
 ghost use mathlib.Core.List.{[]};
 ghost use Prim.Native.Nat.{_*_, _≤_};
 ghost use lib.ListN.{length, getD};
