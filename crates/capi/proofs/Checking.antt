@@ -12,9 +12,9 @@ use Rattle.card.specs.declared.Decoded.{Decoded}
 use Rattle.card.specs.declared.Refusal.{Refusal}
 use Rattle.card.specs.declared.Verdict.the-variants.{Accepted, Refused}
 use Rattle.card.proofs.Deciding.{refuses, accepts, represented}
-use Rattle.writer.specs.Tables.{tableOf}
+use Rattle.writer_checks.specs.Tables.{tableOf}
 use Rattle.capi.specs.Numbers.{signed, checks, rewritten, rewrites}
-use Rattle.writer.proofs.KeptTables.{table-kept}
+use Rattle.writer_checks.proofs.KeptTables.{table-kept}
 
 module _ (card : List ℕ) (d : Decoded) (decodes : Decodes card d) where
   module _ (r : Refusal) (verdict : d .verdict ≡ Refused r) where

@@ -19,7 +19,8 @@ use Rattle.model.proofs.History.{opened, press-cases}
 use Rattle.card.specs.declared.Task.{Task as Kept}
 use Rattle.strips.specs.Answers.{Opens, Applies, appliedSays}
 use Rattle.strips.specs.declared.Applied.{Applied}
-use Rattle.writer.specs.Tables.{tableOf, writingSays, Encodes}
+use Rattle.writer_checks.specs.Tables.{tableOf}
+use Rattle.writer.specs.Answers.{writingSays, Encodes}
 use Rattle.writer.specs.declared.Writing.{Writing}
 use Rattle.capi.specs.Numbers.{Small}
 

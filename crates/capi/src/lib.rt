@@ -16,7 +16,7 @@ ghost use Rattle.model.specs.Calls.{initial, press, section};
 ghost use Rattle.card.specs.Represents.{refusalNumber};
 ghost use Rattle.listing.specs.Answers.{listedSays};
 ghost use Rattle.strips.specs.Answers.{appliedSays};
-ghost use Rattle.writer.specs.Tables.{writingSays};
+ghost use Rattle.writer.specs.Answers.{writingSays};
 ghost use Rattle.capi.specs.Numbers.{signed, checks, rewrites, Small};
 
 // How many bytes every call asks of its output buffer. Document 01, refusal 21.

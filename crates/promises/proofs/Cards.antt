@@ -14,9 +14,10 @@ use Rattle.card.proofs.Deciding.{accepts, represented}
 use Rattle.card.specs.declared.Decoded.{Decoded}
 use Rattle.card.specs.declared.Task.{Task}
 use Rattle.card.specs.declared.Verdict.the-variants.{Accepted}
-use Rattle.writer.specs.Tables.{Encodes, tableOf, writingSays}
+use Rattle.writer_checks.specs.Tables.{tableOf}
+use Rattle.writer_checks.proofs.KeptTables.{table-kept}
+use Rattle.writer.specs.Answers.{Encodes, writingSays}
 use Rattle.writer.specs.declared.Writing.{Writing}
-use Rattle.writer.proofs.KeptTables.{table-kept}
 
 -- what an accepted verdict says: the task beside it is kept as its table
 kept-table : (card : List ℕ) (d : Decoded) → Decodes card d → d .verdict ≡ Accepted → tableOf (d .task) ≡ taskOf (d .task)

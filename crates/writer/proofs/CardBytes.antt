@@ -17,11 +17,11 @@ use Rattle.card.specs.declared.AtomList.{AtomList}
 use Rattle.card.specs.declared.Schema.{Schema}
 use Rattle.card.specs.declared.SchemaList.{SchemaList}
 use Rattle.card.specs.declared.Task.{Task}
-use Rattle.writer.specs.Tables.{entries, atomTable, schemaTable, tableOf}
+use Rattle.writer_checks.specs.Tables.{entries, atomTable, schemaTable, tableOf}
 use Rattle.writer.specs.Bytes.{atomRoom, listRoom, schemaRoom, headerRoom, cardRoom, Writes, bitWhere, mapOf, schemaFits, Fits}
-use Rattle.writer.proofs.Entries.{length-entries, length-table, getD-entries, default-alike}
-use Rattle.writer.proofs.SchemaLaws.{length-atoms, zeros}
-use Rattle.writer.proofs.TaskLaws.{arities-part}
+use Rattle.writer_checks.proofs.Entries.{length-entries, length-table, getD-entries, default-alike}
+use Rattle.writer_checks.proofs.SchemaLaws.{length-atoms, zeros}
+use Rattle.writer_checks.proofs.TaskLaws.{arities-part}
 use Rattle.writer.proofs.WriteLaws.{writes-none, writes-then, writes-within}
 
 -- a list

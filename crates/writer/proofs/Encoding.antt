@@ -18,16 +18,17 @@ use Rattle.card.specs.Represents.{atomOf, blankAtom, blankSchema}
 use Rattle.card.specs.declared.Refusal.{Refusal}
 use Rattle.card.specs.declared.Schema.{Schema}
 use Rattle.card.specs.declared.Task.{Task}
-use Rattle.writer.specs.Tables.{entries, schemaTable, tableOf, writingSays, Encodes}
-use Rattle.writer.specs.Checking.{checkedSays}
+use Rattle.writer_checks.specs.Tables.{entries, schemaTable, tableOf}
+use Rattle.writer_checks.specs.Checking.{checkedSays}
+use Rattle.writer.specs.Answers.{writingSays, Encodes}
 use Rattle.writer.specs.Bytes.{cardRoom, Writes, schemaFits, Fits}
-use Rattle.writer.specs.declared.checking.Checked.{Checked}
-use Rattle.writer.specs.declared.checking.Checked.the-variants as checked
+use Rattle.writer_checks.specs.declared.checking.Checked.{Checked}
+use Rattle.writer_checks.specs.declared.checking.Checked.the-variants as checked
 use Rattle.writer.specs.declared.Writing.the-variants as writing
-use Rattle.writer.proofs.Entries.{length-entries, length-table}
+use Rattle.writer_checks.proofs.Entries.{length-entries, length-table}
 use Rattle.model.proofs.Answers.{need-inv}
-use Rattle.writer.proofs.Sequence.{then-left, then-right, passed-says}
-use Rattle.writer.proofs.SchemaLaws.{passed-list}
+use Rattle.writer_checks.proofs.Sequence.{then-left, then-right, passed-says}
+use Rattle.writer_checks.proofs.SchemaLaws.{passed-list}
 
 -- a number that passed a test against a bound
 bounded : (n bound number : ℕ) (rest : Answer (Unit {0})) → need (leb n bound) number >> rest ≡ accepted tt → n ≤ bound

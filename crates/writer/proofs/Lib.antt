@@ -1,10 +1,3 @@
-pub mod AtomLaws
-pub mod Entries
-pub mod KeptTables
-pub mod Loops
-pub mod Sequence
-pub mod SchemaLaws
-pub mod TaskLaws
 pub mod WriteLaws
 pub mod CardBytes
 pub mod Encoding

@@ -9,7 +9,7 @@ use Rattle.laws.specs.Lists.{all}
 use Rattle.card.specs.Represents.{blankSchema}
 use Rattle.card.specs.declared.Schema.{Schema}
 use Rattle.card.specs.declared.Task.{Task}
-use Rattle.writer.specs.Tables.{entries}
+use Rattle.writer_checks.specs.Tables.{entries}
 
 -- how many bytes a piece of a card takes at most.
 -- An atom: its predicate and three arguments

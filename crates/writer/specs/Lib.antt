@@ -1,3 +1,2 @@
-pub mod Tables
-pub mod Checking
+pub mod Answers
 pub mod Bytes

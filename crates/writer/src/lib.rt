@@ -1,14 +1,12 @@
 // The card writer: a table by value, whatever bytes it holds, written as a card.
-mod atoms;
-mod checking;
 mod output;
 
 use card::Refusal;
 use card::Task;
-use checking::Checked;
-use checking::check_task;
 use output::write_task;
-ghost use Rattle.writer.specs.Tables.{Encodes};
+use writer_checks::checking::Checked;
+use writer_checks::checking::check_task;
+ghost use Rattle.writer.specs.Answers.{Encodes};
 
 // What writing answers: the length, the refusal of a table that no card can carry, or that the output buffer is short.
 pub enum Writing {

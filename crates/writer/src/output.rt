@@ -1,11 +1,11 @@
 // The card of a table that was checked, written from byte 0 of the output buffer.
-use crate::atoms::arity;
 use card::Atom;
 use card::AtomList;
 use card::FactList;
 use card::Schema;
 use card::SchemaList;
 use card::Task;
+use writer_checks::atoms::arity;
 ghost use mathlib.Core.Path.{_≡_};
 ghost use Prim.Native.Nat.{_+_, _*_, _/_, _%_, _≤_};
 ghost use mathlib.Core.Bool.{true};
@@ -14,7 +14,7 @@ ghost use lib.ListN.{length};
 ghost use Rattle.laws.specs.Lists.{all};
 ghost use Rattle.model.specs.Writer.{atomBytes, listBytes, roleBytes, schemaBytes, taskBytes};
 ghost use Rattle.card.specs.Represents.{atomOf, blankAtom, blankSchema};
-ghost use Rattle.writer.specs.Tables.{entries, atomTable, schemaTable, tableOf};
+ghost use Rattle.writer_checks.specs.Tables.{entries, atomTable, schemaTable, tableOf};
 ghost use Rattle.writer.specs.Bytes.{atomRoom, listRoom, schemaRoom, headerRoom, cardRoom, Writes, bitWhere, mapOf, schemaFits, Fits};
 
 // One byte.

@@ -1,7 +1,7 @@
 -- A length is answered as it is, and each refusal as minus its number.
 use borrow.Author.Needs.{needs}
 use mathlib.Core.Path.{ap}
-use Rattle.writer.specs.Tables.{writingSays}
+use Rattle.writer.specs.Answers.{writingSays}
 use Rattle.capi.specs.Numbers.{signed}
 use Rattle.capi.proofs.Codes.{value-fits, value-code, refusal-code, same-code}
 use Rattle.capi.proofs.writing_code.Statement.{statement}

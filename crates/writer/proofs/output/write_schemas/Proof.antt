@@ -7,10 +7,10 @@ use lib.ListN.{length, getD, take}
 use Rattle.model.specs.Writer.{schemaBytes}
 use Rattle.card.specs.Represents.{blankSchema}
 use Rattle.card.specs.declared.SchemaList.{SchemaList}
-use Rattle.writer.specs.Tables.{entries, schemaTable}
+use Rattle.writer_checks.specs.Tables.{entries, schemaTable}
 use Rattle.writer.specs.Bytes.{schemaRoom, Writes}
-use Rattle.writer.proofs.Entries.{default-alike}
-use Rattle.writer.proofs.SchemaLaws.{zeros, zeros-blank}
+use Rattle.writer_checks.proofs.Entries.{default-alike}
+use Rattle.writer_checks.proofs.SchemaLaws.{zeros, zeros-blank}
 use Rattle.writer.proofs.CardBytes.{schema-fits}
 use Rattle.writer.proofs.WriteLaws.{writes-none, item-written, items-written}
 use Rattle.writer.proofs.output.write_schemas.Statement.{statement}

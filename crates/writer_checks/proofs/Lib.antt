@@ -1,0 +1,7 @@
+pub mod AtomLaws
+pub mod Entries
+pub mod KeptTables
+pub mod Loops
+pub mod Sequence
+pub mod SchemaLaws
+pub mod TaskLaws
