@@ -1,4 +1,1 @@
-pub mod SectionsOf
-pub mod Preparing
 pub mod Answering
-pub mod Cleared

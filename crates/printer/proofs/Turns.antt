@@ -13,7 +13,7 @@ use Rattle.model.specs.Calls.{output}
 use Rattle.spaces.specs.declared.Spaces.{Spaces}
 use Rattle.spaces.specs.SpaceTable.{SpacesOf}
 use Rattle.text.specs.Written.{Writes}
-use Rattle.listing.proofs.SectionsOf.{section-count}
+use Rattle.prepared.proofs.SectionsOf.{section-count}
 use Rattle.printer.specs.Ready.{Lent}
 use Rattle.printer.specs.Leaves.{over, inTurn, Leaves}
 

@@ -6,7 +6,7 @@ use Rattle.model.specs.Calls.{outputBytes}
 use Rattle.card.specs.Represents.{taskOf, Represented}
 use Rattle.card.specs.declared.Task.{Task}
 use Rattle.analysis.specs.Analysed.{Given}
-use Rattle.listing.specs.declared.Prepared.{Prepared}
+use Rattle.prepared.specs.declared.Prepared.{Prepared}
 
 pub record Ready (task : Task) (prepared : Prepared) (starts finishes counts : List ℕ) : Type 0 where
   pub represented : Represented task (taskOf task)

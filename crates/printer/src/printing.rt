@@ -1,9 +1,9 @@
 // An accepted card's listing, section after section, from tables that are filled once.
 use card::Task;
 use libc::STDOUT_FILENO;
-use listing::Prepared;
-use listing::prepare;
-use listing::write_section;
+use prepared::Prepared;
+use prepared::prepare;
+use prepared::write_section;
 ghost use mathlib.Core.List.{[], _∷_};
 ghost use Prim.Native.Nat.{_≤_};
 ghost use lib.ListN.{length, getD};

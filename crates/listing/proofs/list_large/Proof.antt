@@ -1,7 +1,7 @@
 -- Tables for the most rules that a task can have.
 use native.Mathlib.Omega.{arith}
 use Rattle.rules.proofs.RuleRoom.{at-most-few}
-use Rattle.listing.proofs.Cleared.{cleared-length, cleared-tables}
+use Rattle.prepared.proofs.Cleared.{cleared-length, cleared-tables}
 use Rattle.listing.proofs.list_large.Statement.{statement}
 use Rattle.listing.proofs.list_large.Tie as tie
 

@@ -1,6 +1,6 @@
 -- Tables for 64 rules.
 use native.Mathlib.Omega.{arith}
-use Rattle.listing.proofs.Cleared.{cleared-length, cleared-tables}
+use Rattle.prepared.proofs.Cleared.{cleared-length, cleared-tables}
 use Rattle.listing.proofs.list_small.Statement.{statement}
 use Rattle.listing.proofs.list_small.Tie as tie
 

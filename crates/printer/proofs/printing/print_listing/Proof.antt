@@ -1,7 +1,7 @@
 -- Tables and a buffer of the sizes that are asked for.
 use native.Mathlib.Nat.{le-refl}
 use Rattle.rules.proofs.RuleRoom.{at-most-few}
-use Rattle.listing.proofs.Cleared.{cleared-length, cleared-long, cleared-room}
+use Rattle.prepared.proofs.Cleared.{cleared-length, cleared-long, cleared-room}
 use Rattle.printer.proofs.Cleared.{cleared-lent}
 use borrow.Author.Needs.{needs}
 use Rattle.printer.proofs.printing.print_listing.Statement.{statement}

@@ -2,10 +2,10 @@
 use mathlib.Core.Path.{_≡_}
 use lib.ListN.{length}
 use Rattle.properties.proofs.TaskParts.{arities-right}
-use Rattle.listing.proofs.Answering.{listed-space, space-written, closing-written}
+use Rattle.prepared.proofs.Writing.{listed-space, space-written, closing-written}
 use borrow.Author.Needs.{needs}
-use Rattle.listing.proofs.write_section.Statement.{statement}
-use Rattle.listing.proofs.write_section.Tie as tie
+use Rattle.prepared.proofs.write_section.Statement.{statement}
+use Rattle.prepared.proofs.write_section.Tie as tie
 
 analyse-requires : tie.Need-analyse-requires
 analyse-requires c κs = search needs

@@ -2,10 +2,10 @@
 use native.Mathlib.Omega.{arith}
 use Rattle.card.specs.Represents.{taskOf}
 use Rattle.properties.proofs.TaskParts.{arities-right}
-use Rattle.listing.proofs.Preparing.{sizes-few, room-for, holds, given, properties-counted}
+use Rattle.prepared.proofs.Preparing.{sizes-few, room-for, holds, given, properties-counted}
 use borrow.Author.Needs.{needs}
-use Rattle.listing.proofs.prepare.Statement.{statement}
-use Rattle.listing.proofs.prepare.Tie as tie
+use Rattle.prepared.proofs.prepare.Statement.{statement}
+use Rattle.prepared.proofs.prepare.Tie as tie
 
 rules-requires : tie.Need-rules-requires
 rules-requires c κs = search needs

@@ -1,0 +1,4 @@
+pub mod SectionsOf
+pub mod Preparing
+pub mod Writing
+pub mod Cleared
