@@ -15,7 +15,7 @@ use Rattle.model.specs.Lines.{largest, countOf}
 use Rattle.properties.specs.Tables.{stride, bagAt, bagsIn, HasRows}
 use Rattle.sections.specs.Limits.{columnOf}
 use Rattle.properties.proofs.Rows.{getD-bagAt}
-use Rattle.sections.proofs.Rows.{has-row}
+use Rattle.conditions.proofs.Rows.{has-row}
 use Rattle.text.proofs.MaskMembers.{Below}
 
 -- The largest of a column: what is found so far and the rows from i on say the same as all.

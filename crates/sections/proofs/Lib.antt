@@ -1,10 +1,4 @@
-pub mod Rows
-pub mod Comparing
 pub mod LinesLeft
-pub mod RowTests
-pub mod RowLists
-pub mod Gathering
 pub mod Columns
 pub mod LimitLines
-pub mod RowTables
 pub mod SectionLengths

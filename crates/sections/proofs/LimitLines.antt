@@ -15,7 +15,7 @@ use Rattle.model.specs.Lines.{Line, limit, limits, largest, countOf, arityOf}
 use Rattle.model.specs.Text.{lineText, text}
 use Rattle.sections.specs.Limits.{limitsBy, columnOf}
 use Rattle.properties.specs.Tables.{bagsIn, HasRows}
-use Rattle.sections.proofs.RowLists.{keep-ext, length-bagsIn}
+use Rattle.conditions.proofs.RowLists.{keep-ext, length-bagsIn}
 use Rattle.sections.proofs.Columns.{Passed, column-inside, column-counts, largest-column}
 use Rattle.sections.proofs.LinesLeft.{no-lines}
 use Rattle.text.specs.Room.{Room}

@@ -16,7 +16,7 @@ use Rattle.laws.proofs.Tests.{and-right}
 use Rattle.model.specs.Lines.{Line, state, membership, exclusion, exclusions, excluded}
 use Rattle.model.specs.Text.{lineText, text}
 use Rattle.properties.specs.Tables.{bagsIn}
-use Rattle.sections.proofs.Rows.{bagsFrom, rows-start, rows-next, rows-end, lent, row-lent}
+use Rattle.conditions.proofs.Rows.{bagsFrom, rows-start, rows-next, rows-end, lent, row-lent}
 use Rattle.text.proofs.Writing.{Begins}
 
 -- a text begins with its first line

@@ -1,5 +1,5 @@
 // The pairs of conditions of which no condition contains both: the `X` lines.
-use crate::bags::contains;
+use conditions::bags::contains;
 use text::lines::write_exclusion;
 ghost use mathlib.Core.Path.{_≡_};
 ghost use mathlib.Core.Bool.{true};

@@ -20,7 +20,7 @@ use Rattle.properties.proofs.Rows.{length-rows}
 use Rattle.extension.specs.Extended.{rowsWithin}
 use Rattle.analysis.specs.declared.Analysed.{Analysed}
 use Rattle.analysis.specs.Analysed.{AnalysisOf}
-use Rattle.sections.proofs.RowTables.{bags-of-rows}
+use Rattle.conditions.proofs.RowTables.{bags-of-rows}
 
 -- rules and initial conditions are over the space's properties
 moves-sized : (u : Space) (m : Move) → List·Memᴰ m (movesOf u)

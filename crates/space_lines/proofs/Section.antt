@@ -30,9 +30,9 @@ use Rattle.analysis.specs.Sorting as analysis
 use Rattle.analysis.proofs.Places as places-of
 use Rattle.analysis.proofs.Places.{own-at, members-at, objects-are, own-few, place-few, members-inside, labelAt}
 use Rattle.properties.specs.Tables.{bagsIn, HasRows}
+use Rattle.conditions.proofs.RowLists.{length-bagsIn}
 use Rattle.sections.proofs.LimitLines.{limits-are}
 use Rattle.sections.proofs.LinesLeft.{first-line}
-use Rattle.sections.proofs.RowLists.{length-bagsIn}
 use Rattle.text.specs.declared.lists.Kind.{Kind}
 use Rattle.text.specs.Kinds.{kindSays, propertiesOf}
 use Rattle.text.specs.Members.{places, membersOf}

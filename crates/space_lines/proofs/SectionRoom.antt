@@ -15,7 +15,7 @@ use Rattle.model.specs.Lines.{Line, space, state, membership, minimal, exclusio
 use Rattle.model.specs.Text.{lineText, text}
 use Rattle.properties.specs.Tables.{stride, bagAt, bagsIn}
 use Rattle.sections.specs.Limits.{limitsBy}
-use Rattle.sections.proofs.RowLists.{length-bagsIn}
+use Rattle.conditions.proofs.RowLists.{length-bagsIn}
 use Rattle.sections.proofs.SectionLengths.{states-length, limits-length, memberships-length, exclusions-length}
 use Rattle.text.proofs.Lengths.{AllBelow, space-length}
 use Rattle.text.specs.declared.lists.Kind.{Kind}

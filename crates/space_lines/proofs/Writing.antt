@@ -13,11 +13,11 @@ use Rattle.laws.specs.Lists.{all}
 use Rattle.laws.proofs.Lists.{all-intro}
 use Rattle.model.specs.Lines.{state, membership, minimal, exclusions}
 use Rattle.model.specs.Text.{text}
-use Rattle.sections.specs.declared.minimal.Indices.{Indices}
-use Rattle.sections.specs.Indices.{IndicesOf}
+use Rattle.conditions.specs.declared.minimal.Indices.{Indices}
+use Rattle.conditions.specs.Indices.{IndicesOf}
 use Rattle.sections.specs.Limits.{limitsBy}
 use Rattle.properties.specs.Tables.{bagsIn, HasRows}
-use Rattle.sections.proofs.RowLists.{length-bagsIn}
+use Rattle.conditions.proofs.RowLists.{length-bagsIn}
 use Rattle.text.specs.Room.{Room}
 use Rattle.text.specs.Written.{Writes}
 use Rattle.text.proofs.Writing.{Begins, first-fits, second-fits, rest-inside, both, and-then}

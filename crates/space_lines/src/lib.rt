@@ -1,10 +1,10 @@
 // The section of a space as text: its `S` line and, for a property space, all `T`, all `M`, all `D` and all `X` lines.
 // Document 01, "Listing".
 use analysis::Analysed;
+use conditions::minimal::minimal_of;
 use sections::exclusions::write_exclusions;
 use sections::limits::write_limits;
-use sections::minimal::minimal_of;
-use sections::minimal::write_memberships;
+use sections::memberships::write_memberships;
 use sections::states::write_states;
 use spaces::Spaces;
 use text::lists::Kind;

@@ -21,7 +21,7 @@ use Rattle.model.specs.Lines.{countOf, oneNumber}
 use Rattle.properties.specs.Tables.{stride, bagAt, bagsIn, HasRows}
 use Rattle.sections.specs.Limits.{columnOf}
 use Rattle.properties.proofs.Rows.{getD-bagAt}
-use Rattle.sections.proofs.Rows.{has-row}
+use Rattle.conditions.proofs.Rows.{has-row}
 use Rattle.sections.proofs.Columns.{Passed, column-inside, column-counts}
 use Rattle.closing.specs.Fixed.{firstAndOne}
 use Rattle.totals.specs.Totals.{givenBy, Entered}

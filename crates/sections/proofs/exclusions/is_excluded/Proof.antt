@@ -3,9 +3,9 @@ use Prim.Native.Nat.{_-_, _≤_}
 use mathlib.Core.Path.{refl, sym, _∙_}
 use native.Mathlib.Omega.{arith}
 use Rattle.laws.proofs.Tests.{not-true, not-false}
-use Rattle.sections.proofs.Rows.{has-row}
-use Rattle.sections.proofs.RowLists.{above, excluded-rows, above-both, not-above-first, not-above-second}
-use Rattle.sections.proofs.RowTests.{Decides, tests-start, one-passes, row-fails, none-passes}
+use Rattle.conditions.proofs.Rows.{has-row}
+use Rattle.conditions.proofs.RowLists.{above, excluded-rows, above-both, not-above-first, not-above-second}
+use Rattle.conditions.proofs.RowTests.{Decides, tests-start, one-passes, row-fails, none-passes}
 use borrow.Author.Needs.{needs}
 use Rattle.sections.proofs.exclusions.is_excluded.Statement.{statement}
 use Rattle.sections.proofs.exclusions.is_excluded.Tie as tie

@@ -20,7 +20,7 @@ pub fn contains(table: &[u16], size: usize, i: usize, j: usize) -> bool
 }
 
 // The two rows have the same counts.
-pub fn is_same(table: &[u16], size: usize, i: usize, j: usize) -> bool
+fn is_same(table: &[u16], size: usize, i: usize, j: usize) -> bool
     requires { ⌜ HasRow size i (now table) × HasRow size j (now table) ⌝ }
     ensures { λ r. ⌜ r ≡ same (bagAt size (now (table .entry)) i) (bagAt size (now (table .entry)) j) ⌝ }
 {
@@ -35,7 +35,7 @@ pub fn is_same(table: &[u16], size: usize, i: usize, j: usize) -> bool
 }
 
 // Row i contains row j, and they differ.
-pub fn strictly_contains(table: &[u16], size: usize, i: usize, j: usize) -> bool
+pub(crate) fn strictly_contains(table: &[u16], size: usize, i: usize, j: usize) -> bool
     requires { ⌜ HasRow size i (now table) × HasRow size j (now table) ⌝ }
     ensures { λ r. ⌜ r ≡ laws.strictlyContains (bagAt size (now (table .entry)) i) (bagAt size (now (table .entry)) j) ⌝ }
 {

@@ -5,10 +5,10 @@ use native.Mathlib.Omega.{arith}
 use lib.ListN.{drop}
 use Rattle.laws.specs.Lists.{same}
 use Rattle.properties.specs.Tables.{bagAt}
-use Rattle.sections.proofs.Comparing.{same-end, same-decided, same-later}
+use Rattle.conditions.proofs.Comparing.{same-end, same-decided, same-later}
 use borrow.Author.Needs.{needs}
-use Rattle.sections.proofs.bags.is_same.Statement.{statement}
-use Rattle.sections.proofs.bags.is_same.Tie as tie
+use Rattle.conditions.proofs.bags.is_same.Statement.{statement}
+use Rattle.conditions.proofs.bags.is_same.Tie as tie
 
 abbrev Inv-loop : tie.InvT-loop
 Inv-loop table size i j first second k₀ k =

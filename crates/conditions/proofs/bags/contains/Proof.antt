@@ -5,10 +5,10 @@ use native.Mathlib.Omega.{arith}
 use lib.ListN.{drop}
 use Rattle.laws.specs.Bags.{contains}
 use Rattle.properties.specs.Tables.{bagAt}
-use Rattle.sections.proofs.Comparing.{contains-end, contains-decided, contains-later}
+use Rattle.conditions.proofs.Comparing.{contains-end, contains-decided, contains-later}
 use borrow.Author.Needs.{needs}
-use Rattle.sections.proofs.bags.contains.Statement.{statement}
-use Rattle.sections.proofs.bags.contains.Tie as tie
+use Rattle.conditions.proofs.bags.contains.Statement.{statement}
+use Rattle.conditions.proofs.bags.contains.Tie as tie
 
 abbrev Inv-loop : tie.InvT-loop
 Inv-loop table size i j first second k₀ k =

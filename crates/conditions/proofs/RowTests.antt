@@ -6,7 +6,7 @@ use mathlib.Core.List.{List}
 use Rattle.laws.specs.Bags.{Bag}
 use Rattle.laws.specs.Lists.{any}
 use Rattle.properties.specs.Tables.{bagAt, bagsIn}
-use Rattle.sections.proofs.Rows.{bagsFrom, rows-start, rows-next, rows-end}
+use Rattle.conditions.proofs.Rows.{bagsFrom, rows-start, rows-next, rows-end}
 
 module _ (test : Bag → Bool) (size count : ℕ) (table : List ℕ) where
   -- what the rows from i on say is what all say

@@ -3,11 +3,11 @@ use Prim.Native.Nat.{_-_, _≤_}
 use native.Mathlib.Omega.{arith}
 use Rattle.laws.specs.Bags.{strictlyContains}
 use Rattle.properties.specs.Tables.{bagAt}
-use Rattle.sections.proofs.Rows.{has-row}
-use Rattle.sections.proofs.RowTests.{Decides, tests-start, one-passes, row-fails, none-passes}
+use Rattle.conditions.proofs.Rows.{has-row}
+use Rattle.conditions.proofs.RowTests.{Decides, tests-start, one-passes, row-fails, none-passes}
 use borrow.Author.Needs.{needs}
-use Rattle.sections.proofs.minimal.is_minimal.Statement.{statement}
-use Rattle.sections.proofs.minimal.is_minimal.Tie as tie
+use Rattle.conditions.proofs.minimal.is_minimal.Statement.{statement}
+use Rattle.conditions.proofs.minimal.is_minimal.Tie as tie
 
 abbrev Inv-loop : tie.InvT-loop
 Inv-loop table count size i j₀ j = Decides (strictlyContains (bagAt size table i)) size count table j × (j ≤ count)

@@ -1,8 +1,8 @@
 -- Contained and not the same.
 use borrow.Author.Needs.{needs}
-use Rattle.sections.proofs.Comparing.{strictly-by-same, strictly-fails}
-use Rattle.sections.proofs.bags.strictly_contains.Statement.{statement}
-use Rattle.sections.proofs.bags.strictly_contains.Tie as tie
+use Rattle.conditions.proofs.Comparing.{strictly-by-same, strictly-fails}
+use Rattle.conditions.proofs.bags.strictly_contains.Statement.{statement}
+use Rattle.conditions.proofs.bags.strictly_contains.Tie as tie
 
 contains-requires : tie.Need-contains-requires
 contains-requires c κs = search needs

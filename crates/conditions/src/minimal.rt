@@ -1,18 +1,13 @@
-// The conditions that strictly contain no other: the `D` lines.
+// The conditions that strictly contain no other.
 use crate::bags::strictly_contains;
-use text::lines::write_membership;
 ghost use mathlib.Core.Path.{_≡_};
 ghost use mathlib.Core.Bool.{not};
-ghost use mathlib.Core.List.{map};
 ghost use Prim.Native.Nat.{_≤_, _<_};
 ghost use Rattle.laws.specs.Bags.{strictlyContains};
 ghost use Rattle.laws.specs.Lists.{any};
-ghost use Rattle.model.specs.Lines.{membership, minimal};
-ghost use Rattle.model.specs.Text.{text};
+ghost use Rattle.model.specs.Lines.{minimal};
 ghost use Rattle.properties.specs.Tables.{bagAt, bagsIn, HasRows};
-ghost use Rattle.sections.specs.Indices.{IndicesOf};
-ghost use Rattle.text.specs.Room.{Room};
-ghost use Rattle.text.specs.Written.{Writes};
+ghost use Rattle.conditions.specs.Indices.{IndicesOf};
 
 // Indices of conditions, ascending, and their number.
 pub struct Indices {
@@ -50,19 +45,4 @@ pub fn minimal_of(table: &[u16], count: usize, size: usize) -> Indices
         n = n + 1;
     }
     Indices { count: n, indices }
-}
-
-// The `D` lines of some indices.
-pub fn write_memberships(out: &mut [u8], indices: &[u8]) -> usize
-    requires { ⌜ Room (text (map membership (now indices))) (now out) ⌝ }
-    ensures { λ r. ⌜ Writes (text (map membership (now (indices .entry)))) (now (out .entry)) (now (out .exit)) r ⌝ }
-{
-    let mut at = 0;
-    let mut k = 0;
-    while k < indices.len() {
-        let n = write_membership(&mut out[at..], indices[k] as usize);
-        at = at + n;
-        k = k + 1;
-    }
-    at
 }

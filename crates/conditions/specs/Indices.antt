@@ -3,7 +3,7 @@ use mathlib.Core.Path.{_≡_}
 use mathlib.Core.List.{List}
 use Prim.Native.Nat.{ℕ}
 use lib.ListN.{length, take}
-use Rattle.sections.specs.declared.minimal.Indices.{Indices}
+use Rattle.conditions.specs.declared.minimal.Indices.{Indices}
 
 pub record IndicesOf (list : List ℕ) (r : Indices) : Type 0 where
   pub count : r .count ≡ length list

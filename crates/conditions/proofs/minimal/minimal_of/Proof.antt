@@ -4,11 +4,11 @@ use mathlib.Core.Path.{refl}
 use Rattle.laws.proofs.Tests.{not-true, not-false}
 use Rattle.model.specs.Lines.{minimal}
 use Rattle.properties.specs.Tables.{bagsIn}
-use Rattle.sections.proofs.Gathering.{Gathered, gather-start, gather-passes, gather-fails, gathered, gathered-count}
-use Rattle.sections.proofs.RowLists.{least, minimal-rows, least-as}
+use Rattle.conditions.proofs.Gathering.{Gathered, gather-start, gather-passes, gather-fails, gathered, gathered-count}
+use Rattle.conditions.proofs.RowLists.{least, minimal-rows, least-as}
 use borrow.Author.Needs.{needs}
-use Rattle.sections.proofs.minimal.minimal_of.Statement.{statement}
-use Rattle.sections.proofs.minimal.minimal_of.Tie as tie
+use Rattle.conditions.proofs.minimal.minimal_of.Statement.{statement}
+use Rattle.conditions.proofs.minimal.minimal_of.Tie as tie
 
 abbrev Inv-loop : tie.InvT-loop
 Inv-loop table count size indices₀ n₀ i₀ indices n i = Gathered (least size count table) count (minimal (bagsIn size count table)) indices n i
