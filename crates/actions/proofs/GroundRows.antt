@@ -4,16 +4,15 @@ use native.Mathlib.Nat.{not-suc-le-zero}
 use native.Mathlib.Omega.{arith}
 use native.Mathlib.Numerals.{add-one}
 use mathlib.Core.Path.{_≡_, refl, sym, ap, _∙_, subst}
-use mathlib.Core.Bool.{Bool, true, false, cond, _&&_}
+use mathlib.Core.Bool.{true}
 use mathlib.Core.List.{List, [], _∷_, _++_, map, map-append, map-map, append-assoc, List·Memᴰ, Memᴰ·map}
-use lib.Dec.{ltb, leb, eqb}
+use lib.Dec.{ltb}
 use lib.ListN.{length, getD, take, drop, set, replicate, length-append, length-map}
 use lib.Seq.{take-suc, getD-take, set-at, length-take-le}
 use borrow.Author.Tests.{ltb-true}
 use Rattle.laws.specs.Lists.{all}
 use Rattle.laws.proofs.Tests.{and-left, and-right}
 use Rattle.laws.proofs.Lists.{all-at, mem-getD}
-use Rattle.model.specs.Card.{Atom}
 use Rattle.model.specs.Writer.{known}
 use Rattle.model.specs.Strips.{factBytes, ground}
 use Rattle.model.proofs.Order.{known-predicate, known-arguments}
@@ -26,7 +25,6 @@ use Rattle.state.specs.Rows.{rowNumber, factNumber, inRange}
 use Rattle.state.proofs.RightRows.{arity-low, arity-high}
 use Rattle.state.proofs.Writing.{store-next}
 use Rattle.actions.specs.Grounds.{upTo, factsKept, Bound, FactsRight}
-use Rattle.actions.specs.declared.Facts.{Facts}
 
 -- the row of an atom with one to three arguments
 row-of :

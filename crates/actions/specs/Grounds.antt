@@ -1,10 +1,10 @@
 -- Ground facts as the code keeps them: their numbers, filled up with 0, and their count.
-use Prim.Native.Nat.{ℕ, zero, suc, _≤_}
+use Prim.Native.Nat.{ℕ, _≤_}
 use mathlib.Core.Path.{_≡_}
-use mathlib.Core.Bool.{Bool, true, cond}
+use mathlib.Core.Bool.{true, cond}
 use mathlib.Core.List.{List, map}
 use lib.Dec.{leb, ltb}
-use lib.ListN.{length, getD}
+use lib.ListN.{length}
 use Rattle.laws.specs.Lists.{all}
 use Rattle.model.specs.Card.{Atom}
 use Rattle.model.specs.Writer.{known}

@@ -6,7 +6,7 @@ use mathlib.Core.List.{List, [], _∷_}
 use lib.Dec.{leb}
 use Rattle.laws.specs.Lists.{all}
 use Rattle.laws.proofs.Tests.{cond-true, cond-false}
-use Rattle.model.specs.Lines.{Line, ceiling, ofPredicate, ceilings}
+use Rattle.model.specs.Lines.{ceiling, ofPredicate, ceilings}
 use Rattle.card.specs.declared.Task.{Task}
 use Rattle.card.specs.Represents.{taskOf, schemasOf, factsOf}
 

@@ -7,11 +7,11 @@ use lib.ListN.{length, getD, take, drop, length-map, length-drop}
 use lib.Seq.{getD-take, getD-drop, length-take-le, ext-getD}
 use Rattle.laws.specs.Lists.{sum, upTo}
 use Rattle.laws.proofs.Lists.{length-upTo, getD-upTo, upTo-at}
-use Rattle.laws.proofs.Mapped.{getD-map, map-ext}
+use Rattle.laws.proofs.Mapped.{getD-map}
 use Rattle.laws.proofs.Fronts.{sum-take-next, sum-take-all}
 use Rattle.model.specs.Card.{Task}
 use Rattle.model.specs.Transitions.{properties}
-use Rattle.model.specs.Lines.{Line, total, analysis, propertyNumber, totalsBy, totals}
+use Rattle.model.specs.Lines.{total, analysis, propertyNumber, totalsBy, totals}
 use Rattle.model.proofs.RuleCount.{length-properties}
 use Rattle.closing.proofs.Tallying.{entry-next, entry-none}
 use Rattle.closing.specs.Fixed.{firstAndOne, fixedOf, FixedTable, firstSome, totalLine, totalFound}

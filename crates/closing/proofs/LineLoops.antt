@@ -1,6 +1,6 @@
 -- Lines written number by number: those of the numbers that are left.
 use Prim.Native.Nat.{ℕ, _+_, _≤_, _<_}
-use mathlib.Core.Path.{_≡_, refl, sym, ap, _∙_, subst}
+use mathlib.Core.Path.{_≡_, sym, ap, _∙_, subst}
 use mathlib.Core.List.{List, [], _∷_, _++_, map, flatMap}
 use Rattle.laws.specs.Lists.{upTo}
 use Rattle.laws.proofs.Lists.{flatMap-append}

@@ -1,14 +1,14 @@
 -- The R lines of a task, schema by schema: those of the schemas that are left.
-use Prim.Native.Nat.{ℕ, suc, _+_, _≤_, _<_}
+use Prim.Native.Nat.{ℕ, _+_, _≤_, _<_}
 use native.Mathlib.Numerals.{add-one}
 use native.Mathlib.Omega.{arith}
-use mathlib.Core.Path.{_≡_, refl, sym, ap, _∙_}
-use mathlib.Core.List.{List, [], _∷_, _++_, map, flatMap}
+use mathlib.Core.Path.{_≡_, sym, ap, _∙_}
+use mathlib.Core.List.{List, [], _++_, map, flatMap}
 use lib.ListN.{length, getD, drop, drop-of-length-le}
 use lib.Seq.{drop-cons}
 use Rattle.laws.specs.Lists.{upTo}
 use Rattle.model.specs.Card.{Task, Schema}
-use Rattle.model.specs.Spaces.{Space, spaces}
+use Rattle.model.specs.Spaces.{spaces}
 use Rattle.model.specs.Lines.{Line, typesOf, typeLines}
 use Rattle.model.specs.Text.{text}
 use Rattle.card.specs.declared.Task as code

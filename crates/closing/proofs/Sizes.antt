@@ -4,12 +4,12 @@ use native.Mathlib.Nat.{mul-suc}
 use native.Mathlib.Omega.{arith}
 use mathlib.Core.Path.{_≡_, refl, sym, ap, _∙_, subst}
 use mathlib.Core.Bool.{Bool, true, false, cond}
-use mathlib.Core.List.{List, [], _∷_, _++_, map, flatMap, List·Memᴰ, List·Memᴰ·head, List·Memᴰ·tail, Memᴰ·of-map}
+use mathlib.Core.List.{List, [], _∷_, _++_, map, flatMap, List·Memᴰ, List·Memᴰ·head, List·Memᴰ·tail}
 use lib.Dec.{ltb, leb, eqb}
-use lib.ListN.{length, getD, take, drop, length-append, length-map, length-take}
+use lib.ListN.{length, getD, take, drop, length-append, length-take}
 use lib.Seq.{getD-take, getD-drop}
 use borrow.Author.Tests.{ltb-true, ltb-false}
-use Rattle.laws.specs.Lists.{all, keep, count, sum, upTo}
+use Rattle.laws.specs.Lists.{all, keep, sum, upTo}
 use Rattle.laws.specs.Bags.{support}
 use Rattle.laws.proofs.Tests.{by-test}
 use Rattle.laws.proofs.Lists.{keep-at, upTo-at, length-upTo, place-of}
@@ -18,13 +18,13 @@ use Rattle.laws.proofs.Walks.{keep-few}
 use Rattle.model.specs.Card.{Task, Schema}
 use Rattle.model.specs.Transitions.{properties, bagOf}
 use Rattle.model.specs.Spaces.{Space, hasMember, spaces}
-use Rattle.model.specs.Lines.{Line, total, ceiling, types, analysis, totals, ceilings, ofPredicate, typesOf, typeLines, closingLines}
+use Rattle.model.specs.Lines.{Line, total, ceiling, analysis, totals, ceilings, ofPredicate, typesOf, typeLines, closingLines}
 use Rattle.model.specs.Text.{decimal, items, spaced, lineText, text}
-use Rattle.model.proofs.Checked.{Checked, CheckedSchema}
+use Rattle.model.proofs.Checked.{Checked}
 use Rattle.model.proofs.ListedSpace.{spaces-of-analysis}
 use Rattle.text.specs.Room.{Room}
 use Rattle.text.proofs.Decimal.{two-digits, five-digits, decimal-more, some-digit}
-use Rattle.text.proofs.Lengths.{AllBelow, ceiling-length, types-length, text-length}
+use Rattle.text.proofs.Lengths.{ceiling-length, types-length, text-length}
 use Rattle.text.proofs.Writing.{Begins}
 use Rattle.closing.specs.Fixed.{FixedTable, firstSome, totalLine, totalFound}
 use Rattle.closing.specs.Front.{frontLines}

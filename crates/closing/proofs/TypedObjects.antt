@@ -9,7 +9,7 @@ use lib.Bits.{bitAnd}
 use lib.Dec.{eqb, ltb}
 use lib.ListN.{length, getD, length-map}
 use lib.Pow.{pow-mono}
-use borrow.Author.Tests.{le-ltb, ltb-true, ltb-false}
+use borrow.Author.Tests.{ltb-true, ltb-false}
 use Rattle.laws.specs.Lists.{any, all, keep, from, upTo, member, distinct}
 use Rattle.laws.specs.Bags.{Bag, support}
 use Rattle.laws.proofs.Tests.{by-test}
@@ -21,9 +21,9 @@ use Rattle.laws.proofs.Numbers.{member-keep-upTo, distinct-keep, distinct-upTo,
 use Rattle.laws.proofs.Walks.{keep-few}
 use Rattle.laws.proofs.Fronts.{keep-rest}
 use Rattle.model.specs.Card.{Task, Atom, Schema}
-use Rattle.model.specs.Transitions.{properties, propertiesFrom, bagOf, transitions}
+use Rattle.model.specs.Transitions.{properties, bagOf, transitions}
 use Rattle.model.specs.Spaces.{Space, hasMember, spaces}
-use Rattle.model.specs.Lines.{Line, types, typesOf}
+use Rattle.model.specs.Lines.{types, typesOf}
 use Rattle.model.proofs.Closing.{groups, labels, propertiesAt, spaceWith, spacesWith, belongs, spaces-alone}
 use Rattle.model.proofs.Grouping.{length-grouping}
 use Rattle.model.proofs.Grouping.{length-bagOf}
@@ -33,10 +33,10 @@ use Rattle.spaces.specs.declared.Spaces as code
 use Rattle.spaces.specs.SpaceTable.{SpacesOf, maskOf, groupsOf, lowestOf}
 use Rattle.spaces.specs.Steps.{enabledBy}
 use Rattle.spaces.proofs.Filling.{padded-at, padded-past, length-padded}
-use Rattle.spaces.proofs.Joins.{Joins, masksOf, masks-at, mask-ext, enabled-joins}
+use Rattle.spaces.proofs.Joins.{masksOf, masks-at, mask-ext, enabled-joins}
 use Rattle.spaces.proofs.TaskSpaces.{groupArray, own-label, labels-known, member-alone}
 use Rattle.text.specs.Members.{membersOf}
-use Rattle.text.proofs.MaskMembers.{Members, Below, listed-members}
+use Rattle.text.proofs.MaskMembers.{Below, listed-members}
 use Rattle.closing.specs.Typing.{labelMasks, typedBy, typedLines, MembersGiven}
 use Rattle.closing.proofs.LabelMasks.{length-labelMasks, mask-at-label}
 

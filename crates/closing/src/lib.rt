@@ -10,7 +10,7 @@ use totals::write_totals;
 use typing::write_type_lines;
 ghost use Prim.Native.Nat.{_≤_};
 ghost use lib.ListN.{length};
-ghost use Rattle.model.specs.Lines.{analysis, totals, ceilings, closingLines};
+ghost use Rattle.model.specs.Lines.{analysis, closingLines};
 ghost use Rattle.model.specs.Text.{text};
 ghost use Rattle.card.specs.Represents.{taskOf, Represented};
 ghost use Rattle.spaces.specs.SpaceTable.{SpacesOf};

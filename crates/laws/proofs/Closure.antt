@@ -9,7 +9,7 @@ use mathlib.Core.List.{List, List·Memᴰ}
 use lib.Dec.{ltb, leb}
 use lib.ListN.{length}
 use borrow.Author.Tests.{ltb-true, ltb-false, leb-true, leb-false}
-use Rattle.laws.specs.Lists.{any, count}
+use Rattle.laws.specs.Lists.{count}
 use Rattle.laws.proofs.Tests.{by-test}
 use Rattle.laws.proofs.Counting.{count-most, count-settles}
 

@@ -9,7 +9,7 @@ use mathlib.Core.List.{List, [], _∷_, _++_, head-eq-of-cons-eq, tail-eq-of-con
 use lib.Dec.{eqb, ltb}
 use lib.ListN.{length, getD, take}
 use borrow.Author.Tests.{eqb-true, eqb-false, eq-eqb, ltb-true, ltb-false, lt-ltb}
-use Rattle.laws.specs.Lists.{all, before}
+use Rattle.laws.specs.Lists.{before}
 use Rattle.laws.proofs.Tests.{never, and-left, and-right, and-intro, or-cases, or-left, or-right, by-test}
 
 -- the first elements decide, or they are equal and the rest decides

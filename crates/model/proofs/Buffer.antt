@@ -2,7 +2,7 @@
 use Prim.Native.Nat.{ℕ, zero, suc, _+_, _-_, _*_, _≤_}
 use native.Mathlib.Omega.{arith}
 use mathlib.Core.Path.{_≡_, refl, ap, _∙_}
-use mathlib.Core.Bool.{Bool, true, not, _&&_}
+use mathlib.Core.Bool.{Bool, true, _&&_}
 use mathlib.Core.Option.{none}
 use mathlib.Core.List.{List, [], _∷_, _++_, flatMap, append-assoc}
 use lib.Dec.{eqb, leb}
@@ -13,8 +13,8 @@ use Rattle.laws.specs.Lists.{all}
 use Rattle.laws.proofs.Tests.{and-left, and-right, and-intro}
 use Rattle.laws.proofs.Mapped.{all-replicate}
 use Rattle.model.specs.Answer.{accepted}
-use Rattle.model.specs.Card.{Atom, Task, has}
-use Rattle.model.specs.Writer.{each, known, checkTask}
+use Rattle.model.specs.Card.{Atom, Task}
+use Rattle.model.specs.Writer.{known, checkTask}
 use Rattle.model.specs.Strips.{State, filler, factBytes, factAt, factsIn, rowRight, rowsRight, ascending, wellFormed, written}
 use Rattle.model.proofs.Valid.{Valid}
 use Rattle.model.proofs.Order.{known-predicate, known-arity}

@@ -9,11 +9,10 @@ use mathlib.Core.List.{List, [], _∷_}
 use lib.Dec.{leb}
 use lib.ListN.{length}
 use borrow.Author.Tests.{leb-true}
-use Rattle.laws.specs.Lists.{distinct}
 use Rattle.laws.proofs.Counting.{NoRepeat}
 use Rattle.model.specs.Answer.{Answer, refused, accepted, _>>=_, _>>_, need}
 use Rattle.model.specs.Card.{Task, decode}
-use Rattle.model.specs.Writer.{each, checkTask}
+use Rattle.model.specs.Writer.{checkTask}
 use Rattle.model.specs.Strips.{State, Action, factsIn, ascending, wellFormed, written}
 use Rattle.model.specs.Strips.{successor, schemaAt, apply}
 use Rattle.model.specs.Calls.{Call, Standing, finish, store, initial, press, counted, pressed, history, stateOf}

@@ -18,7 +18,7 @@ use Rattle.model.specs.Card.{Task, Schema}
 use Rattle.model.specs.Strips.{schemaAt}
 use Rattle.model.specs.Transitions
 use Rattle.model.specs.Transitions.{bagOf}
-use Rattle.model.specs.Spaces.{Space, Kind, property, hasMember}
+use Rattle.model.specs.Spaces.{Space, Kind, hasMember}
 use Rattle.model.specs.Lines.{Line, space, state, limit, membership, exclusion, total, ceiling, types, Analysis, analysis, countOf, largest}
 use Rattle.model.specs.Lines.{arityOf, limits, minimal, excluded, exclusions, spaceLines, spaceSections, propertyNumber, oneNumber, totalsBy}
 use Rattle.model.specs.Lines.{totals, ofPredicate, ceilings, typesOf, typeLines, closingLines, sections}

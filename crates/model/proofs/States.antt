@@ -18,7 +18,6 @@ use Rattle.model.specs.Card.{Atom, Schema, Task, below, sameAtom, has, a
 use Rattle.model.specs.Writer.{known, checkTask}
 use Rattle.model.specs.Strips.{State, Action, ascending}
 use Rattle.model.specs.Strips.{ground, put, takenOut, putIn, successor, schemaAt, checkAction}
-use Rattle.model.specs.Calls.{initial}
 use Rattle.model.proofs.Valid.{Valid}
 use Rattle.model.proofs.Order.{known-predicate, known-arity, known-arguments, known-intro, sameAtom-eq, below-otherwise, ascending-head}
 use Rattle.model.proofs.Order.{ascending-tail, ascending-cons, ascending-skip}

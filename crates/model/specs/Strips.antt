@@ -6,7 +6,7 @@ use mathlib.Core.Option.{Option, none, some}
 use lib.Dec.{leb, ltb, eqb}
 use lib.ListN.{length, getD, take, drop, replicate}
 use Rattle.laws.specs.Lists.{all, keep, distinct}
-use Rattle.model.specs.Answer.{Answer, accepted, _>>=_, _>>_, need}
+use Rattle.model.specs.Answer.{Answer, accepted, _>>_, need}
 use Rattle.model.specs.Card.{Atom, Schema, Task, below, sameAtom, has, above}
 use Rattle.model.specs.Writer.{known}
 

@@ -1,16 +1,16 @@
 -- Ascending lists of numbers: the place of a number, and what the list is without the number and with it.
-use Prim.Native.Nat.{ℕ, zero, suc, _+_, _≤_, _<_, zero-le, suc-le-suc}
+use Prim.Native.Nat.{ℕ, zero, suc, _≤_, _<_, zero-le, suc-le-suc}
 use native.Mathlib.Nat.{le-of-suc-le-suc, not-suc-le-zero}
 use native.Mathlib.Omega.{arith}
 use mathlib.Core.Path.{_≡_, refl, sym, ap, _∙_}
-use mathlib.Core.Bool.{Bool, true, false, cond, not, _&&_, _||_}
-use mathlib.Core.List.{List, [], _∷_, _++_, foldl}
+use mathlib.Core.Bool.{Bool, true, false, cond, not, _||_}
+use mathlib.Core.List.{List, [], _∷_, _++_}
 use lib.Dec.{eqb, ltb, leb}
 use lib.ListN.{length, getD, take, drop}
 use borrow.Author.Tests.{eqb-true, eqb-false, eq-eqb, ne-eqb, ltb-true, ltb-false, lt-ltb, le-ltb, leb-true, le-leb}
 use Rattle.laws.specs.Lists.{any, keep, member}
 use Rattle.laws.proofs.Tests.{never, and-left, and-right, and-intro, or-false-left, or-false-right, or-false-intro, cond-true, cond-false, by-test}
-use Rattle.sets.specs.Numbers.{rising, place, without, inserted, withoutAll, insertedAll}
+use Rattle.sets.specs.Numbers.{rising, place, without, inserted}
 
 -- the first number of an ascending list is at or above the bound, and the rest ascends from above it
 pub rising-first : (bound n : ℕ) (ns : List ℕ) → rising bound (n ∷ ns) ≡ true → bound ≤ n

@@ -5,8 +5,8 @@ use native.Mathlib.Omega.{arith}
 use native.Mathlib.Numerals.{add-one}
 use mathlib.Core.Path.{_≡_, refl, sym, ap, _∙_, subst}
 use mathlib.Core.List.{List, [], _∷_, _++_, append-assoc}
-use lib.ListN.{length, getD, take, drop, set, length-set, length-take, take-append-drop, drop-of-length-le}
-use lib.Seq.{take-suc-set, take-set-le, take-take, take-suc, drop-set-lt, drop-cons, drop-drop, getD-take, getD-drop, getD-set-same, set-split, length-take-le}
+use lib.ListN.{length, getD, take, drop, set, length-set, length-take, drop-of-length-le}
+use lib.Seq.{take-suc-set, take-set-le, take-take, drop-set-lt, drop-cons, drop-drop, getD-take, getD-drop, getD-set-same, set-split, length-take-le}
 use Rattle.sets.specs.Numbers.{closed, opened}
 
 -- nothing is left behind a front part's own length

@@ -1,8 +1,8 @@
 -- Arrays filled from the front, with a blank in the places past what was written.
-use Prim.Native.Nat.{ℕ, zero, suc, _-_, _+_, _≤_, _<_}
+use Prim.Native.Nat.{ℕ, suc, _-_, _+_, _≤_, _<_}
 use native.Mathlib.Numerals.{add-one}
 use native.Mathlib.Omega.{arith}
-use mathlib.Core.Path.{_≡_, refl, sym, ap, _∙_, subst}
+use mathlib.Core.Path.{_≡_, sym, ap, _∙_, subst}
 use mathlib.Core.Bool.{Bool, true, false}
 use mathlib.Core.List.{List, [], _∷_, _++_, map, map-append, append-assoc, List·Memᴰ}
 use lib.ListN.{length, take, length-map, set, getD, replicate, length-append, length-replicate, List·getD-append}

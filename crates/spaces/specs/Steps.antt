@@ -1,5 +1,5 @@
 -- What each step of the code computes: rules read back from their tables, and members as masks, one for each label of a group.
-use Prim.Native.Nat.{ℕ, zero, suc, _*_, _^_, _-_}
+use Prim.Native.Nat.{ℕ, zero, suc, _^_, _-_}
 use mathlib.Core.Bool.{cond}
 use mathlib.Core.List.{List, [], _∷_, map, foldl}
 use lib.Dec.{eqb}

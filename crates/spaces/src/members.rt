@@ -4,7 +4,7 @@ use crate::enabling::enabled;
 use crate::grouping;
 ghost use mathlib.Core.Path.{_≡_};
 ghost use mathlib.Core.List.{map};
-ghost use Prim.Native.Nat.{ℕ, _+_, _-_, _*_, _≤_, _<_};
+ghost use Prim.Native.Nat.{ℕ, _+_, _*_, _≤_, _<_};
 ghost use lib.ListN.{length, getD, take};
 ghost use Rattle.laws.specs.Lists.{same};
 ghost use Rattle.laws.specs.Bags.{isEmpty};

@@ -1,26 +1,25 @@
 -- Facts and their numbers: the order and equality of facts, states and their changes, and what stands in a buffer.
-use Prim.Native.Nat.{ℕ, zero, suc, _+_, _-_, _*_, _≤_, _<_, zero-le}
+use Prim.Native.Nat.{ℕ, zero, suc, _-_, _*_, _≤_, _<_, zero-le}
 use native.Mathlib.Omega.{arith}
-use mathlib.Core.Path.{_≡_, refl, sym, ap, _∙_, subst}
+use mathlib.Core.Path.{_≡_, refl, sym, ap, _∙_}
 use mathlib.Core.Bool.{Bool, true, false, cond, not, _&&_, _||_}
 use mathlib.Core.Logic.{⊎-elim}
-use mathlib.Core.Option.{Option, none, some}
-use mathlib.Core.List.{List, [], _∷_, _++_, map, flatMap, foldl, List·Memᴰ, List·Memᴰ·head, List·Memᴰ·tail}
+use mathlib.Core.Option.{none, some}
+use mathlib.Core.List.{List, [], _∷_, _++_, map, flatMap, foldl}
 use lib.Dec.{ltb, leb, eqb, lit<}
 use lib.ListN.{length, getD, take, drop, replicate, length-map, length-drop}
-use lib.Seq.{getD-drop}
-use borrow.Author.Tests.{lt-ltb, le-ltb, eq-eqb, ne-eqb, eqb-true, ltb-true, ltb-false, leb-true, le-leb}
+use borrow.Author.Tests.{eq-eqb, eqb-true, ltb-true, le-leb}
 use Rattle.laws.specs.Lists.{any, all, keep, member}
-use Rattle.laws.proofs.Tests.{never, and-left, and-right, and-intro, same-test, by-test, cond-true, cond-false}
+use Rattle.laws.proofs.Tests.{and-left, and-right, and-intro, same-test, cond-true, cond-false}
 use Rattle.laws.proofs.Lists.{all-at, all-intro, keep-at}
-use Rattle.model.specs.Card.{Atom, Task, below, sameAtom, has, above}
+use Rattle.model.specs.Card.{Atom, below, sameAtom, has, above}
 use Rattle.model.specs.Writer.{known}
 use Rattle.model.specs.Strips.{State, filler, factBytes, factAt, factsIn, rowRight, rowsRight, ascending, put, written}
 use Rattle.model.proofs.Order.{bytes-order, known-predicate, known-arity, known-arguments, sameAtom-eq, eq-sameAtom, ascending-head, ascending-tail}
 use Rattle.model.proofs.Buffer.{factAt-factBytes}
 use Rattle.model.proofs.States.{put-at}
 use Rattle.sets.specs.Numbers.{rising, without, inserted, withoutAll, insertedAll}
-use Rattle.state.specs.Rows.{rowNumber, rowBytes, factNumber, numbersIn, signature, inRange, stored, Shape}
+use Rattle.state.specs.Rows.{rowNumber, rowBytes, factNumber, numbersIn, signature, stored, Shape}
 use Rattle.state.proofs.RowBytes.{Four, four-at, number-bytes, number-order, number-same}
 use Rattle.state.proofs.RightRows.{eqb-swap, arity-low, arity-high, right-row-fact}
 

@@ -1,25 +1,25 @@
 -- Right rows: four bytes that are right place by place, the fact they stand for, and a buffer's rows in order.
-use Prim.Native.Nat.{ℕ, zero, suc, _+_, _-_, _*_, _≤_, _<_, zero-le, suc-le-suc}
-use native.Mathlib.Nat.{le-of-suc-le-suc, not-suc-le-zero, sub-zero}
+use Prim.Native.Nat.{ℕ, zero, suc, _+_, _-_, _*_, _≤_, _<_, zero-le}
+use native.Mathlib.Nat.{not-suc-le-zero, sub-zero}
 use native.Mathlib.Numerals.{add-one}
 use native.Mathlib.Omega.{arith}
 use mathlib.Core.Path.{_≡_, refl, sym, ap, _∙_, subst}
-use mathlib.Core.Bool.{Bool, true, false, cond, _&&_, _||_}
+use mathlib.Core.Bool.{Bool, true, false, _&&_}
 use mathlib.Core.Option.{Option, none, some}
-use mathlib.Core.List.{List, [], _∷_, _++_}
+use mathlib.Core.List.{List, [], _∷_}
 use lib.Dec.{ltb, leb, eqb}
-use lib.ListN.{length, getD, take, drop, replicate, length-drop}
+use lib.ListN.{length, getD, take, drop, length-drop}
 use lib.Seq.{drop-drop, getD-drop}
 use borrow.Author.Tests.{lt-ltb, le-ltb, eq-eqb, eqb-true, ltb-true, ltb-false, leb-true, le-leb, lt-leb}
 use Rattle.laws.specs.Lists.{all, before}
-use Rattle.laws.proofs.Tests.{never, and-left, and-right, and-intro, and-swap, same-test, by-test}
+use Rattle.laws.proofs.Tests.{never, and-left, and-right, and-swap, same-test, by-test}
 use Rattle.laws.proofs.Lists.{all-at, mem-getD}
-use Rattle.model.specs.Card.{Atom, Task, below, above, between}
+use Rattle.model.specs.Card.{Atom, Task, above, between}
 use Rattle.model.specs.Writer.{known}
-use Rattle.model.specs.Strips.{filler, factBytes, factAt, factsIn, rowRight, rowsRight, ascending, wellFormed}
+use Rattle.model.specs.Strips.{factBytes, factAt, factsIn, rowRight, rowsRight, ascending, wellFormed}
 use Rattle.model.proofs.Order.{bytes-order}
 use Rattle.model.proofs.Checked.{between-low, between-high}
-use Rattle.state.specs.Rows.{rowNumber, factNumber, rowAt, numbersIn, signature, inRange, placeRight, rowsIn}
+use Rattle.state.specs.Rows.{rowNumber, factNumber, rowAt, signature, inRange, placeRight, rowsIn}
 use Rattle.state.proofs.RowBytes.{Four, four-at, number-order}
 
 -- which of two numbers is named first does not matter

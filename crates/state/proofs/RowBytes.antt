@@ -1,20 +1,19 @@
 -- A row's four bytes: read one by one, written one by one, and as one number.
-use Prim.Native.Nat.{ℕ, zero, suc, _+_, _-_, _*_, _/_, _%_, _≤_, _<_}
-use native.Mathlib.Nat.{le-refl}
+use Prim.Native.Nat.{ℕ, suc, _+_, _*_, _/_, _%_, _≤_, _<_}
 use native.Mathlib.Omega.{arith}
-use native.Mathlib.Numerals.{add-one, add-two, add-three, add-four}
-use mathlib.Core.Path.{_≡_, refl, sym, ap, _∙_, subst}
-use mathlib.Core.Bool.{Bool, true, false, cond, _&&_, _||_}
-use mathlib.Core.Logic.{_⊎_, inl, inr, ⊎-elim}
-use mathlib.Core.List.{List, [], _∷_, _++_, append-assoc}
-use lib.Dec.{ltb, leb, eqb}
-use lib.ListN.{length, getD, take, drop, set, length-take, length-drop}
-use lib.Seq.{drop-cons, sets, sets-eq}
-use borrow.Author.Tests.{lt-ltb, le-ltb, eq-eqb, ne-eqb, ltb-true, ltb-false, eqb-true, eqb-false}
-use Rattle.laws.specs.Lists.{same, before}
+use native.Mathlib.Numerals.{add-one, add-two, add-three}
+use mathlib.Core.Path.{_≡_, sym, ap, _∙_, subst}
+use mathlib.Core.Bool.{true}
+use mathlib.Core.Logic.{_⊎_, inl, inr}
+use mathlib.Core.List.{List, [], _∷_, _++_}
+use lib.Dec.{ltb}
+use lib.ListN.{length, getD, take, drop, set}
+use lib.Seq.{drop-cons, sets-eq}
+use borrow.Author.Tests.{lt-ltb, ltb-true}
+use Rattle.laws.specs.Lists.{before}
 use Rattle.laws.proofs.Tests.{never, same-test}
 use Rattle.laws.proofs.Orders.{compared, before-cases, before-first, before-rest, before-irreflexive}
-use Rattle.state.specs.Rows.{rowNumber, rowBytes, rowAt}
+use Rattle.state.specs.Rows.{rowNumber, rowBytes}
 
 -- four bytes from a place on
 pub four-at :

@@ -1,12 +1,12 @@
 -- Writing: numbers loaded from a buffer's rows, rows and zeros stored to a buffer, one after the other.
-use Prim.Native.Nat.{ℕ, zero, suc, _+_, _-_, _*_, _≤_, _<_, zero-le}
+use Prim.Native.Nat.{ℕ, zero, suc, _+_, _-_, _*_, _≤_, _<_}
 use native.Mathlib.Omega.{arith}
 use native.Mathlib.Numerals.{add-one}
-use mathlib.Core.Path.{_≡_, refl, sym, ap, _∙_, subst}
-use mathlib.Core.List.{List, [], _∷_, _++_, map, flatMap, append-assoc}
-use lib.ListN.{length, getD, take, drop, set, replicate, length-append, length-take, length-drop, length-replicate, take-append-drop}
+use mathlib.Core.Path.{_≡_, refl, sym, ap, _∙_}
+use mathlib.Core.List.{List, [], _∷_, _++_, flatMap, append-assoc}
+use lib.ListN.{length, getD, take, drop, set, replicate, length-append, length-drop, length-replicate, take-append-drop}
 use lib.ListN.{replicate-append-replicate}
-use lib.Seq.{take-suc, take-all, take-at, drop-at, drop-cons, drop-drop, drop-append-add, set-at, length-take-le}
+use lib.Seq.{take-suc, take-at, drop-cons, drop-drop, drop-append-add, set-at, length-take-le}
 use Rattle.laws.proofs.Lists.{flatMap-append}
 use Rattle.state.specs.Rows.{rowNumber, rowBytes, rowAt, numbersIn, stored}
 

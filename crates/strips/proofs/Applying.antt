@@ -1,40 +1,37 @@
 -- Applying an action to a well-formed state: its numbers, whether it is applicable, and the numbers of the next state.
-use Prim.Native.Nat.{ℕ, zero, suc, _+_, _-_, _*_, _≤_, _<_}
+use Prim.Native.Nat.{ℕ, zero, suc, _-_, _≤_, _<_}
 use native.Mathlib.Nat.{sub-zero}
 use native.Mathlib.Omega.{arith}
 use mathlib.Core.Path.{_≡_, refl, sym, ap, _∙_, subst}
-use mathlib.Core.Bool.{Bool, true, false, cond, not, _&&_}
-use mathlib.Core.List.{List, [], _∷_, _++_, map, foldl, List·Memᴰ, List·Memᴰ·head, List·Memᴰ·tail}
+use mathlib.Core.Bool.{Bool, true, false, not}
+use mathlib.Core.List.{List, [], _∷_, _++_, map, foldl}
 use mathlib.Core.Option.{none}
-use lib.Dec.{leb, ltb, eqb}
-use lib.ListN.{length, getD, take, drop, replicate, length-map, length-append, length-drop, length-replicate}
+use lib.ListN.{length, take, drop, replicate, length-map, length-append, length-drop, length-replicate}
 use lib.Seq.{take-at, drop-at}
 use borrow.Author.Tests.{le-leb, lt-leb}
 use Rattle.laws.specs.Lists.{all, keep, member}
 use Rattle.laws.proofs.Tests.{and-left, and-right}
 use Rattle.laws.proofs.Lists.{all-at, all-intro}
 use Rattle.laws.proofs.Mapped.{all-map, all-ext}
-use Rattle.model.specs.Answer.{Answer, refused, accepted, _>>=_, _>>_, need}
+use Rattle.model.specs.Answer.{accepted, _>>=_, _>>_, need}
 use Rattle.model.specs.Card.{Atom, has}
 use Rattle.model.specs.Card as model
 use Rattle.model.specs.Writer.{known}
-use Rattle.model.specs.Strips.{State, factsIn, wellFormed, ascending, ground, applicable, put, takenOut, putIn, successor, written}
-use Rattle.model.specs.Calls.{Call, finish, store}
-use Rattle.model.proofs.Valid.{Valid}
+use Rattle.model.specs.Strips.{State, factsIn, ascending, ground, applicable, put, takenOut, putIn, successor}
+use Rattle.model.specs.Calls.{finish, store}
 use Rattle.model.proofs.Checked.{CheckedSchema, checked-schema}
 use Rattle.model.proofs.Buffer.{WellFormed, well-formed, rows-known}
 use Rattle.model.proofs.States.{ground-known}
 use Rattle.card.specs.Represents.{atomsOf, schemaOf}
 use Rattle.card.specs.declared.AtomList.{AtomList}
 use Rattle.card.specs.declared.Schema.{Schema}
-use Rattle.sets.specs.Numbers.{rising, withoutAll, insertedAll, filled, Holds, Becomes}
+use Rattle.sets.specs.Numbers.{rising, insertedAll, filled, Holds, Becomes}
 use Rattle.state.specs.Rows.{factNumber, numbersIn, signature, stored, Shape}
 use Rattle.state.proofs.Writing.{length-numbersIn}
 use Rattle.state.proofs.FactNumbers.{allKnown, member-has, numbers-puts, numbers-removed, rising-state, numbers-of-rows, stored-written, put-known, keep-known}
 use Rattle.actions.specs.Grounds.{Bound}
 use Rattle.strips.specs.Answers.{appliedSays}
-use Rattle.strips.specs.Stages.{Does, leaving, changed, allHeld, nextNumbers, ListKept, SchemaKept, StateKept, Ready, NextReady}
-use Rattle.strips.specs.declared.Applied.{Applied}
+use Rattle.strips.specs.Stages.{Does, leaving, changed, allHeld, nextNumbers, ListKept, StateKept, Ready, NextReady}
 use Rattle.strips.specs.declared.Applied.the-variants.{Count, PreconditionMissing, StateFull}
 
 -- facts put in one after the other are known

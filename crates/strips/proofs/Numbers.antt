@@ -1,18 +1,18 @@
 -- The numbers of the next state: what goes and what comes, as the code keeps them.
-use Prim.Native.Nat.{ℕ, zero, suc, _+_, _-_, _≤_, _<_}
+use Prim.Native.Nat.{ℕ, _+_, _-_, _≤_}
 use native.Mathlib.Nat.{sub-zero, le-refl, le-trans}
 use native.Mathlib.Omega.{arith}
-use mathlib.Core.Path.{_≡_, refl, sym, ap, _∙_, subst}
-use mathlib.Core.Bool.{Bool, true, false}
-use mathlib.Core.List.{List, [], _∷_, _++_, map}
-use lib.ListN.{length, take, drop, replicate, length-map, length-append}
+use mathlib.Core.Path.{_≡_, sym, ap, _∙_}
+use mathlib.Core.Bool.{true}
+use mathlib.Core.List.{List, [], _∷_, map}
+use lib.ListN.{length, take, replicate, length-map, length-append}
 use lib.Seq.{take-at, length-take-le}
 use Rattle.model.specs.Card as model
 use Rattle.model.specs.Strips.{ground, takenOut, putIn}
 use Rattle.card.specs.Represents.{atomOf, atomsOf, schemaOf}
 use Rattle.card.specs.declared.AtomList.{AtomList}
 use Rattle.card.specs.declared.Schema.{Schema}
-use Rattle.sets.specs.Numbers.{rising, without, inserted, withoutAll, insertedAll, filled, Holds, Becomes}
+use Rattle.sets.specs.Numbers.{rising, without, withoutAll, insertedAll, filled, Holds, Becomes}
 use Rattle.sets.proofs.Ascending.{without-rising, length-without}
 use Rattle.sets.proofs.Changing.{left-set, left-length, left-holds}
 use Rattle.state.specs.Rows.{factNumber}

@@ -1,16 +1,16 @@
 -- Pressing and opening, for a task as the code keeps it: what its parts say of the definition.
-use Prim.Native.Nat.{ℕ, zero, suc, _+_, _-_, _≤_, _<_}
+use Prim.Native.Nat.{ℕ, _-_, _≤_, _<_}
 use native.Mathlib.Nat.{sub-zero}
 use native.Mathlib.Omega.{arith}
-use mathlib.Core.Path.{_≡_, refl, sym, ap, _∙_, subst}
+use mathlib.Core.Path.{_≡_, sym, ap, _∙_, subst}
 use mathlib.Core.Bool.{Bool, true, false}
-use mathlib.Core.List.{List, [], _∷_, _++_, map}
+use mathlib.Core.List.{List, _++_, map}
 use lib.ListN.{length, getD, take, drop, length-map}
 use lib.Seq.{take-at}
 use Rattle.model.specs.Card as model
-use Rattle.model.specs.Strips.{State, Action, factsIn, wellFormed, schemaAt, written}
+use Rattle.model.specs.Strips.{Action, factsIn, wellFormed}
 use Rattle.model.specs.Calls.{Call}
-use Rattle.card.specs.Represents.{schemaOf, aritiesOf, factsOf, taskOf, blankSchema, Represented}
+use Rattle.card.specs.Represents.{schemaOf, factsOf, taskOf, blankSchema, Represented}
 use Rattle.card.specs.declared.Schema.{Schema}
 use Rattle.card.specs.declared.Task.{Task}
 use Rattle.state.specs.Rows.{factNumber, signature, inRange, stored, Shape}

@@ -1,9 +1,9 @@
 -- Refusals in their order: which check a stage refuses by, and what is left when its checks have passed.
 use Prim.Native.Nat.{ℕ, _≤_, _<_}
-use mathlib.Core.Path.{_≡_, refl, sym, ap, _∙_, subst}
-use mathlib.Core.Bool.{Bool, true, false, cond, _&&_}
+use mathlib.Core.Path.{_≡_, refl, ap, _∙_}
+use mathlib.Core.Bool.{Bool, true, false, _&&_}
 use mathlib.Core.List.{List}
-use lib.Dec.{leb, ltb, eqb}
+use lib.Dec.{ltb, eqb}
 use lib.ListN.{length}
 use borrow.Author.Tests.{eq-eqb, ne-eqb, lt-ltb, le-ltb, le-leb, lt-leb}
 use Rattle.laws.specs.Lists.{all, distinct}
@@ -11,10 +11,9 @@ use Rattle.laws.proofs.Tests.{and-intro, and-false-left, and-false-right}
 use Rattle.model.specs.Answer.{Answer, refused, accepted, _>>=_, _>>_, need}
 use Rattle.model.specs.Card.{Schema, Task}
 use Rattle.model.specs.Strips.{State, Action, factsIn, wellFormed, schemaAt, checkAction, apply, written}
-use Rattle.model.specs.Calls.{Call, finish, store}
+use Rattle.model.specs.Calls.{finish, store}
 use Rattle.strips.specs.Answers.{appliedSays}
 use Rattle.strips.specs.Stages.{Does, leaving, changed, bound, pressTask, initialTask}
-use Rattle.strips.specs.declared.Applied.{Applied}
 use Rattle.strips.specs.declared.Applied.the-variants.{Count, StateMalformed, SchemaUnknown, ObjectsWrong, ObjectsRepeated}
 
 -- 17 and 18

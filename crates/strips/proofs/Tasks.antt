@@ -1,32 +1,30 @@
 -- A checked task as the code keeps it: its shape, its schemas and its facts.
-use Prim.Native.Nat.{ℕ, zero, suc, _+_, _-_, _≤_, _<_}
+use Prim.Native.Nat.{ℕ, zero, suc, _-_, _≤_, _<_}
 use native.Mathlib.Nat.{sub-zero}
 use native.Mathlib.Omega.{arith}
 use mathlib.Core.Path.{_≡_, refl, sym, ap, _∙_, subst}
-use mathlib.Core.Bool.{Bool, true, false, cond, _&&_}
+use mathlib.Core.Bool.{Bool, true, _&&_}
 use mathlib.Core.Option.{none}
-use mathlib.Core.List.{List, [], _∷_, _++_, map}
-use lib.Dec.{leb, ltb, eqb}
+use mathlib.Core.List.{List, [], _∷_, map}
+use lib.Dec.{leb}
 use lib.ListN.{length, getD, take, drop, replicate, length-map, length-append, length-replicate, List·getD-append, List·getD-map}
-use lib.Seq.{getD-take, length-take-le}
+use lib.Seq.{getD-take}
 use Rattle.laws.specs.Lists.{all}
 use Rattle.laws.proofs.Lists.{all-at, all-intro, mem-getD}
-use Rattle.model.specs.Answer.{Answer, refused, accepted, _>>=_, _>>_, need}
+use Rattle.model.specs.Answer.{accepted}
 use Rattle.model.specs.Card as model
-use Rattle.model.specs.Writer.{known, each, checkSchema, checkTask}
-use Rattle.model.specs.Strips.{State, factsIn, rowRight, rowsRight, ascending, wellFormed, schemaAt}
+use Rattle.model.specs.Writer.{known, checkSchema, checkTask}
+use Rattle.model.specs.Strips.{factsIn, rowRight, rowsRight, ascending, wellFormed, schemaAt}
 use Rattle.model.proofs.Order.{known-predicate}
 use Rattle.model.proofs.Answers.{first-passed, need-then}
 use Rattle.model.proofs.Checked.{Checked, checked, CheckedSchema, schemaAt-right, each-passed}
-use Rattle.card.specs.Represents.{atomOf, atomsOf, schemaOf, aritiesOf, schemasOf, factsOf, taskOf, Represented}
+use Rattle.card.specs.Represents.{schemaOf, aritiesOf, schemasOf, taskOf, Represented}
 use Rattle.card.specs.Represents.{padded, atomFor, blankAtom, atomsFor, schemaFor, blankSchema, aritiesFor, schemasFor, factsFor, taskFor}
-use Rattle.card.specs.declared.Atom.{Atom as Kept}
-use Rattle.card.specs.declared.AtomList.{AtomList}
 use Rattle.card.specs.declared.Schema.{Schema}
 use Rattle.card.specs.declared.Task.{Task}
 use Rattle.state.specs.Rows.{signature, inRange, Shape}
 use Rattle.actions.specs.Grounds.{FactsRight}
-use Rattle.strips.specs.Stages.{ListKept, SchemaKept, StateKept}
+use Rattle.strips.specs.Stages.{ListKept, SchemaKept}
 
 -- 15 looks at a task's arities and objects alone
 rows-shaped : (t : model.Task) (n : ℕ) (buffer : List ℕ) → rowsRight t n buffer ≡ rowsRight (signature (t .arities) (t .objects)) n buffer

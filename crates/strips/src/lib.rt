@@ -16,7 +16,6 @@ use sets::remove_all;
 use state::load;
 use state::store;
 use state::well_formed;
-ghost use Prim.Native.Nat.{_<_};
 ghost use mathlib.Core.Bool.{true};
 ghost use mathlib.Core.Path.{_≡_};
 ghost use lib.ListN.{take};

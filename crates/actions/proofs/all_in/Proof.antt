@@ -1,10 +1,9 @@
 -- Each number is looked for; those from i on decide what is left to decide.
-use Prim.Native.Nat.{ℕ, _-_, _≤_}
+use Prim.Native.Nat.{_-_, _≤_}
 use mathlib.Core.Path.{_≡_, refl}
-use mathlib.Core.Bool.{Bool}
 use native.Mathlib.Omega.{arith}
 use borrow.Author.Needs.{needs}
-use lib.ListN.{length, drop, getD}
+use lib.ListN.{length, drop}
 use Rattle.laws.specs.Lists.{all, member}
 use Rattle.sets.proofs.Changing.{found-there, found-missing}
 use Rattle.actions.proofs.Passing.{all-fails, all-again, all-end}

@@ -1,5 +1,5 @@
 -- The numbers of the first i facts stand at the front of the array.
-use Prim.Native.Nat.{ℕ, _-_, _≤_}
+use Prim.Native.Nat.{_-_, _≤_}
 use mathlib.Core.Path.{_≡_, refl, _∙_}
 use mathlib.Core.List.{map, _++_}
 use native.Mathlib.Omega.{arith}

@@ -1,6 +1,6 @@
 -- Each refusal has its own number, which the arm of the match knows.
 use borrow.Author.Needs.{needs}
-use mathlib.Core.Path.{_≡_, sym, ap}
+use mathlib.Core.Path.{sym, ap}
 use Rattle.card.specs.Represents.{refusalNumber}
 use Rattle.card.proofs.refusal_number.Statement.{statement}
 use Rattle.card.proofs.refusal_number.Tie as tie

@@ -6,8 +6,6 @@ use Rattle.reader_bytes.proofs.Reading.{accepts, refuses, byte-at, byte
 use borrow.Author.Needs.{needs}
 use Rattle.reader_bytes.proofs.byte.Statement.{statement}
 use Rattle.reader_bytes.proofs.byte.Tie as tie
-use Rattle.reader_bytes.proofs.byte.Reads as reads
-use Rattle.reader_bytes.proofs.byte.Lts as lts
 
 shared-slice-read-t8 : tie.Need-shared-slice-read-t8
 shared-slice-read-t8 c = search needs

@@ -1,7 +1,7 @@
 -- The numbers after the gap move down one by one.
-use Prim.Native.Nat.{ℕ, _-_, _≤_}
+use Prim.Native.Nat.{_-_}
 use native.Mathlib.Omega.{arith}
-use mathlib.Core.Path.{_≡_, _∙_}
+use mathlib.Core.Path.{_∙_}
 use lib.ListN.{length-set}
 use Rattle.sets.proofs.Shifting.{Closing, closing-start, closing-step, closing-end}
 use Rattle.sets.proofs.close_gap.Statement.{statement}

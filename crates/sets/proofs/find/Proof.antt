@@ -1,6 +1,6 @@
 -- The number stands at its place, or nowhere.
 use Prim.Native.Nat.{ℕ, _≤_, _<_}
-use mathlib.Core.Path.{_≡_, refl, sym, ap, _∙_, subst}
+use mathlib.Core.Path.{_≡_, sym, ap, _∙_, subst}
 use mathlib.Core.Bool.{Bool, true, false, cond}
 use mathlib.Core.List.{List}
 use lib.Dec.{eqb}
@@ -9,7 +9,6 @@ use borrow.Author.Needs.{needs}
 use borrow.Author.Tests.{eq-eqb, ne-eqb}
 use Rattle.laws.specs.Lists.{member}
 use Rattle.sets.specs.Numbers.{rising, place, found}
-use Rattle.sets.specs.declared.Found.{Found}
 use Rattle.sets.specs.declared.Found.the-variants.{At, Missing}
 use Rattle.sets.proofs.Ascending.{member-at-place, member-past-end}
 use Rattle.sets.proofs.find.Statement.{statement}

@@ -1,7 +1,6 @@
 -- The numbers from the place on move up one by one, the last of them first.
-use Prim.Native.Nat.{ℕ, _-_, _≤_}
 use native.Mathlib.Omega.{arith}
-use mathlib.Core.Path.{_≡_, _∙_}
+use mathlib.Core.Path.{_∙_}
 use lib.ListN.{length-set}
 use Rattle.sets.proofs.Shifting.{Opening, opening-start, opening-step, opening-end}
 use Rattle.sets.proofs.make_room.Statement.{statement}

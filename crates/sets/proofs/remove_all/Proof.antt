@@ -1,7 +1,6 @@
 -- Numbers go one after the other.
-use Prim.Native.Nat.{ℕ, _-_}
+use Prim.Native.Nat.{_-_}
 use native.Mathlib.Omega.{arith}
-use mathlib.Core.List.{List}
 use lib.ListN.{length, take}
 use Rattle.sets.specs.Numbers.{withoutAll}
 use Rattle.sets.proofs.Changing.{Changing, takeOut, changing-start, changing-end, changing-holds, changing-length, removing-step}

@@ -1,6 +1,5 @@
 -- A place up to the arity holds an object, one after it filler.
-use mathlib.Core.Path.{_≡_, sym, _∙_}
-use lib.Dec.{ltb, leb, eqb}
+use mathlib.Core.Path.{sym}
 use borrow.Author.Tests.{le-leb, lt-leb}
 use Rattle.laws.proofs.Tests.{cond-true, cond-false}
 use Rattle.state.specs.Rows.{placeRight}

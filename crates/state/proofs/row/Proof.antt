@@ -1,7 +1,6 @@
 -- The four bytes of a row.
 use Prim.Native.Nat.{_*_}
 use mathlib.Core.Path.{sym, ap, _∙_}
-use native.Mathlib.Omega.{arith}
 use Rattle.state.specs.Rows.{rowNumber, rowAt}
 use Rattle.state.proofs.RowBytes.{four-at}
 use borrow.Author.Needs.{needs}

@@ -1,5 +1,4 @@
 -- Rows, then 0 up to byte 4,096.
-use mathlib.Core.Path.{_≡_, refl, sym, ap, _∙_}
 use native.Mathlib.Omega.{arith}
 use Rattle.state.proofs.Writing.{rows-stored}
 use Rattle.state.proofs.store.Statement.{statement}

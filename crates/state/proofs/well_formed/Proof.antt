@@ -1,6 +1,5 @@
 -- 15: the buffer's length, the count, and one pass over the rows.
 use mathlib.Core.Path.{sym, _∙_}
-use native.Mathlib.Omega.{arith}
 use Rattle.state.specs.Rows.{signature}
 use Rattle.state.proofs.RightRows.{well-formed-rows, small-buffer, large-count}
 use borrow.Author.Needs.{needs}

@@ -1,6 +1,5 @@
 -- The card's refusal is handed through; the action is applied to an accepted card's task.
 use borrow.Author.Needs.{needs}
-use Prim.Native.Nat.{ℕ}
 use Rattle.card.proofs.Deciding.{represented}
 use Rattle.strips.proofs.Calling.{applying-refused, applying}
 use Rattle.strips.proofs.apply.Statement.{statement}

@@ -1,16 +1,13 @@
 -- The state's numbers are loaded, the preconditions looked for, the next state's numbers made and counted; only then is it stored.
 use borrow.Author.Needs.{needs}
-use Prim.Native.Nat.{ℕ, _+_, _*_, _≤_, _<_}
-use mathlib.Core.Path.{_≡_, refl, sym, ap, _∙_, subst}
-use mathlib.Core.Bool.{true, false}
-use mathlib.Core.List.{List, _++_, map}
+use Prim.Native.Nat.{ℕ, _<_}
+use mathlib.Core.Path.{_≡_, sym, ap, _∙_, subst}
+use mathlib.Core.Bool.{true}
 use native.Mathlib.Omega.{arith}
-use lib.ListN.{length, take, drop, replicate}
 use borrow.Author.Tests.{not-true, not-false}
 use Rattle.model.specs.Strips.{factsIn, applicable}
 use Rattle.card.specs.Represents.{schemaOf}
 use Rattle.sets.specs.Numbers.{rising}
-use Rattle.state.specs.Rows.{numbersIn}
 use Rattle.strips.proofs.Applying.{state-formed, preconditions-bound, held, next-ready, test-says, next-count, next-stored, next-length}
 use Rattle.strips.proofs.Applying.{refused-missing, refused-full, accepted-next}
 use Rattle.sets.proofs.Changing.{part-front}

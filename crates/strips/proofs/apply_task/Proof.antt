@@ -1,7 +1,5 @@
 -- 15 and 16, then the rest with the schema.
 use borrow.Author.Needs.{needs}
-use Prim.Native.Nat.{ℕ}
-use mathlib.Core.Path.{_≡_, refl, sym, ap, _∙_}
 use native.Mathlib.Omega.{arith}
 use borrow.Author.Tests.{not-true, not-false}
 use Rattle.strips.proofs.Tasks.{predicates-within, schema-below}

@@ -1,6 +1,5 @@
 -- The card's refusal is handed through; an accepted card's task is opened.
 use borrow.Author.Needs.{needs}
-use Prim.Native.Nat.{ℕ}
 use Rattle.card.proofs.Deciding.{represented}
 use Rattle.strips.proofs.Calling.{opening-refused, opening}
 use Rattle.strips.proofs.initial.Statement.{statement}

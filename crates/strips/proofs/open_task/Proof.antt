@@ -2,7 +2,6 @@
 use borrow.Author.Needs.{needs}
 use Prim.Native.Nat.{ℕ, _≤_}
 use mathlib.Core.Path.{sym, subst}
-use native.Mathlib.Omega.{arith}
 use Rattle.strips.proofs.Tasks.{predicates-within, few-facts}
 use Rattle.strips.proofs.Refusing.{buffer-short}
 use Rattle.strips.proofs.Pressing.{facts-right, facts-few, opened}

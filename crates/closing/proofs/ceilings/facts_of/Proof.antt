@@ -1,15 +1,13 @@
 -- `ceilings::facts_of` meets its contract.
-use Prim.Native.Nat.{ℕ, _-_, _≤_}
+use Prim.Native.Nat.{_-_, _≤_}
 use native.Mathlib.Omega.{arith}
-use mathlib.Core.Path.{_≡_, refl, sym, ap, _∙_}
+use mathlib.Core.Path.{_≡_, sym, _∙_}
 use mathlib.Core.Logic.{⊎-elim}
 use lib.Dec.{eqb}
-use Rattle.card.specs.declared.Atom.{Atom}
 use Rattle.card.specs.Represents.{atomOf, factsOf, blankAtom}
 use Rattle.model.specs.Lines.{ofPredicate}
 use lib.ListN.{length, length-map}
 use borrow.Author.Tests.{eq-eqb, ne-eqb}
-use borrow.Author.Needs.{needs}
 use Rattle.closing.proofs.Tallying.{Tally, tally-start, tally-passes, tally-fails, tally-end, count-map}
 use Rattle.closing.proofs.ceilings.facts_of.Statement.{statement}
 use Rattle.closing.proofs.ceilings.facts_of.Tie as tie

@@ -1,11 +1,11 @@
 -- `totals::write_totals` meets its contract.
 use Prim.Native.Nat.{ℕ, _-_, _+_, _≤_, _<_}
 use mathlib.Core.Path.{_≡_, refl, sym, ap, _∙_}
-use mathlib.Core.List.{List, flatMap}
+use mathlib.Core.List.{flatMap}
 use native.Mathlib.Omega.{arith}
 use lib.ListN.{length, getD, take}
 use Rattle.laws.specs.Lists.{sum, upTo}
-use Rattle.model.specs.Lines.{Line, analysis, totals}
+use Rattle.model.specs.Lines.{analysis, totals}
 use Rattle.model.specs.Text.{text}
 use Rattle.card.specs.Represents.{aritiesOf, taskOf}
 use Rattle.properties.proofs.TaskParts.{arities-right}

@@ -1,7 +1,6 @@
 -- `typing::typed` meets its contract.
-use Prim.Native.Nat.{ℕ, _≤_}
 use native.Mathlib.Omega.{arith}
-use mathlib.Core.Path.{_≡_, refl, sym, ap, _∙_}
+use mathlib.Core.Path.{_≡_, ap, _∙_}
 use lib.ListN.{length}
 use lib.Seq.{take-all}
 use Rattle.properties.specs.Tables.{bagAt}

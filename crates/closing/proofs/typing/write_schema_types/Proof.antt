@@ -2,10 +2,8 @@
 use Prim.Native.Nat.{ℕ, _-_, _≤_}
 use mathlib.Core.Path.{ap}
 use native.Mathlib.Omega.{arith}
-use Rattle.model.specs.Lines.{Line, types}
+use Rattle.model.specs.Lines.{types}
 use Rattle.model.specs.Text.{text}
-use Rattle.card.specs.declared.ArityList.{ArityList}
-use Rattle.card.specs.declared.Schema.{Schema}
 use Rattle.card.specs.Represents.{aritiesOf, schemaOf, atomsOf}
 use Rattle.text.specs.Members.{membersOf}
 use Rattle.text.proofs.Writing.{Remains, remains-as, start, next-fits, next, finish}

@@ -1,15 +1,14 @@
 -- `typing::write_type_lines` meets its contract.
 use Prim.Native.Nat.{ℕ, _-_, _≤_}
-use mathlib.Core.Path.{_≡_, sym, subst}
+use mathlib.Core.Path.{sym, subst}
 use mathlib.Core.List.{List}
 use native.Mathlib.Omega.{arith}
-use lib.ListN.{length}
 use Rattle.model.specs.Lines.{typeLines}
 use Rattle.model.specs.Spaces.{spaces}
 use Rattle.model.specs.Text.{text}
 use Rattle.card.specs.Represents.{taskOf}
 use Rattle.properties.proofs.TaskParts.{arities-right, schemas-few, schema-right}
-use Rattle.text.proofs.Writing.{Remains, remains-as, start, next-fits, next, finish}
+use Rattle.text.proofs.Writing.{Remains, start, next-fits, next, finish}
 use Rattle.closing.specs.Typing.{MembersGiven}
 use Rattle.closing.proofs.Defaults.{no-schema}
 use Rattle.closing.proofs.Parts.{objects-few, properties-few}

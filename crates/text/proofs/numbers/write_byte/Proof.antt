@@ -3,8 +3,6 @@ use Rattle.text.proofs.Writing.{one-byte}
 use borrow.Author.Needs.{needs}
 use Rattle.text.proofs.numbers.write_byte.Statement.{statement}
 use Rattle.text.proofs.numbers.write_byte.Tie as tie
-use Rattle.text.proofs.numbers.write_byte.Reads as reads
-use Rattle.text.proofs.numbers.write_byte.Lts as lts
 
 -- src/numbers.rt:14:5
 slice-write-out : tie.Need-slice-write-out

@@ -3,10 +3,6 @@ use Rattle.text.proofs.Writing.{and-then}
 use borrow.Author.Needs.{needs}
 use Rattle.text.proofs.numbers.write_item.Statement.{statement}
 use Rattle.text.proofs.numbers.write_item.Tie as tie
-use Rattle.text.proofs.numbers.write_item.Reads as reads
-use Rattle.text.proofs.numbers.write_item.Lts as lts
-use Rattle.text.proofs.numbers.write_byte.Reads as write-byte-reads
-use Rattle.text.proofs.numbers.write_decimal.Reads as write-decimal-reads
 
 -- src/numbers.rt:37:9
 write-byte-requires : tie.Need-write-byte-requires

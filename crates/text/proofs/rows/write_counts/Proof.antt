@@ -8,9 +8,6 @@ use Rattle.text.proofs.Writing.{Remains, start, finish, next-fits, next
 use Rattle.text.proofs.NumberRows.{number-at, no-number}
 use Rattle.text.proofs.rows.write_counts.Statement.{statement}
 use Rattle.text.proofs.rows.write_counts.Tie as tie
-use Rattle.text.proofs.rows.write_counts.Reads as reads
-use Rattle.text.proofs.rows.write_counts.Lts as lts
-use Rattle.text.proofs.numbers.write_item.Reads as write-item-reads
 
 abbrev Inv-loop : tie.InvT-loop
 Inv-loop out₀ counts at₀ i₀ out at i =
