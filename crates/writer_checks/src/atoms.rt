@@ -19,7 +19,7 @@ pub fn arity(arities: &[u8], predicate: u8) -> usize
 }
 
 // The predicate is known, of an arity up to 3, and each argument is below `bound`.
-pub fn is_known(arities: &[u8], bound: usize, a: Atom) -> bool
+pub(crate) fn is_known(arities: &[u8], bound: usize, a: Atom) -> bool
     ensures { λ r. ⌜ r ≡ known (now (arities .entry)) bound (atomOf (now (arities .entry)) a) ⌝ }
 {
     if (a.predicate as usize) >= arities.len() {
@@ -48,7 +48,7 @@ pub fn is_known(arities: &[u8], bound: usize, a: Atom) -> bool
 }
 
 // The two atoms are the same.
-pub fn is_same(arities: &[u8], a: Atom, b: Atom) -> bool
+pub(crate) fn is_same(arities: &[u8], a: Atom, b: Atom) -> bool
     ensures { λ r. ⌜ r ≡ model.sameAtom (atomOf (now (arities .entry)) a) (atomOf (now (arities .entry)) b) ⌝ }
 {
     if a.predicate != b.predicate {
@@ -74,7 +74,7 @@ pub fn is_same(arities: &[u8], a: Atom, b: Atom) -> bool
 }
 
 // The first atom stands below the second.
-pub fn is_below(arities: &[u8], a: Atom, b: Atom) -> bool
+pub(crate) fn is_below(arities: &[u8], a: Atom, b: Atom) -> bool
     ensures { λ r. ⌜ r ≡ model.below (atomOf (now (arities .entry)) a) (atomOf (now (arities .entry)) b) ⌝ }
 {
     if a.predicate != b.predicate {
