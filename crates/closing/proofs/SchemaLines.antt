@@ -11,16 +11,17 @@ use Rattle.model.specs.Card.{Task, Schema}
 use Rattle.model.specs.Spaces.{spaces}
 use Rattle.model.specs.Lines.{Line, typesOf, typeLines}
 use Rattle.model.specs.Text.{text}
+use Rattle.model.proofs.RuleCount.{properties-few}
 use Rattle.card.specs.declared.Task as code
 use Rattle.card.specs.declared.Schema as code-schema
 use Rattle.card.specs.Represents.{aritiesOf, schemaOf, taskOf, Represented}
-use Rattle.properties.proofs.TaskParts.{schema-count, schema-at}
+use Rattle.card.proofs.Counts.{objects-few, schema-count}
+use Rattle.properties.proofs.TaskParts.{schema-at}
 use Rattle.spaces.specs.declared.Spaces as code-spaces
 use Rattle.spaces.specs.SpaceTable.{SpacesOf}
 use Rattle.text.proofs.Writing.{Begins}
 use Rattle.closing.specs.Typing.{labelMasks, typedLines}
 use Rattle.closing.proofs.LineLoops.{text-parts}
-use Rattle.closing.proofs.Parts.{objects-few, properties-few}
 use Rattle.closing.proofs.TypedObjects.{typed-lines}
 
 -- the lines of the schemas from number i on
@@ -53,7 +54,7 @@ module _ (task : code.Task) (r : Represented task (taskOf task)) (sp : code-spac
         ∙ ap (λ (s : Schema). text (map (typesOf (taskOf task) (spaces (taskOf task)) i s) (upTo (s .parameters))) ++ schemasLeft (taskOf task) (i + 1))
         (schema-at task r i d h)
         ∙ ap (λ (l : List Line). text l ++ schemasLeft (taskOf task) (i + 1))
-        (sym (typed-lines (taskOf task) sp of (properties-few task r) (objects-few task r) i
+        (sym (typed-lines (taskOf task) sp of (properties-few (taskOf task) (r .checked)) (objects-few task r) i
         (schemaOf (aritiesOf (task .predicates)) (getD (task .schemas .schemas) i d))))
         ∙ ap
         (λ (ms : List ℕ).

@@ -21,7 +21,7 @@ use Rattle.model.specs.Answer.{accepted}
 use Rattle.model.specs.Card.{Atom, Schema, Task, between}
 use Rattle.model.specs.Writer.{checkTask}
 use Rattle.model.specs.Transitions.{Property, propertiesFrom, properties, occurs, bagOf, Transition, exchanges, remaining, rulesOf}
-use Rattle.model.specs.Transitions.{parameterRules, transitions}
+use Rattle.model.specs.Transitions.{parameterRules, transitions, schemaBound}
 use Rattle.model.proofs.Checked.{Checked, CheckedSchema, checked, between-high}
 
 -- the properties of one predicate
@@ -172,10 +172,6 @@ module _ (arities : List ℕ) (right : all (between 1 3) arities ≡ true) where
       )
 
 -- ---- all rules
-
--- what bounds the number of a schema's rules: each argument of an added atom and each parameter gives at most one
-abbrev pub schemaBound : Schema → ℕ
-schemaBound s = 3 * length (s .adds) + s .parameters
 
 schema-few : (t : Task) → Checked t → (s : Schema) → CheckedSchema (t .arities) s
     → length (flatMap (parameterRules t s) (upTo (s .parameters))) ≤ schemaBound s

@@ -1,11 +1,11 @@
 -- What a represented task says of its parts: its arities, its schemas and its facts are those of the accepted task.
-use Prim.Native.Nat.{ℕ, _-_, _≤_, _<_}
+use Prim.Native.Nat.{ℕ, _<_}
 use native.Mathlib.Omega.{arith}
 use mathlib.Core.Path.{_≡_, ap, _∙_, subst}
 use mathlib.Core.Bool.{Bool, true, _&&_}
 use mathlib.Core.List.{List, [], map}
 use lib.Dec.{ltb, eqb}
-use lib.ListN.{length, getD, take, replicate, length-append, length-map, List·getD-append, List·getD-map}
+use lib.ListN.{length, getD, take, length-map, List·getD-map}
 use lib.Seq.{getD-take}
 use borrow.Author.Tests.{ltb-true}
 use Rattle.laws.specs.Lists.{all}
@@ -14,24 +14,17 @@ use Rattle.laws.proofs.Lists.{all-at, all-intro, mem-getD}
 use Rattle.laws.proofs.Mapped.{getD-map}
 use Rattle.model.specs.Card as model
 use Rattle.model.specs.Writer.{known}
-use Rattle.model.proofs.Checked.{Checked, CheckedSchema, CheckedList, checked}
+use Rattle.model.proofs.Checked.{CheckedSchema, CheckedList}
 use Rattle.card.specs.declared.Atom.{Atom}
 use Rattle.card.specs.declared.Schema.{Schema}
 use Rattle.card.specs.declared.AtomList.{AtomList}
 use Rattle.card.specs.declared.Task.{Task}
-use Rattle.card.specs.Represents.{taskFor, factsFor, atomFor, atomOf, blankAtom, aritiesFor, schemasFor, schemaFor, atomsFor, padded, blankSchema, Represented}
+use Rattle.card.specs.Represents.{taskFor, atomOf, schemasFor, schemaFor, atomsFor, padded, blankSchema, Represented}
 use Rattle.card.specs.Represents.{taskOf, schemasOf, aritiesOf, schemaOf, atomsOf, factsOf}
+use Rattle.card.proofs.Padded.{padded-at}
+use Rattle.card.proofs.Counts.{right, predicates-few, schema-count, fact-count, facts-inside}
 use Rattle.properties.specs.Represented.{AritiesRight, AtomsRight, SchemaRight, firstProperties}
 use Rattle.properties.proofs.Predicates.{Placed, placed, atom-at}
-
--- a padded list: its front, and that it is no shorter
-getD-padded : {A : Type 0} (size : ℕ) (blank d : A) (xs : List A) (i : ℕ) → i < length xs → getD (padded size blank xs) i d ≡ getD xs i d
-unfolding padded
-getD-padded size blank d xs i h = List·getD-append xs (replicate (size - length xs) blank) d i h
-
-length-padded : {A : Type 0} (size : ℕ) (blank : A) (xs : List A) → length xs ≤ length (padded size blank xs)
-unfolding padded
-length-padded size blank xs = omega (arith, length-append xs (replicate (size - length xs) blank))
 
 -- a known atom's predicate is known
 predicate-known : (arities : List ℕ) (bound : ℕ) (atoms : List model.Atom) → all (known arities bound) atoms ≡ true
@@ -62,36 +55,12 @@ noSchema = record {
 }
 
 module _ (task : Task) (r : Represented task (taskOf task)) where
-  right : Checked (taskOf task)
-  right = checked (taskOf task) (r .checked)
-
   -- the arities
   pub arities-right : AritiesRight (task .predicates)
-  unfolding taskOf taskFor aritiesFor
-  arities-right = record {
-    few = let h = right .few-predicates in omega (arith, ap (λ (x : Task). x .predicates .count) (r .stands));
-    in-range = right .arities-right;
-  }
+  unfolding taskOf
+  arities-right = record { few = predicates-few task r; in-range = right task r .arities-right }
 
   -- the schemas
-  pub schema-count : task .schemas .count ≡ length (taskOf task .schemas)
-  unfolding taskFor schemasFor
-  schema-count = ap (λ (x : Task). x .schemas .count) (r .stands)
-
-  pub schemas-few : task .schemas .count ≤ 32
-  schemas-few = let h = right .few-schemas in omega (arith, schema-count)
-
-  pub schemas-inside : task .schemas .count ≤ length (task .schemas .schemas)
-  unfolding taskFor schemasFor
-  schemas-inside =
-      omega (
-        arith,
-        schema-count,
-        ap (λ (x : Task). length (x .schemas .schemas)) (r .stands),
-        length-padded 32 blankSchema (map schemaFor (taskOf task .schemas)),
-        length-map (taskOf task .schemas) schemaFor,
-      )
-
   module _ (i : ℕ) (d : Schema) (h : i < task .schemas .count) where
     -- the code's schema is the model's, and the other way round
     pub schema-at : getD (taskOf task .schemas) i (schemaOf (aritiesOf (task .predicates)) d)
@@ -107,8 +76,8 @@ module _ (task : Task) (r : Represented task (taskOf task)) where
         let arities = aritiesOf (task .predicates) in
         let all = taskOf task .schemas in
         ap (λ (x : Task). getD (x .schemas .schemas) i d) (r .stands)
-        ∙ getD-padded 32 blankSchema d (map schemaFor all) i (omega (arith, h, schema-count, length-map all schemaFor))
-        ∙ getD-map schemaFor all i (schemaOf arities d) d (omega (arith, h, schema-count))
+        ∙ padded-at 32 blankSchema (map schemaFor all) i d (omega (arith, h, schema-count task r, length-map all schemaFor))
+        ∙ getD-map schemaFor all i (schemaOf arities d) d (omega (arith, h, schema-count task r))
         ∙ ap schemaFor schema-at
 
     passed : CheckedSchema (aritiesOf (task .predicates)) (schemaOf (aritiesOf (task .predicates)) (getD (task .schemas .schemas) i d))
@@ -116,8 +85,8 @@ module _ (task : Task) (r : Represented task (taskOf task)) where
     passed =
         let arities = aritiesOf (task .predicates) in
         subst (CheckedSchema arities) schema-at
-        (right .schemas-right (getD (taskOf task .schemas) i (schemaOf arities d))
-        (mem-getD (taskOf task .schemas) i (schemaOf arities d) (omega (arith, h, schema-count))))
+        (right task r .schemas-right (getD (taskOf task .schemas) i (schemaOf arities d))
+        (mem-getD (taskOf task .schemas) i (schemaOf arities d) (omega (arith, h, schema-count task r))))
 
     -- the added atoms are counted
     pub adds-counted : getD (task .schemas .schemas) i d .adds .count
@@ -140,28 +109,6 @@ module _ (task : Task) (r : Represented task (taskOf task)) where
 
 -- the facts
 module _ (task : Task) (r : Represented task (taskOf task)) where
-  pub fact-count : task .facts .count ≡ length (taskOf task .facts)
-  unfolding taskFor factsFor
-  fact-count = ap (λ (x : Task). x .facts .count) (r .stands)
-
-  pub facts-few : task .facts .count ≤ 512
-  facts-few = let h = right task r .few-facts in omega (arith, fact-count)
-
-  pub facts-inside : task .facts .count ≤ length (task .facts .facts)
-  unfolding taskFor factsFor
-  facts-inside =
-      omega (
-        arith,
-        fact-count,
-        ap (λ (x : Task). length (x .facts .facts)) (r .stands),
-        length-padded 512 blankAtom (map atomFor (taskOf task .facts)),
-        length-map (taskOf task .facts) atomFor,
-      )
-
-  pub objects-few : task .objects ≤ 64
-  unfolding taskOf
-  objects-few = right task r .few-objects
-
   -- each is a known atom
   pub fact-known : (i : ℕ) (d : Atom) → i < task .facts .count
       → known (aritiesOf (task .predicates)) (task .objects) (atomOf (aritiesOf (task .predicates)) (getD (task .facts .facts) i d)) ≡ true
@@ -169,9 +116,9 @@ module _ (task : Task) (r : Represented task (taskOf task)) where
   fact-known i d h =
       let arities = aritiesOf (task .predicates) in
       subst (λ (a : model.Atom). known arities (task .objects) a ≡ true)
-      (atom-at arities (task .facts .facts) (task .facts .count) facts-inside i d h)
+      (atom-at arities (task .facts .facts) (task .facts .count) (facts-inside task r) i d h)
       (all-at (known arities (task .objects)) (taskOf task .facts) (right task r .facts-right .facts-known)
-      (getD (taskOf task .facts) i (atomOf arities d)) (mem-getD (taskOf task .facts) i (atomOf arities d) (omega (arith, h, fact-count))))
+      (getD (taskOf task .facts) i (atomOf arities d)) (mem-getD (taskOf task .facts) i (atomOf arities d) (omega (arith, h, fact-count task r))))
 
   -- of a predicate whose properties have their places
   pub fact-placed : (firsts : List ℕ) → firsts ≡ padded 20 0 (firstProperties (aritiesOf (task .predicates))) → length (task .predicates .arities) ≡ 20

@@ -12,24 +12,25 @@ use Rattle.laws.proofs.Fronts.{sum-take-next}
 use Rattle.model.specs.Answer.{accepted}
 use Rattle.model.specs.Card as model
 use Rattle.model.specs.Writer.{checkTask}
-use Rattle.model.specs.Transitions.{transitions}
+use Rattle.model.specs.Transitions.{transitions, schemaBound}
 use Rattle.model.proofs.RuleCount.{rules-bounded, bounds-few}
 use Rattle.card.specs.declared.Schema.{Schema}
 use Rattle.card.specs.declared.Task.{Task}
 use Rattle.card.specs.Represents.{taskOf, aritiesOf, schemaOf, Represented}
+use Rattle.card.proofs.Counts.{schema-count, schemas-inside}
 use Rattle.properties.specs.Represented.{SchemaRight}
-use Rattle.properties.proofs.TaskParts.{noSchema, schema-count, schemas-inside, schema-at, adds-counted}
-use Rattle.rules.specs.Tables.{schemaRoom, rulesAtMost, mostRules}
+use Rattle.properties.proofs.TaskParts.{noSchema, schema-at, adds-counted}
+use Rattle.rules.specs.Tables.{rulesAtMost, mostRules}
 
 module _ (t : model.Task) (ok : checkTask t ≡ accepted tt) where
   -- a task has no more rules
   pub rules-at-most : length (transitions t) ≤ rulesAtMost t
-  unfolding rulesAtMost schemaRoom
+  unfolding rulesAtMost
   rules-at-most = rules-bounded t ok
 
   -- and 960 are the most that a task can have
   pub at-most-few : rulesAtMost t ≤ mostRules
-  unfolding rulesAtMost schemaRoom
+  unfolding rulesAtMost
   at-most-few = bounds-few t ok
 
 -- what a schema of the code adds
@@ -70,22 +71,22 @@ module _ (task : Task) (r : Represented task (taskOf task)) where
   n = task .schemas .count
 
   -- a schema of the code adds what the schema that it stands for does
-  same-part : (i : ℕ) → i < n → part (getD schemas i noSchema) ≡ schemaRoom (schemaOf (aritiesOf (task .predicates)) (getD schemas i noSchema))
-  unfolding schemaRoom schemaOf
+  same-part : (i : ℕ) → i < n → part (getD schemas i noSchema) ≡ schemaBound (schemaOf (aritiesOf (task .predicates)) (getD schemas i noSchema))
+  unfolding schemaOf
   same-part i k = omega (arith, adds-counted task r i noSchema k)
 
-  parts-are : take n (map part schemas) ≡ map schemaRoom (taskOf task .schemas)
+  parts-are : take n (map part schemas) ≡ map schemaBound (taskOf task .schemas)
   parts-are =
       let sized = length-take-le n (map part schemas) (omega (arith, schemas-inside task r, length-map schemas part)) in
-      ext-getD 0 (take n (map part schemas)) (map schemaRoom (taskOf task .schemas))
-      (sized ∙ schema-count task r ∙ sym (length-map (taskOf task .schemas) schemaRoom))
+      ext-getD 0 (take n (map part schemas)) (map schemaBound (taskOf task .schemas))
+      (sized ∙ schema-count task r ∙ sym (length-map (taskOf task .schemas) schemaBound))
       (λ i h.
       let k : i < n = omega (arith, h, sized) in
       getD-take n (map part schemas) i 0 k
       ∙ getD-map part schemas i noSchema 0 (omega (arith, k, schemas-inside task r))
       ∙ same-part i k
-      ∙ ap schemaRoom (sym (schema-at task r i noSchema k))
-      ∙ sym (getD-map schemaRoom (taskOf task .schemas) i (schemaOf (aritiesOf (task .predicates)) noSchema) 0 (omega (arith, k, schema-count task r))))
+      ∙ ap schemaBound (sym (schema-at task r i noSchema k))
+      ∙ sym (getD-map schemaBound (taskOf task .schemas) i (schemaOf (aritiesOf (task .predicates)) noSchema) 0 (omega (arith, k, schema-count task r))))
 
   pub sum-end : (i most : ℕ) → n ≤ i → Summed schemas n i most → most ≡ rulesAtMost (taskOf task)
   unfolding rulesAtMost

@@ -1,23 +1,20 @@
 -- How the code keeps rules: in three tables of rows, for the enablers, the starts and the finishes, one row a rule.
-use Prim.Native.Nat.{ℕ, _+_, _*_}
+use Prim.Native.Nat.{ℕ}
 use mathlib.Core.Path.{_≡_}
 use mathlib.Core.List.{List, map}
 use lib.ListN.{length}
 use Rattle.laws.specs.Lists.{sum}
-use Rattle.model.specs.Card.{Schema, Task}
-use Rattle.model.specs.Transitions.{Transition}
+use Rattle.model.specs.Card.{Task}
+use Rattle.model.specs.Transitions.{Transition, schemaBound}
 use Rattle.properties.specs.Tables.{rowsBefore}
 
 -- the most rules of a task: 32 schemas of at most 24 added arguments and 6 parameters
 abbrev pub mostRules : ℕ
 mostRules = 960
 
--- how many rules a schema and a task have at most: one for each argument of an added atom, three an atom, and one for each parameter
-unfoldable pub schemaRoom : Schema → ℕ
-schemaRoom s = 3 * length (s .adds) + s .parameters
-
+-- how many rules a task has at most: as many as its schemas together
 unfoldable pub rulesAtMost : Task → ℕ
-rulesAtMost t = sum (map schemaRoom (t .schemas))
+rulesAtMost t = sum (map schemaBound (t .schemas))
 
 -- the rules in three tables, and their number
 pub record RuleTable (rules : List Transition) (count : ℕ) (enablers starts finishes : List ℕ) (e s f : List ℕ) : Type 0 where

@@ -5,7 +5,7 @@ use native.Mathlib.Omega.{arith}
 use mathlib.Core.Path.{_≡_, sym, ap, _∙_, subst}
 use mathlib.Core.Bool.{Bool, true, false}
 use mathlib.Core.List.{List, [], _∷_, _++_, map, map-append, append-assoc, List·Memᴰ}
-use lib.ListN.{length, take, length-map, set, getD, replicate, length-append, length-replicate, List·getD-append}
+use lib.ListN.{length, take, length-map, set, getD, replicate, length-append}
 use lib.Seq.{set-append-seam, getD-append-add, take-suc, length-take-le}
 use lib.Dec.{ltb}
 use borrow.Author.Tests.{ltb-true, ltb-false}
@@ -14,6 +14,7 @@ use Rattle.laws.proofs.Tests.{by-test}
 use Rattle.laws.proofs.Lists.{mem-getD}
 use Rattle.laws.proofs.Walks.{keep-one-more, keep-no-more, keep-few}
 use Rattle.card.specs.Represents.{padded}
+pub use Rattle.card.proofs.Padded.{length-padded, padded-at}
 use Rattle.properties.proofs.Rows.{getD-zeros}
 
 module _ {A : Type 0} (n : ℕ) (blank : A) where
@@ -31,18 +32,6 @@ module _ {A : Type 0} (n : ℕ) (blank : A) where
 
       one-more : {a b : ℕ} → a ≡ b + 1 → a ≡ suc b
       one-more h = omega arith
-
-  pub length-padded : (xs : List A) → length xs ≤ n → length (padded n blank xs) ≡ n
-  unfolding padded
-  length-padded xs h = length-append xs (replicate (n - length xs) blank) ∙ filled (length-replicate (n - length xs) blank) h
-    where
-      filled : {a b c : ℕ} → a ≡ b - c → c ≤ b → c + a ≡ b
-      filled e h = omega arith
-
-  -- the elements are where they were
-  pub padded-at : (xs : List A) (i : ℕ) (d : A) → i < length xs → getD (padded n blank xs) i d ≡ getD xs i d
-  unfolding padded
-  padded-at xs i d h = List·getD-append xs (replicate (n - length xs) blank) d i h
 
 -- An array that holds the numbers so far that pass a test, and how many there are.
 module _ (test : ℕ → Bool) (n : ℕ) (array : List ℕ) (count i : ℕ) (room : i < n)

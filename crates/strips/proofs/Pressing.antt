@@ -13,14 +13,15 @@ use Rattle.model.specs.Calls.{Call}
 use Rattle.card.specs.Represents.{schemaOf, factsOf, taskOf, blankSchema, Represented}
 use Rattle.card.specs.declared.Schema.{Schema}
 use Rattle.card.specs.declared.Task.{Task}
+use Rattle.card.proofs.Counts.{schema-count, fact-count, facts-few}
 use Rattle.state.specs.Rows.{factNumber, signature, inRange, stored, Shape}
 use Rattle.state.proofs.FactNumbers.{stored-written}
 use Rattle.actions.specs.Grounds.{FactsRight}
 use Rattle.strips.specs.Stages.{Does, leaving, bound, pressTask, initialTask, SchemaKept, StateKept}
 use Rattle.strips.specs.declared.Applied.{Applied}
 use Rattle.strips.specs.declared.Applied.the-variants.{Count, StateMalformed, SchemaUnknown}
-use Rattle.strips.proofs.Tasks.{modelTask, arities, task-shape, arities-part, formed-shaped, schema-count, few-schemas, chosen-is, chosen-kept}
-use Rattle.strips.proofs.Tasks.{getD-default, fact-count, few-facts, facts-kept, facts-known}
+use Rattle.strips.proofs.Tasks.{modelTask, arities, task-shape, arities-part, formed-shaped, few-schemas, chosen-is, chosen-kept}
+use Rattle.strips.proofs.Tasks.{getD-default, facts-kept, facts-known}
 use Rattle.strips.proofs.Refusing.{state-malformed, schema-unknown, schema-named, task-opened}
 
 module _ (task : Task) (kept : Represented task (taskOf task)) where
@@ -100,11 +101,11 @@ module _ (task : Task) (kept : Represented task (taskOf task)) where
         ∙ take-at (map factNumber (modelTask task kept .facts)) _ (task .facts .count)
         (length-map (modelTask task kept .facts) factNumber ∙ sym (fact-count task kept))
 
-    pub facts-few : length (take (task .facts .count - 0) numbers) ≤ 1024
-    facts-few =
+    pub numbers-few : length (take (task .facts .count - 0) numbers) ≤ 1024
+    numbers-few =
         let size = ap length numbers-of-facts ∙ length-map (modelTask task kept .facts) factNumber in
         let count = fact-count task kept in
-        let few = few-facts task kept in
+        let few = facts-few task kept in
         omega arith
 
     pub opened :

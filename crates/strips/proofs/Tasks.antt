@@ -7,7 +7,7 @@ use mathlib.Core.Bool.{Bool, true, _&&_}
 use mathlib.Core.Option.{none}
 use mathlib.Core.List.{List, [], _∷_, map}
 use lib.Dec.{leb}
-use lib.ListN.{length, getD, take, drop, replicate, length-map, length-append, length-replicate, List·getD-append, List·getD-map}
+use lib.ListN.{length, getD, take, drop, length-map, List·getD-map}
 use lib.Seq.{getD-take}
 use Rattle.laws.specs.Lists.{all}
 use Rattle.laws.proofs.Lists.{all-at, all-intro, mem-getD}
@@ -17,11 +17,13 @@ use Rattle.model.specs.Writer.{known, checkSchema, checkTask}
 use Rattle.model.specs.Strips.{factsIn, rowRight, rowsRight, ascending, wellFormed, schemaAt}
 use Rattle.model.proofs.Order.{known-predicate}
 use Rattle.model.proofs.Answers.{first-passed, need-then}
-use Rattle.model.proofs.Checked.{Checked, checked, CheckedSchema, schemaAt-right, each-passed}
+use Rattle.model.proofs.Checked.{CheckedSchema, schemaAt-right, each-passed}
 use Rattle.card.specs.Represents.{schemaOf, aritiesOf, schemasOf, taskOf, Represented}
-use Rattle.card.specs.Represents.{padded, atomFor, blankAtom, atomsFor, schemaFor, blankSchema, aritiesFor, schemasFor, factsFor, taskFor}
+use Rattle.card.specs.Represents.{atomFor, blankAtom, atomsFor, schemaFor, blankSchema, schemasFor, taskFor}
 use Rattle.card.specs.declared.Schema.{Schema}
 use Rattle.card.specs.declared.Task.{Task}
+use Rattle.card.proofs.Padded.{length-padded, padded-at}
+use Rattle.card.proofs.Counts.{right, schema-count, schemas-few, schemas-inside, facts-few, facts-size}
 use Rattle.state.specs.Rows.{signature, inRange, Shape}
 use Rattle.actions.specs.Grounds.{FactsRight}
 use Rattle.strips.specs.Stages.{ListKept, SchemaKept}
@@ -36,12 +38,6 @@ pub formed-shaped : (t : model.Task) (buffer : List ℕ) (count : ℕ) → wellF
 unfolding wellFormed signature
 formed-shaped t buffer count =
     ap (λ (b : Bool). leb 4096 (length buffer) && leb count 1024 && b && ascending none (factsIn (t .arities) count buffer)) (rows-shaped t count buffer)
-
--- a list filled up to a length that it does not exceed
-length-padded : {A : Type 0} (size : ℕ) (blank : A) (xs : List A) → length xs ≤ size → length (padded size blank xs) ≡ size
-unfolding padded
-length-padded size blank xs h =
-    length-append xs (replicate (size - length xs) blank) ∙ (let z = length-replicate (size - length xs) blank in omega arith)
 
 -- the default does not matter in range
 pub getD-default : {A : Type 0} (xs : List A) (i : ℕ) (d e : A) → i < length xs → getD xs i d ≡ getD xs i e
@@ -63,43 +59,20 @@ module _ (task : Task) (kept : Represented task (taskOf task)) where
   abbrev pub arities : List ℕ
   arities = aritiesOf (task .predicates)
 
-  right : Checked modelTask
-  right = checked modelTask (kept .checked)
-
   pub task-shape : Shape arities (task .objects)
   unfolding taskOf inRange
-  task-shape = record { right = right .arities-right; few-predicates = right .few-predicates; few-objects = right .few-objects }
-
-  -- the counts are those of the lists
-  pub predicates-within : task .predicates .count ≤ length (task .predicates .arities)
-  unfolding taskOf taskFor aritiesFor
-  predicates-within =
-      let count : task .predicates .count ≡ length arities = ap (λ (t : Task). t .predicates .count) (kept .stands) in
-      let size : length (task .predicates .arities) ≡ 20 =
-      (ap (λ (t : Task). length (t .predicates .arities)) (kept .stands) ∙ length-padded 20 0 arities (right .few-predicates)) in
-      let few = right .few-predicates in
-      omega arith
+  task-shape =
+      let c = right task kept in record { right = c .arities-right; few-predicates = c .few-predicates; few-objects = c .few-objects }
 
   pub arities-part : take (task .predicates .count - 0) (task .predicates .arities) ≡ arities
   unfolding aritiesOf
   arities-part = ap (λ (k : ℕ). take k (task .predicates .arities)) (sub-zero (task .predicates .count))
 
-  pub schema-count : task .schemas .count ≡ length (modelTask .schemas)
-  unfolding taskOf taskFor schemasFor
-  schema-count = ap (λ (t : Task). t .schemas .count) (kept .stands)
-
-  pub schema-size : length (task .schemas .schemas) ≡ 32
-  unfolding taskOf taskFor schemasFor
-  schema-size =
-      ap (λ (t : Task). length (t .schemas .schemas)) (kept .stands)
-      ∙ length-padded 32 blankSchema (map schemaFor (modelTask .schemas))
-      (let n = length-map (modelTask .schemas) schemaFor in let few = right .few-schemas in omega arith)
-
   pub few-schemas : (n : ℕ) → n < task .schemas .count → n < length (task .schemas .schemas)
-  few-schemas n h = let size = schema-size in let count = schema-count in let few = right .few-schemas in omega arith
+  few-schemas n h = omega (arith, h, schemas-inside task kept)
 
   pub schema-below : (n : ℕ) → n < task .schemas .count → n < 32
-  schema-below n h = let count = schema-count in let few = right .few-schemas in omega arith
+  schema-below n h = omega (arith, h, schemas-few task kept)
 
   -- the schema of a number in range, as the code has it
   module _ (n : ℕ) (within : n < task .schemas .count) where
@@ -107,7 +80,7 @@ module _ (task : Task) (kept : Represented task (taskOf task)) where
     chosen = getD (task .schemas .schemas) n blankSchema
 
     inside : n < length (modelTask .schemas)
-    inside = let c = schema-count in omega arith
+    inside = omega (arith, within, schema-count task kept)
 
     pub chosen-is : schemaOf arities chosen ≡ schemaAt modelTask n
     unfolding taskOf schemasOf schemaAt
@@ -117,12 +90,12 @@ module _ (task : Task) (kept : Represented task (taskOf task)) where
         ∙ getD-default (modelTask .schemas) n _ _ inside
 
     chosen-for : chosen ≡ schemaFor (schemaAt modelTask n)
-    unfolding taskFor schemasFor padded schemaAt
+    unfolding taskFor schemasFor schemaAt
     chosen-for =
         let schemas : List model.Schema = modelTask .schemas in
         let within-kept : n < length (map schemaFor schemas) = (let l = length-map schemas schemaFor in let i = inside in omega arith) in
         ap (λ (t : Task). getD (t .schemas .schemas) n blankSchema) (kept .stands)
-        ∙ List·getD-append (map schemaFor schemas) _ blankSchema n within-kept
+        ∙ padded-at 32 blankSchema (map schemaFor schemas) n blankSchema within-kept
         ∙ getD-default (map schemaFor schemas) n blankSchema (schemaFor _) within-kept
         ∙ List·getD-map schemaFor schemas n (record { parameters = 0; preconditions = []; deletes = []; adds = [] })
 
@@ -138,7 +111,7 @@ module _ (task : Task) (kept : Represented task (taskOf task)) where
     pub chosen-kept : SchemaKept arities chosen
     unfolding schemaFor taskOf
     chosen-kept =
-        let schema-right : CheckedSchema arities (schemaAt modelTask n) = schemaAt-right modelTask right n inside in
+        let schema-right : CheckedSchema arities (schemaAt modelTask n) = schemaAt-right modelTask (right task kept) n inside in
         record {
           checks = ap (checkSchema arities) chosen-is ∙ passes;
           preconditions = subst ListKept (sym (ap (λ (s : Schema). s .preconditions) chosen-for)) (list-kept _ (schema-right .preconditions-right .few));
@@ -147,28 +120,18 @@ module _ (task : Task) (kept : Represented task (taskOf task)) where
         }
 
   -- the facts, and room for their numbers
-  pub fact-count : task .facts .count ≡ length (modelTask .facts)
-  unfolding taskOf taskFor factsFor
-  fact-count = ap (λ (t : Task). t .facts .count) (kept .stands)
-
-  pub few-facts : task .facts .count ≤ 512
-  few-facts = let n = fact-count in let few = right .few-facts in omega arith
-
   pub facts-kept : (numbers : List ℕ) → task .facts .count ≤ length numbers → FactsRight arities (task .facts) numbers
-  unfolding taskOf taskFor factsFor
+  unfolding taskOf
   facts-kept numbers room = record {
     right = task-shape .right;
-    few = few-facts;
-    size =
-        ap (λ (t : Task). length (t .facts .facts)) (kept .stands)
-        ∙ length-padded 512 blankAtom (map atomFor (modelTask .facts))
-        (let n = length-map (modelTask .facts) atomFor in let few = right .few-facts in omega arith);
+    few = facts-few task kept;
+    size = facts-size task kept;
     predicates-known =
         all-intro _ (modelTask .facts) (λ f m. known-predicate arities (task .objects) f
-        (all-at (known arities (task .objects)) (modelTask .facts) (right .facts-right .facts-known) f m));
+        (all-at (known arities (task .objects)) (modelTask .facts) (right task kept .facts-right .facts-known) f m));
     room = room;
   }
 
   pub facts-known : all (known arities (task .objects)) (modelTask .facts) ≡ true
   unfolding taskOf
-  facts-known = right .facts-right .facts-known
+  facts-known = right task kept .facts-right .facts-known

@@ -6,10 +6,11 @@ use mir.Syntax.{w32}
 use mir.Val.{Fits}
 use Rattle.model.specs.Lines.{analysis, closingLines}
 use Rattle.model.specs.Text.{text}
+use Rattle.model.proofs.RuleCount.{properties-few}
 use Rattle.card.specs.Represents.{taskOf}
+use Rattle.card.proofs.Counts.{right}
 use Rattle.text.specs.Room.{Room}
 use Rattle.text.proofs.Writing.{first-fits, rest-inside, second-fits, both}
-use Rattle.closing.proofs.Parts.{right, properties-few}
 use Rattle.closing.proofs.Sizes.{closing-fits, closing-parts}
 use borrow.Author.Needs.{needs}
 use Rattle.closing.proofs.write_closing.Statement.{statement}
@@ -20,8 +21,8 @@ room : (s : tie.Start) → ((i : ℕ) → Fits w32 (getD (s .args .fixed .now) i
     → Room (text (closingLines (taskOf (s .args .task)) (analysis (taskOf (s .args .task))))) (s .args .out .now)
 room s known =
     let task = s .args .task in
-    closing-fits (taskOf task) (right task (s .pre .0)) (s .args .fixed .now) (s .pre .1 .1 .0) (properties-few task (s .pre .0)) (λ i. omega (arith, known i))
-    (s .args .out .now) (s .pre .1 .1 .1)
+    closing-fits (taskOf task) (right task (s .pre .0)) (s .args .fixed .now) (s .pre .1 .1 .0)
+    (properties-few (taskOf task) (s .pre .0 .checked)) (λ i. omega (arith, known i)) (s .args .out .now) (s .pre .1 .1 .1)
 
 write-front-requires : tie.Need-write-front-requires
 write-front-requires c κs =

@@ -6,7 +6,6 @@ use lib.ListN.{length, getD, take, length-map, length-take}
 use lib.Seq.{take-all}
 use Rattle.model.specs.Card as model
 use Rattle.model.specs.Transitions.{propertiesFrom, bagOf}
-use Rattle.card.specs.declared.Atom.{Atom}
 use Rattle.card.specs.declared.AtomList.{AtomList}
 use Rattle.card.specs.declared.ArityList.{ArityList}
 use Rattle.card.specs.Represents.{aritiesOf, atomsOf, blankAtom}

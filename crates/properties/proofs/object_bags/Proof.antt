@@ -16,7 +16,8 @@ use Rattle.model.specs.Transitions.{properties, propertiesFrom, bagOf}
 use Rattle.properties.specs.Represented.{objectBags}
 use Rattle.properties.proofs.Predicates.{Placed, sum-arities, atom-asked}
 use Rattle.properties.proofs.ParameterBag.{atoms-next}
-use Rattle.properties.proofs.TaskParts.{arities-right, fact-count, facts-few, facts-inside, objects-few, fact-known, fact-placed}
+use Rattle.card.proofs.Counts.{objects-few, fact-count, facts-few, facts-inside}
+use Rattle.properties.proofs.TaskParts.{arities-right, fact-known, fact-placed}
 use Rattle.properties.proofs.ObjectTable.{BagTable, from-here, table-is, rows-behind}
 use Rattle.properties.proofs.ObjectBags.{cleared-table, fact-fits, fact-counted}
 use native.Mathlib.Omega.{arith}

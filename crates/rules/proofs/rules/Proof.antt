@@ -6,7 +6,8 @@ use mathlib.Core.List.{flatMap}
 use lib.ListN.{length}
 use Rattle.card.specs.Represents.{aritiesOf, schemaOf, schemasOf, taskOf}
 use Rattle.properties.proofs.Predicates.{sum-arities}
-use Rattle.properties.proofs.TaskParts.{noSchema, arities-right, schema-count, schemas-few, schema-at, schema-right}
+use Rattle.card.proofs.Counts.{schema-count, schemas-few}
+use Rattle.properties.proofs.TaskParts.{noSchema, arities-right, schema-at, schema-right}
 use Rattle.rules.specs.Tables.{rulesAtMost}
 use Rattle.rules.specs.Appended.{schemaRulesOver}
 use Rattle.rules.proofs.Appending.{room-fewer, as-rules, as-room, whole-table}

@@ -1,7 +1,8 @@
 -- The schemas' parts are added up, schema by schema.
 use Prim.Native.Nat.{_-_}
 use native.Mathlib.Omega.{arith}
-use Rattle.properties.proofs.TaskParts.{noSchema, schemas-few, schemas-inside, schema-right}
+use Rattle.card.proofs.Counts.{schemas-few, schemas-inside}
+use Rattle.properties.proofs.TaskParts.{noSchema, schema-right}
 use Rattle.rules.proofs.RuleRoom.{Summed, sum-start, sum-next, sum-end}
 use Rattle.rules.proofs.rules_at_most.Statement.{statement}
 use Rattle.rules.proofs.rules_at_most.Tie as tie

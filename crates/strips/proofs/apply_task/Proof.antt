@@ -2,7 +2,8 @@
 use borrow.Author.Needs.{needs}
 use native.Mathlib.Omega.{arith}
 use borrow.Author.Tests.{not-true, not-false}
-use Rattle.strips.proofs.Tasks.{predicates-within, schema-below}
+use Rattle.card.proofs.Counts.{predicates-inside}
+use Rattle.strips.proofs.Tasks.{schema-below}
 use Rattle.strips.proofs.Pressing.{part-right, refused-malformed, refused-unknown, state-kept, schema-kept, pressed}
 use Rattle.strips.proofs.apply_task.Statement.{statement}
 use Rattle.strips.proofs.apply_task.Tie as tie
@@ -14,7 +15,7 @@ part-well-formed-start : tie.Need-part-well-formed-start
 part-well-formed-start c = search needs
 
 part-well-formed-end : tie.Need-part-well-formed-end
-part-well-formed-end c = let start = c .before .before .before .before .before .before in predicates-within (start .args .task) (start .pre)
+part-well-formed-end c = let start = c .before .before .before .before .before .before in predicates-inside (start .args .task) (start .pre)
 
 well-formed-requires : tie.Need-well-formed-requires
 well-formed-requires c κs = let start = c .before .before .before .before .before .before .before in part-right (start .args .task) (start .pre)
@@ -57,7 +58,7 @@ part-apply-schema-start c = search needs
 
 part-apply-schema-end : tie.Need-part-apply-schema-end
 part-apply-schema-end c =
-    let start = c .before .before .before .before .before .before .before .before .before .before .before .before .before in predicates-within
+    let start = c .before .before .before .before .before .before .before .before .before .before .before .before .before in predicates-inside
     (start .args .task) (start .pre)
 
 apply-schema-requires : tie.Need-apply-schema-requires

@@ -2,9 +2,9 @@
 use borrow.Author.Needs.{needs}
 use Prim.Native.Nat.{ℕ, _≤_}
 use mathlib.Core.Path.{sym, subst}
-use Rattle.strips.proofs.Tasks.{predicates-within, few-facts}
+use Rattle.card.proofs.Counts.{predicates-inside, facts-few}
 use Rattle.strips.proofs.Refusing.{buffer-short}
-use Rattle.strips.proofs.Pressing.{facts-right, facts-few, opened}
+use Rattle.strips.proofs.Pressing.{facts-right, numbers-few, opened}
 use Rattle.card.specs.Represents.{taskOf}
 use Rattle.strips.proofs.open_task.Statement.{statement}
 use Rattle.strips.proofs.open_task.Tie as tie
@@ -19,7 +19,7 @@ part-fact-numbers-start : tie.Need-part-fact-numbers-start
 part-fact-numbers-start c = search needs
 
 part-fact-numbers-end : tie.Need-part-fact-numbers-end
-part-fact-numbers-end c = let start = c .before .before .before .before .before .before in predicates-within (start .args .task) (start .pre)
+part-fact-numbers-end c = let start = c .before .before .before .before .before .before in predicates-inside (start .args .task) (start .pre)
 
 slice-aggregate-fact-numbers : tie.Need-slice-aggregate-fact-numbers
 slice-aggregate-fact-numbers c = search needs
@@ -27,7 +27,7 @@ slice-aggregate-fact-numbers c = search needs
 fact-numbers-requires : tie.Need-fact-numbers-requires
 fact-numbers-requires c κs =
     let start = c .before .before .before .before .before .before .before .before in facts-right (start .args .task) (start .pre) _
-    (few-facts (start .args .task) (start .pre))
+    (facts-few (start .args .task) (start .pre))
 
 sub-store : tie.Need-sub-store
 sub-store c = search needs
@@ -39,12 +39,12 @@ part-store-end : tie.Need-part-store-end
 part-store-end c =
     let start = c .before .before .before .before .before .before .before .before .before .before .before .before in
     subst (λ (n : ℕ). start .args .task .facts .count ≤ n) (sym (c .before .before .before .fact-numbers .kept .1 .1 .0))
-    (few-facts (start .args .task) (start .pre))
+    (facts-few (start .args .task) (start .pre))
 
 store-requires : tie.Need-store-requires
 store-requires c κs =
     let start = c .before .before .before .before .before .before .before .before .before .before .before .before .before in (
-      facts-few (start .args .task) (start .pre) (start .args .state .now) _ _ (c .before .before .before .before .fact-numbers .ensures),
+      numbers-few (start .args .task) (start .pre) (start .args .state .now) _ _ (c .before .before .before .before .fact-numbers .ensures),
       c .before .before .before .before .before .before .before .before .before .before .before .if1 .left,
     )
 

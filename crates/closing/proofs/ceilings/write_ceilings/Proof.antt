@@ -8,10 +8,11 @@ use Rattle.laws.proofs.Tests.{not-true, not-false}
 use Rattle.model.specs.Lines.{ceilings}
 use Rattle.model.specs.Text.{text}
 use Rattle.card.specs.Represents.{taskOf}
+use Rattle.card.proofs.Counts.{predicate-count, predicates-few, facts-few}
 use Rattle.text.proofs.Writing.{Remains, remains-as, start, next-fits, next, finish}
 use Rattle.closing.proofs.Capping.{capped-line, uncapped}
 use Rattle.closing.proofs.LineLoops.{linesLeft, lines-start, line-next, no-line, lines-end}
-use Rattle.closing.proofs.Parts.{predicate-count, predicates-few, facts-few, schemas-fit}
+use Rattle.closing.proofs.Parts.{schemas-fit}
 use borrow.Author.Needs.{needs}
 use Rattle.closing.proofs.ceilings.write_ceilings.Statement.{statement}
 use Rattle.closing.proofs.ceilings.write_ceilings.Tie as tie

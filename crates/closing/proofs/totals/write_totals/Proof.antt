@@ -7,13 +7,14 @@ use lib.ListN.{length, getD, take}
 use Rattle.laws.specs.Lists.{sum, upTo}
 use Rattle.model.specs.Lines.{analysis, totals}
 use Rattle.model.specs.Text.{text}
+use Rattle.model.proofs.RuleCount.{properties-few}
 use Rattle.card.specs.Represents.{aritiesOf, taskOf}
+use Rattle.card.proofs.Counts.{predicate-count, predicates-few, predicates-inside}
 use Rattle.properties.proofs.TaskParts.{arities-right}
 use Rattle.text.proofs.Writing.{Remains, remains-as, start, next-fits, next, finish}
 use Rattle.closing.specs.Fixed.{totalFound}
 use Rattle.closing.proofs.FirstTotals.{totals-found}
 use Rattle.closing.proofs.LineLoops.{room-as, writes-as, linesLeft, lines-start, line-next, no-line, lines-end}
-use Rattle.closing.proofs.Parts.{predicate-count, predicates-few, arities-inside, properties-few}
 use Rattle.closing.proofs.TotalSteps.{begins-next, positions-inside, total-next, total-none}
 use borrow.Author.Needs.{needs}
 use Rattle.closing.proofs.totals.write_totals.Statement.{statement}
@@ -36,13 +37,13 @@ found : (s : tie.Start Inv-loop μ-loop)
 unfolding taskOf
 found s =
     let task = s .args .task in
-    ap text (totals-found (taskOf task) (s .args .fixed .now) (s .pre .1 .0) (properties-few task (s .pre .0)))
+    ap text (totals-found (taskOf task) (s .args .fixed .now) (s .pre .1 .0) (properties-few (taskOf task) (s .pre .0 .checked)))
     ∙ ap (λ (n : ℕ). text (flatMap (totalFound (aritiesOf (task .predicates)) (s .args .fixed .now)) (upTo n))) (sym (predicate-count task (s .pre .0)))
 
 -- the positions of a predicate are within the table
 inside : (s : tie.Start Inv-loop μ-loop) (p first : ℕ) → p < s .args .task .predicates .count
     → first ≡ sum (take p (aritiesOf (s .args .task .predicates))) → first + getD (s .args .task .predicates .arities) p 0 ≤ 60
-inside s = positions-inside (s .args .task .predicates) (arities-right (s .args .task) (s .pre .0)) (arities-inside (s .args .task) (s .pre .0))
+inside s = positions-inside (s .args .task .predicates) (arities-right (s .args .task) (s .pre .0)) (predicates-inside (s .args .task) (s .pre .0))
 
 positive : (n : ℕ) → (n ≡ 0 → ⊥) → 1 ≤ n
 positive n some = omega arith
@@ -94,14 +95,14 @@ loop-again c =
           (total-none (c .before .before .before .before .before .before .before .before .args .task .predicates)
           (arities-right (c .before .before .before .before .before .before .before .before .args .task)
           (c .before .before .before .before .before .before .before .before .pre .0))
-          (arities-inside (c .before .before .before .before .before .before .before .before .args .task)
+          (predicates-inside (c .before .before .before .before .before .before .before .before .args .task)
           (c .before .before .before .before .before .before .before .before .pre .0)) (l .p) (l .first) (c .before .before .before .loop-test .taken)
           (l .inv .2) _ (c .before .total-of .ensures) (c .if1 .taken))) (l .inv .0),
       search needs,
       begins-next (c .before .before .before .before .before .before .before .before .args .task .predicates)
           (arities-right (c .before .before .before .before .before .before .before .before .args .task)
           (c .before .before .before .before .before .before .before .before .pre .0))
-          (arities-inside (c .before .before .before .before .before .before .before .before .args .task)
+          (predicates-inside (c .before .before .before .before .before .before .before .before .args .task)
           (c .before .before .before .before .before .before .before .before .pre .0)) (l .p) (l .first) (c .before .before .before .loop-test .taken) (l .inv .2),
     )
 
@@ -128,7 +129,7 @@ write-total-requires c κs =
     (total-next (c .before .before .before .before .before .before .before .before .before .args .task .predicates)
     (arities-right (c .before .before .before .before .before .before .before .before .before .args .task)
     (c .before .before .before .before .before .before .before .before .before .pre .0))
-    (arities-inside (c .before .before .before .before .before .before .before .before .before .args .task)
+    (predicates-inside (c .before .before .before .before .before .before .before .before .before .args .task)
     (c .before .before .before .before .before .before .before .before .before .pre .0)) (l .p) (l .first)
     (c .before .before .before .before .loop-test .taken) (l .inv .2) _ (c .before .before .total-of .ensures) (c .before .if1 .left)
     (one-less _ (c .before .if1 .left))))
@@ -144,7 +145,7 @@ loop-again-2 c =
           (total-next (c .before .before .before .before .before .before .before .before .before .before .before .before .args .task .predicates)
           (arities-right (c .before .before .before .before .before .before .before .before .before .before .before .before .args .task)
           (c .before .before .before .before .before .before .before .before .before .before .before .before .pre .0))
-          (arities-inside (c .before .before .before .before .before .before .before .before .before .before .before .before .args .task)
+          (predicates-inside (c .before .before .before .before .before .before .before .before .before .before .before .before .args .task)
           (c .before .before .before .before .before .before .before .before .before .before .before .before .pre .0)) (l .p) (l .first)
           (c .before .before .before .before .before .before .before .loop-test .taken) (l .inv .2) _
           (c .before .before .before .before .before .total-of .ensures) (c .before .before .before .before .if1 .left)
@@ -154,7 +155,7 @@ loop-again-2 c =
       begins-next (c .before .before .before .before .before .before .before .before .before .before .before .before .args .task .predicates)
           (arities-right (c .before .before .before .before .before .before .before .before .before .before .before .before .args .task)
           (c .before .before .before .before .before .before .before .before .before .before .before .before .pre .0))
-          (arities-inside (c .before .before .before .before .before .before .before .before .before .before .before .before .args .task)
+          (predicates-inside (c .before .before .before .before .before .before .before .before .before .before .before .before .args .task)
           (c .before .before .before .before .before .before .before .before .before .before .before .before .pre .0)) (l .p) (l .first)
           (c .before .before .before .before .before .before .before .loop-test .taken) (l .inv .2),
     )

@@ -6,12 +6,13 @@ use native.Mathlib.Omega.{arith}
 use Rattle.model.specs.Lines.{typeLines}
 use Rattle.model.specs.Spaces.{spaces}
 use Rattle.model.specs.Text.{text}
+use Rattle.model.proofs.RuleCount.{properties-few}
 use Rattle.card.specs.Represents.{taskOf}
-use Rattle.properties.proofs.TaskParts.{arities-right, schemas-few, schema-right}
+use Rattle.card.proofs.Counts.{objects-few, schemas-few}
+use Rattle.properties.proofs.TaskParts.{arities-right, schema-right}
 use Rattle.text.proofs.Writing.{Remains, start, next-fits, next, finish}
 use Rattle.closing.specs.Typing.{MembersGiven}
 use Rattle.closing.proofs.Defaults.{no-schema}
-use Rattle.closing.proofs.Parts.{objects-few, properties-few}
 use Rattle.closing.proofs.SchemaLines.{schemasLeft, schema-next, schemas-end}
 use Rattle.closing.proofs.TypedObjects.{spaces-few, lowest-known, members-given}
 use borrow.Author.Needs.{needs}
@@ -32,7 +33,7 @@ numbered-requires c κs = let s = c .before .before in arities-right (s .args .t
 by-label-requires : tie.Need-by-label-requires Inv-loop μ-loop
 by-label-requires c κs =
     let s = c .before .before .before .before in
-    let narrow = properties-few (s .args .task) (s .pre .0) in
+    let narrow = properties-few (taskOf (s .args .task)) (s .pre .0 .checked) in
     (spaces-few _ (s .args .spaces) (s .pre .1 .0) narrow, lowest-known _ (s .args .spaces) (s .pre .1 .0) narrow)
 
 loop-holds : tie.Need-loop-holds Inv-loop μ-loop
@@ -75,7 +76,7 @@ write-schema-types-requires c κs =
           c .before .before .before .before .before .before .before .before .before .numbered .ensures .firsts,
           (
             subst (λ (m : List ℕ). MembersGiven (s .args .spaces .groups) m (task .objects)) (sym (masks .ensures))
-                (members-given (taskOf task) (s .args .spaces) (s .pre .1 .0) (properties-few task (s .pre .0)) (objects-few task (s .pre .0))),
+                (members-given (taskOf task) (s .args .spaces) (s .pre .1 .0) (properties-few (taskOf task) (s .pre .0 .checked)) (objects-few task (s .pre .0))),
             next-fits (l .inv .0) (schema-next task (s .pre .0) (s .args .spaces) (s .pre .1 .0) (masks .ensures) (l .i) no-schema here),
           ),
         ),
