@@ -2,10 +2,10 @@
 use Prim.Native.Nat.{ℕ}
 use mathlib.Core.Path.{_≡_, sym, ap, _∙_}
 use mathlib.Core.List.{List}
-use lib.IntN.{ℤ, pos}
-use Rattle.model.specs.Answer.{Answer, refused, accepted}
+use lib.IntN.{pos}
+use Rattle.model.specs.Answer.{refused, accepted}
 use Rattle.model.specs.Card as model
-use Rattle.model.specs.Calls.{Call, encode}
+use Rattle.model.specs.Calls.{encode}
 use Rattle.model.proofs.Answers.{then-accepted, then-refused}
 use Rattle.card.specs.Represents.{Decodes, refusalNumber}
 use Rattle.card.specs.declared.Decoded.{Decoded}

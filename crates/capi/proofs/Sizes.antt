@@ -7,7 +7,7 @@ use mathlib.Core.Logic.{⊎-elim}
 use mathlib.Core.List.{List}
 use lib.Dec.{leb}
 use lib.ListN.{length}
-use Rattle.model.specs.Answer.{Answer, refused, accepted, _>>=_, _>>_, need}
+use Rattle.model.specs.Answer.{Answer, refused, accepted, _>>_, need}
 use Rattle.model.specs.Card.{Task, decode}
 use Rattle.model.specs.Writer.{checkTask, taskBytes}
 use Rattle.model.specs.Strips.{Action}

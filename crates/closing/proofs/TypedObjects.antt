@@ -32,7 +32,8 @@ use Rattle.properties.proofs.Rows.{length-row, getD-row}
 use Rattle.spaces.specs.declared.Spaces as code
 use Rattle.spaces.specs.SpaceTable.{SpacesOf, maskOf, groupsOf, lowestOf}
 use Rattle.spaces.specs.Steps.{enabledBy}
-use Rattle.spaces.proofs.Filling.{padded-at, padded-past, length-padded}
+use Rattle.card.proofs.Padded.{padded-at, length-padded}
+use Rattle.spaces.proofs.Filling.{padded-past}
 use Rattle.spaces.proofs.Joins.{masksOf, masks-at, mask-ext, enabled-joins}
 use Rattle.spaces.proofs.TaskSpaces.{groupArray, own-label, labels-known, member-alone}
 use Rattle.text.specs.Members.{membersOf}

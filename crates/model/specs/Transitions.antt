@@ -67,7 +67,8 @@ parameterRules t s k =
 unfoldable pub transitions : Task → List Transition
 transitions t = flatMap (λ s. flatMap (parameterRules t s) (upTo (s .parameters))) (t .schemas)
 
--- how many rules a schema has at most: one for each argument of an added atom, three an atom, and one for each parameter
+-- Not of document 01: how many rules a schema has at most, by which tables are measured: one for each argument of an added atom, three an
+-- atom, and one for each parameter.
 abbrev pub schemaBound : Schema → ℕ
 schemaBound s = 3 * length (s .adds) + s .parameters
 

@@ -1,8 +1,8 @@
 -- Tables that are filled from a task are what the analysis of its spaces is given.
 use Prim.Native.Nat.{ℕ, _*_, _≤_}
 use native.Mathlib.Omega.{arith}
-use mathlib.Core.Path.{_≡_, refl, sym, ap, _∙_, subst}
-use mathlib.Core.List.{List, _++_, map}
+use mathlib.Core.Path.{_≡_, sym, subst}
+use mathlib.Core.List.{List, map}
 use lib.ListN.{length, drop}
 use Rattle.model.specs.Card as model
 use Rattle.model.specs.Transitions.{properties, transitions}
@@ -12,7 +12,7 @@ use Rattle.card.specs.declared.Task.{Task}
 use Rattle.card.specs.Represents.{taskOf, aritiesOf, Represented}
 use Rattle.properties.specs.declared.Numbering.{Numbering}
 use Rattle.properties.specs.Represented.{Numbers, objectBags}
-use Rattle.properties.specs.Tables.{stride, rows, rowsBefore}
+use Rattle.properties.specs.Tables.{stride, rowsBefore}
 use Rattle.rules.specs.Tables.{rulesAtMost, RuleTable}
 use Rattle.rules.specs.Appended.{Room}
 use Rattle.rules.proofs.RuleRoom.{rules-at-most}

@@ -3,12 +3,12 @@ use Prim.Native.Nat.{ℕ, zero, suc, _+_, _<_}
 use native.Mathlib.Nat.{le-of-suc-le-suc, not-suc-le-zero, add-zero, zero-add}
 use native.Mathlib.Omega.{arith}
 use mathlib.Core.Path.{_≡_, refl, sym, ap, _∙_, subst}
-use mathlib.Core.List.{List, [], _∷_, _++_, map}
+use mathlib.Core.List.{List, [], _∷_}
 use lib.ListN.{length, getD, length-append, List·getD-append}
 use lib.Seq.{getD-append-add}
 use Rattle.model.specs.Card.{Task}
 use Rattle.model.specs.Spaces.{spaces}
-use Rattle.model.specs.Lines.{Line, Analysis, analyse, analysis, spaceLines, spaceSections, closingLines, sections}
+use Rattle.model.specs.Lines.{Analysis, analyse, analysis, spaceLines, spaceSections, closingLines, sections}
 use Rattle.analysis.specs.Analysed.{spaceAt}
 use Rattle.totals.proofs.Analyses.{length-analysis, analysis-at}
 

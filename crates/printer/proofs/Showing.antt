@@ -1,11 +1,9 @@
 -- The line that refuses a card, with one digit or two.
 use Prim.Native.Nat.{ℕ, _+_, _/_, _%_, _≤_, _<_}
 use native.Mathlib.Omega.{arith}
-use mathlib.Core.Path.{_≡_, refl, sym, ap, _∙_}
+use mathlib.Core.Path.{_≡_, sym, ap, _∙_}
 use mathlib.Core.List.{List, [], _∷_, _++_}
-use lib.ListN.{length, take}
 use Rattle.model.specs.Answer.{refused}
-use Rattle.model.specs.Text.{decimal}
 use Rattle.model.specs.Calls.{printed}
 use Rattle.card.specs.Represents.{refusalNumber}
 use Rattle.card.specs.declared.Refusal.{Refusal}
@@ -13,7 +11,6 @@ use Rattle.card.specs.declared.Refusal.the-variants.{CardEnds, PredicateRange, 
 use Rattle.card.specs.declared.Refusal.the-variants.{AtomOrder, DeleteNotPrecondition, AddIsPrecondition, FactRange, FactUnknown, FactOrder}
 use Rattle.card.specs.declared.Refusal.the-variants.{BytesFollow}
 use Rattle.text.proofs.Decimal.{decimal-digit, decimal-more}
-use Rattle.printer.specs.Shown.{Shows}
 
 -- the reader's refusals are numbered 1 to 14
 pub few-refusals : (r : Refusal) → refusalNumber r ≤ 14

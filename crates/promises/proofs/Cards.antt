@@ -1,10 +1,10 @@
 -- Demand 2 on the calls: a card that is read and written again has its own bytes, and a table that is written and read again is that table.
 use Prim.Native.Nat.{ℕ, _≤_}
-use mathlib.Core.Path.{_≡_, refl, sym, ap, _∙_, subst}
+use mathlib.Core.Path.{_≡_, sym, ap, _∙_}
 use mathlib.Core.Bool.{true}
 use mathlib.Core.List.{List, _++_}
 use lib.ListN.{length, take, drop}
-use Rattle.model.specs.Answer.{Answer, accepted}
+use Rattle.model.specs.Answer.{accepted}
 use Rattle.model.specs.Card as model
 use Rattle.model.specs.Calls.{encode, outputBytes}
 use Rattle.model.proofs.CardSize.{areBytes}

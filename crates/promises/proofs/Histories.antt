@@ -5,10 +5,10 @@
 use Prim.Native.Nat.{ℕ}
 use mathlib.Core.Path.{_≡_, refl, sym, ap, _∙_, subst}
 use mathlib.Core.List.{List, [], _∷_}
-use Rattle.model.specs.Answer.{Answer, accepted}
+use Rattle.model.specs.Answer.{accepted}
 use Rattle.model.specs.Card as model
 use Rattle.model.specs.Strips.{Action}
-use Rattle.model.specs.Calls.{Standing, initial, press, pressed, counted, history, stateOf}
+use Rattle.model.specs.Calls.{Standing, pressed, counted, history, stateOf}
 use Rattle.model.specs.Truth.{Holds}
 use Rattle.model.proofs.ListingHolds.{listing-holds}
 use Rattle.strips.specs.Answers.{Opens, Applies, appliedSays}

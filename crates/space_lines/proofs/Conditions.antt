@@ -1,9 +1,9 @@
 -- The conditions that are listed for a space: each has a count for every property, and the code's table holds them.
 use Prim.Native.Nat.{ℕ, _-_, _*_, _≤_}
 use native.Mathlib.Omega.{arith}
-use mathlib.Core.Path.{_≡_, sym, ap, subst, _∙_}
+use mathlib.Core.Path.{_≡_, ap, subst}
 use mathlib.Core.Logic.{⊎-elim}
-use mathlib.Core.List.{List, [], _∷_, _++_, map, List·Memᴰ, List·Memᴰ·not-nil, Memᴰ·of-map}
+use mathlib.Core.List.{List, [], map, List·Memᴰ, List·Memᴰ·not-nil, Memᴰ·of-map}
 use lib.ListN.{length, replicate, length-append}
 use Rattle.laws.specs.Bags.{Bag, restrict}
 use Rattle.laws.proofs.Bags.{length-restrict}

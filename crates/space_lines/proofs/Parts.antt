@@ -1,7 +1,6 @@
 -- The text of a space's conditions in four parts: all T, all M, all D, all X.
 use Prim.Native.Nat.{ℕ, _+_}
-use native.Mathlib.Omega.{arith}
-use mathlib.Core.Path.{_≡_, refl, sym, ap, _∙_}
+use mathlib.Core.Path.{_≡_, refl, ap, _∙_}
 use mathlib.Core.List.{List, _++_, map, append-assoc}
 use lib.ListN.{length, length-append}
 use Rattle.laws.specs.Bags.{Bag}

@@ -1,21 +1,18 @@
 -- The section of a space of a task: what the code is given stands for it, and it fits the output.
-use Prim.Native.Nat.{ℕ, zero, suc, _+_, _/_, _%_, _≤_, _<_}
+use Prim.Native.Nat.{ℕ, zero, suc, _/_, _≤_, _<_}
 use native.Mathlib.Omega.{arith}
 use mathlib.Core.Path.{_≡_, refl, sym, ap, subst, _∙_}
-use mathlib.Core.Bool.{Bool, true, false, cond}
-use mathlib.Core.List.{List, [], _∷_, _++_, List·Memᴰ}
+use mathlib.Core.List.{List, _∷_, List·Memᴰ}
 use lib.Dec.{eqb}
 use lib.ListN.{length, getD, take, length-append}
 use lib.Seq.{getD-take, length-take-le}
-use Rattle.laws.specs.Bags.{Bag}
 use Rattle.laws.specs.Lists.{keep, upTo}
 use Rattle.laws.proofs.Lists.{keep-at, upTo-at}
 use Rattle.laws.proofs.Mapped.{keep-ext}
 use Rattle.laws.proofs.Walks.{keep-few}
 use Rattle.model.specs.Card.{Task}
-use Rattle.model.specs.Spaces as model
-use Rattle.model.specs.Spaces.{Space, spaces, kindOf}
-use Rattle.model.specs.Lines.{Line, space, spaceLines, arityOf, analyse, analyseAs, analysePropertySpace}
+use Rattle.model.specs.Spaces.{Space, spaces}
+use Rattle.model.specs.Lines.{Line, space, spaceLines, arityOf, analyse}
 use Rattle.model.specs.Text.{lineText, text}
 use Rattle.model.proofs.Checked.{checked}
 use Rattle.model.proofs.Closing.{belongs}

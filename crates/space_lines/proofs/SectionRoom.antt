@@ -1,26 +1,21 @@
 -- A space's section is shorter than 65,536 bytes.
-use Prim.Native.Nat.{ℕ, _+_, _*_, _≤_, _<_, max}
+use Prim.Native.Nat.{ℕ, _+_, _*_, _≤_, _<_}
 use native.Mathlib.Omega.{arith}
-use mathlib.Core.Path.{_≡_, refl, sym, ap, subst, _∙_}
+use mathlib.Core.Path.{refl, sym, subst, _∙_}
 use mathlib.Core.Bool.{Bool, true, false, cond, not}
-use mathlib.Core.List.{List, [], _∷_, _++_, map, List·Memᴰ, List·Memᴰ·head, List·Memᴰ·tail, Memᴰ·of-map}
+use mathlib.Core.List.{List, [], _∷_, map, List·Memᴰ, List·Memᴰ·head, List·Memᴰ·tail, Memᴰ·of-map}
 use lib.Dec.{eqb}
-use lib.ListN.{length, getD, take, drop, length-append, length-take}
+use lib.ListN.{length, getD, drop, length-take}
 use lib.Seq.{getD-drop}
 use Rattle.laws.specs.Bags.{Bag, strictlyContains}
 use Rattle.laws.specs.Lists.{any, upTo}
-use Rattle.laws.proofs.Lists.{keep-at, upTo-at, place-of, mem-take, flatMap-append}
+use Rattle.laws.proofs.Lists.{keep-at, upTo-at, place-of, mem-take}
 use Rattle.laws.proofs.Walks.{keep-few}
-use Rattle.model.specs.Lines.{Line, space, state, membership, minimal, exclusions, largest, countOf}
-use Rattle.model.specs.Text.{lineText, text}
+use Rattle.model.specs.Lines.{minimal, largest, countOf}
+use Rattle.model.specs.Text.{text}
 use Rattle.properties.specs.Tables.{stride, bagAt, bagsIn}
-use Rattle.sections.specs.Limits.{limitsBy}
-use Rattle.conditions.proofs.RowLists.{length-bagsIn}
 use Rattle.sections.proofs.SectionLengths.{states-length, limits-length, memberships-length, exclusions-length}
-use Rattle.text.proofs.Lengths.{AllBelow, space-length}
-use Rattle.text.specs.declared.lists.Kind.{Kind}
-use Rattle.text.specs.Kinds.{kindSays}
-use Rattle.text.specs.Room.{Room}
+use Rattle.text.proofs.Lengths.{AllBelow}
 use Rattle.space_lines.specs.Listed.{conditionLines}
 use Rattle.space_lines.proofs.Parts.{parts-length}
 

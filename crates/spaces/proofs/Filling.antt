@@ -14,7 +14,7 @@ use Rattle.laws.proofs.Tests.{by-test}
 use Rattle.laws.proofs.Lists.{mem-getD}
 use Rattle.laws.proofs.Walks.{keep-one-more, keep-no-more, keep-few}
 use Rattle.card.specs.Represents.{padded}
-pub use Rattle.card.proofs.Padded.{length-padded, padded-at}
+use Rattle.card.proofs.Padded.{padded-at}
 use Rattle.properties.proofs.Rows.{getD-zeros}
 
 module _ {A : Type 0} (n : ℕ) (blank : A) where

@@ -27,7 +27,8 @@ use Rattle.card.specs.Represents.{padded}
 use Rattle.properties.specs.Tables.{bagAt}
 use Rattle.spaces.specs.Steps.{labelled, opened, roundsOf}
 use Rattle.spaces.specs.SpaceTable.{maskOf}
-use Rattle.spaces.proofs.Filling.{padded-at, padded-below}
+use Rattle.card.proofs.Padded.{padded-at}
+use Rattle.spaces.proofs.Filling.{padded-below}
 use Rattle.spaces.proofs.Joins.{Joins, firstLabel, admittedBy, brings, oneRound, manyRounds, opensBy}
 use Rattle.spaces.proofs.Joins.{masks-at, mask-ext, rounds-joins, opened-joins}
 

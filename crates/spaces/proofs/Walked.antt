@@ -13,7 +13,7 @@ use Rattle.model.specs.Spaces.{Space, spaces}
 use Rattle.model.proofs.Closing.{labels, spaceWith, spacesWith, belongs, spaces-alone}
 use Rattle.spaces.specs.declared.Spaces.{Spaces}
 use Rattle.spaces.specs.SpaceTable.{maskOf, SpacesOf}
-use Rattle.spaces.proofs.Filling.{padded-at}
+use Rattle.card.proofs.Padded.{padded-at}
 
 -- the mask of the space of a number
 pub mask-of-space : (t : Task) (r : Spaces) → SpacesOf t r → (k : ℕ) (s : Space) → k < length (spaces t)

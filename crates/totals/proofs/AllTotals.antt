@@ -1,5 +1,5 @@
 -- The totals of all spaces: each property is in one space, so that what its space gives is what the property gives.
-use Prim.Native.Nat.{ℕ, zero, suc, _+_, _*_, _≤_, _<_}
+use Prim.Native.Nat.{ℕ, _+_, _*_, _≤_, _<_}
 use native.Mathlib.Numerals.{add-one}
 use native.Mathlib.Omega.{arith}
 use mathlib.Core.Path.{_≡_, refl, sym, ap, _∙_, subst}
@@ -7,7 +7,7 @@ use mathlib.Core.Bool.{Bool, true, false, cond}
 use mathlib.Core.List.{List, [], _∷_, _++_, map, flatMap, append-nil, List·Memᴰ, List·Memᴰ·head, List·Memᴰ·tail, List·Memᴰ·not-nil}
 use lib.Count.{ones}
 use lib.Dec.{eqb}
-use lib.ListN.{length, getD, take, replicate, length-map}
+use lib.ListN.{length, getD, take, replicate}
 use lib.Seq.{take-all, take-suc, getD-take, length-take-le}
 use borrow.Author.Tests.{eqb-true}
 use Rattle.laws.specs.Lists.{keep, upTo, member}
@@ -29,7 +29,7 @@ use Rattle.model.proofs.Closing.{groups, labels, belongs}
 use Rattle.model.proofs.ListedSpace.{space-of-analysis}
 use Rattle.spaces.specs.declared.Spaces.{Spaces}
 use Rattle.spaces.specs.SpaceTable.{SpacesOf, maskOf, groupsOf, lowestOf}
-use Rattle.spaces.proofs.Filling.{padded-at}
+use Rattle.card.proofs.Padded.{padded-at}
 use Rattle.analysis.specs.Own.{ownOf}
 use Rattle.analysis.specs.declared.Analysed.{Analysed}
 use Rattle.analysis.specs.Analysed.{Given, AnalysisOf, spaceAt}

@@ -11,7 +11,7 @@ use lib.Seq.{getD-set-same, getD-set-other}
 use borrow.Author.Tests.{eqb-true, eqb-false}
 use Rattle.laws.specs.Lists.{sum}
 use Rattle.laws.proofs.Tests.{by-test}
-use Rattle.laws.proofs.Fronts.{Located, located, sum-take-next, sum-take-within, sum-take-all}
+use Rattle.laws.proofs.Fronts.{located, sum-take-next, sum-take-within, sum-take-all}
 use Rattle.model.specs.Card.{Task}
 use Rattle.model.specs.Transitions.{Property, properties}
 use Rattle.model.specs.Lines.{arityOf}

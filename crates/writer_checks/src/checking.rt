@@ -11,7 +11,6 @@ use card::SchemaList;
 use card::Task;
 ghost use mathlib.Core.Path.{_≡_};
 ghost use Prim.Native.Nat.{_≤_};
-ghost use mathlib.Core.Bool.{true};
 ghost use mathlib.Core.Option.{none};
 ghost use mathlib.Core.List.{map};
 ghost use Rattle.laws.specs.Lists.{all};

@@ -1,6 +1,6 @@
 -- A buffer that is short is lent on whole, and no section is written; of another the first 65,536 bytes are lent on.
 use borrow.Author.Needs.{needs}
-use mathlib.Core.Path.{_≡_, sym, subst, _∙_}
+use mathlib.Core.Path.{sym, subst, _∙_}
 use Rattle.capi.specs.Numbers.{Small}
 use Rattle.capi.proofs.Codes.{same-code}
 use Rattle.capi.proofs.Sections.{short-small, first-answers, first-small, first-leaves}

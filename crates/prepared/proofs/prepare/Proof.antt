@@ -1,6 +1,5 @@
 -- The tables hold the task, and its spaces are those of the tables.
 use native.Mathlib.Omega.{arith}
-use Rattle.card.specs.Represents.{taskOf}
 use Rattle.properties.proofs.TaskParts.{arities-right}
 use Rattle.prepared.proofs.Preparing.{sizes-few, room-for, holds, given, properties-counted}
 use borrow.Author.Needs.{needs}

@@ -1,6 +1,5 @@
 -- Kind by kind.
 use mathlib.Core.Path.{sym, ap}
-use Rattle.analysis.specs.declared.Kind.{Kind}
 use Rattle.analysis.specs.Sorting as analysis
 use Rattle.text.specs.Kinds.{kindSays}
 use borrow.Author.Needs.{needs}

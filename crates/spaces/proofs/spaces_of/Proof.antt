@@ -10,7 +10,7 @@ use Rattle.model.specs.Spaces.{grouping}
 use Rattle.card.specs.Represents.{padded}
 use Rattle.spaces.specs.Tabled.{Room, Grouped}
 use Rattle.spaces.specs.Steps.{rulesIn, labelled, roundsOf}
-use Rattle.spaces.proofs.Filling.{length-padded}
+use Rattle.card.proofs.Padded.{length-padded}
 use Rattle.spaces.proofs.Found.{rows-known, labelled-known, spaces-found}
 use borrow.Author.Needs.{needs}
 use Rattle.spaces.proofs.spaces_of.Statement.{statement}

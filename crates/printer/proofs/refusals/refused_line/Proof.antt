@@ -1,7 +1,7 @@
 -- The number's digits stand where the line has them.
 use borrow.Author.Needs.{needs}
 use native.Mathlib.Omega.{arith}
-use mathlib.Core.Path.{_≡_, ap, _∙_}
+use mathlib.Core.Path.{ap, _∙_}
 use Prim.Native.Nat.{ℕ}
 use Rattle.model.specs.Answer.{refused}
 use Rattle.model.specs.Calls.{printed}

@@ -1,14 +1,12 @@
 -- The loop's invariant: the arities of the first p predicates stand in the table.
-use Prim.Native.Nat.{ℕ, _+_, _-_, _≤_, _<_}
+use Prim.Native.Nat.{_+_, _-_, _≤_}
 use native.Mathlib.Omega.{arith}
 use borrow.Author.Needs.{needs}
-use mathlib.Core.Path.{_≡_, sym, subst, ap}
-use mathlib.Core.List.{List}
+use mathlib.Core.Path.{_≡_, sym}
 use lib.ListN.{length, getD, take}
 use lib.Seq.{getD-take, length-take-le}
 use Rattle.card.specs.Represents.{aritiesOf}
 use Rattle.properties.proofs.Predicates.{sum-arities}
-use Rattle.totals.specs.Arities.{PropertyArities}
 use Rattle.totals.proofs.PuttingArities.{Filled, fill-start, next-inside, fill-next, fill-end}
 use Rattle.totals.proofs.arities.property_arities.Statement.{statement}
 use Rattle.totals.proofs.arities.property_arities.Tie as tie

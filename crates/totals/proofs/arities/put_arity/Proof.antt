@@ -1,5 +1,5 @@
 -- The loop's invariant: the arity is put into the first i places.
-use Prim.Native.Nat.{_+_, _-_, _≤_}
+use Prim.Native.Nat.{_-_, _≤_}
 use native.Mathlib.Omega.{arith}
 use borrow.Author.Needs.{needs}
 use Rattle.totals.specs.Arities.{ArityPut}

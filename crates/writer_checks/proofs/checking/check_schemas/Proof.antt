@@ -16,7 +16,6 @@ use Rattle.card.specs.declared.Refusal.{Refusal}
 use Rattle.writer_checks.specs.Checking.{checkedSays}
 use Rattle.writer_checks.specs.declared.checking.Checked.{Checked}
 use Rattle.writer_checks.specs.declared.checking.Checked.the-variants.{Passed, Refused}
-use Rattle.card.specs.declared.Schema.{Schema}
 use Rattle.writer_checks.proofs.Entries.{default-alike}
 use Rattle.writer_checks.proofs.SchemaLaws.{zeros, zeros-blank}
 use Rattle.writer_checks.proofs.Loops.{item-refused, item-passed, items-passed}
