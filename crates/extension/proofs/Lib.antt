@@ -9,6 +9,7 @@ pub mod Judging
 pub mod Remaining
 pub mod Searching
 pub mod Appending
+pub mod Overlaid
 pub mod Tables
 pub mod Exploring
 pub mod Joining
