@@ -2,31 +2,22 @@
 use libc::STDOUT_FILENO;
 use printer::print_from;
 
-fn print_name(path: &[u8]) {
-    io::write_all(STDOUT_FILENO, path);
-    io::write_all(STDOUT_FILENO, b"\n");
-}
-
-fn print_example(path: &[u8]) {
-    let card = os::open_read(path);
-    if card < 0 {
-        os::fail(path);
-        return;
-    }
-    print_name(path);
-    print_from(card);
-    libc::close(card);
-}
-
-fn print_argument(i: usize) {
-    let mut path = io::buffer();
-    let length = os::arg(i, &mut path);
-    print_example(&path[..length]);
-}
-
 fn main() {
+    let mut window = [0u8; 5306];
+    let mut out = [0u8; 65536];
     let count = os::arg_count();
     for i in 1..count {
-        print_argument(i);
+        let mut path = io::buffer();
+        let length = os::arg(i, &mut path);
+        let name = &path[0..length];
+        let card = os::open_read(name);
+        if card < 0 {
+            os::fail(name);
+            continue;
+        }
+        io::write_all(STDOUT_FILENO, name);
+        io::write_all(STDOUT_FILENO, b"\n");
+        print_from(card, &mut window, &mut out);
+        libc::close(card);
     }
 }

@@ -1,12 +1,14 @@
--- Cleared tables of any size have room for the moves of a space and the text of a section.
+-- Cleared tables have room for the moves of a space, beside a buffer that has room for the text of a section.
 use Prim.Native.Nat.{ℕ, _≤_}
+use mathlib.Core.List.{List}
+use lib.ListN.{length}
 use Rattle.model.specs.Calls.{outputBytes}
 use Rattle.prepared.proofs.Cleared.{cleared, cleared-long}
 use Rattle.printer.specs.Ready.{Lent}
 
-pub cleared-lent : (n m : ℕ) → 57600 ≤ n → outputBytes ≤ m → Lent (cleared n) (cleared n) (cleared m)
-cleared-lent n m h k = record {
+pub cleared-lent : (n : ℕ) (out : List ℕ) → 57600 ≤ n → outputBytes ≤ length out → Lent (cleared n) (cleared n) out
+cleared-lent n out h k = record {
   origins-long = cleared-long n 57600 h;
   targets-long = cleared-long n 57600 h;
-  out-long = cleared-long m outputBytes k;
+  out-long = k;
 }

@@ -4,6 +4,7 @@ use libc::STDOUT_FILENO;
 use prepared::Prepared;
 use prepared::prepare;
 use prepared::write_section;
+ghost use mathlib.Core.Path.{_≡_};
 ghost use mathlib.Core.List.{[], _∷_};
 ghost use Prim.Native.Nat.{_≤_};
 ghost use lib.ListN.{length, getD};
@@ -12,7 +13,7 @@ ghost use Rattle.card.specs.Represents.{taskOf, Represented};
 ghost use Rattle.rules.specs.Tables.{rulesAtMost};
 ghost use Rattle.rules.specs.Appended.{Room};
 ghost use Rattle.printer.specs.Ready.{Ready, Lent};
-ghost use Rattle.printer.specs.Leaves.{Leaves, Filled};
+ghost use Rattle.printer.specs.Leaves.{inTurn, Leaves, Filled};
 
 // Writes a section from byte 0 of `out`, and prints it from there.
 fn print_section(
@@ -148,8 +149,10 @@ fn print_with(
     );
 }
 
-pub fn print_listing(task: Task)
+// Each section is written to `out` from byte 0 on and printed from there. The tables are of the sizes that the largest task asks for.
+pub fn print_listing(task: Task, out: &mut [u8; 65536])
     requires { ⌜ Represented task (taskOf task) ⌝ }
+    ensures { λ _. ⌜ now (out .exit) ≡ inTurn (sections (taskOf task)) (now (out .entry)) ⌝ }
 {
     let mut enablers = [0u8; 57600];
     let mut starts = [0u8; 57600];
@@ -157,7 +160,6 @@ pub fn print_listing(task: Task)
     let mut counts = [0u16; 3840];
     let mut origins = [0u8; 57600];
     let mut targets = [0u8; 57600];
-    let mut out = [0u8; 65536];
     print_with(
         task,
         &mut enablers,
@@ -166,6 +168,6 @@ pub fn print_listing(task: Task)
         &mut counts,
         &mut origins,
         &mut targets,
-        &mut out,
+        out,
     );
 }

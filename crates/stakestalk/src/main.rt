@@ -3,5 +3,7 @@ use libc::STDIN_FILENO;
 use printer::print_from;
 
 fn main() {
-    print_from(STDIN_FILENO);
+    let mut window = [0u8; 5306];
+    let mut out = [0u8; 65536];
+    print_from(STDIN_FILENO, &mut window, &mut out);
 }

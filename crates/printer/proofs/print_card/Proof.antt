@@ -1,6 +1,7 @@
 -- A refused card's line is printed, and an accepted card's listing.
 use borrow.Author.Needs.{needs}
 use Rattle.card.proofs.Deciding.{represented}
+use Rattle.printer.proofs.Answered.{refused-leaves, accepted-leaves}
 use Rattle.printer.proofs.print_card.Statement.{statement}
 use Rattle.printer.proofs.print_card.Tie as tie
 
@@ -10,22 +11,41 @@ decode-requires c κs = search needs
 enum-known-verdict : tie.Need-enum-known-verdict
 enum-known-verdict c = search needs
 
-print-refusal-requires : tie.Need-print-refusal-requires
-print-refusal-requires c κs = search needs
+refused-line-requires : tie.Need-refused-line-requires
+refused-line-requires c κs = search needs
+
+sub-write-all : tie.Need-sub-write-all
+sub-write-all c = search needs
+
+part-write-all-start : tie.Need-part-write-all-start
+part-write-all-start c = search needs
+
+part-write-all-end : tie.Need-part-write-all-end
+part-write-all-end c = search needs
+
+write-all-requires : tie.Need-write-all-requires
+write-all-requires c κs = search needs
 
 enum-told : tie.Need-enum-told
 enum-told c = search needs
 
 print-listing-requires : tie.Need-print-listing-requires
 print-listing-requires c κs =
-    let at-decode = c .before .before .before in
-    represented (at-decode .before .before .args .card .now) (at-decode .decode .result) (at-decode .decode .ensures) (c .enum-told .given .1)
+    let told = c .before in
+    let called = told .before .before .before in
+    represented _ (called .decode .result) (called .decode .ensures) (told .enum-told .given .1)
 
 returns : tie.Need-returns
-returns c = search needs
+returns c =
+    let matched = c .before .before .before .before .before .before in
+    let called = matched .before .before .before in
+    refused-leaves _ (called .decode .result) (called .decode .ensures) _ _ (matched .verdict .given .1)
 
 returns-2 : tie.Need-returns-2
-returns-2 c = search needs
+returns-2 c =
+    let told = c .before .before in
+    let called = told .before .before .before in
+    accepted-leaves _ (called .decode .result) (called .decode .ensures) _ (told .enum-told .given .1) (c .print-listing .ensures)
 
 pub print-card-spec : {M : Type 1} → statement M
 print-card-spec =
@@ -33,7 +53,11 @@ print-card-spec =
     (tie.spec
     decode-requires
     enum-known-verdict
-    print-refusal-requires
+    refused-line-requires
+    sub-write-all
+    part-write-all-start
+    part-write-all-end
+    write-all-requires
     enum-told
     print-listing-requires
     returns
