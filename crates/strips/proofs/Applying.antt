@@ -8,7 +8,6 @@ use mathlib.Core.List.{List, [], _∷_, _++_, map, foldl}
 use mathlib.Core.Option.{none}
 use lib.ListN.{length, take, drop, replicate, length-map, length-append, length-drop, length-replicate}
 use lib.Seq.{take-at, drop-at}
-use borrow.Author.Tests.{le-leb, lt-leb}
 use Rattle.laws.specs.Lists.{all, keep, member}
 use Rattle.laws.proofs.Tests.{and-left, and-right}
 use Rattle.laws.proofs.Lists.{all-at, all-intro}
@@ -17,7 +16,7 @@ use Rattle.model.specs.Answer.{accepted, _>>=_, _>>_, need}
 use Rattle.model.specs.Card.{Atom, has}
 use Rattle.model.specs.Card as model
 use Rattle.model.specs.Writer.{known}
-use Rattle.model.specs.Strips.{State, factsIn, ascending, ground, applicable, put, takenOut, putIn, successor}
+use Rattle.model.specs.Strips.{State, factsIn, ascending, written, ground, applicable, put, takenOut, putIn, successor}
 use Rattle.model.specs.Calls.{finish, store}
 use Rattle.model.proofs.Checked.{CheckedSchema, checked-schema}
 use Rattle.model.proofs.Buffer.{WellFormed, well-formed, rows-known}
@@ -31,8 +30,10 @@ use Rattle.state.proofs.Writing.{length-numbersIn}
 use Rattle.state.proofs.FactNumbers.{allKnown, member-has, numbers-puts, numbers-removed, rising-state, numbers-of-rows, stored-written, put-known, keep-known}
 use Rattle.actions.specs.Grounds.{Bound}
 use Rattle.strips.specs.Answers.{appliedSays}
-use Rattle.strips.specs.Stages.{Does, leaving, changed, allHeld, nextNumbers, ListKept, StateKept, Ready, NextReady}
-use Rattle.strips.specs.declared.Applied.the-variants.{Count, PreconditionMissing, StateFull}
+use Rattle.strips.specs.Stages.{Does, leaving, replaced, changed, allHeld, nextNumbers, ListKept, StateKept, Ready, NextReady}
+use Rattle.strips.proofs.Replacing.{replaced-by-facts}
+use Rattle.strips.specs.declared.Applied.{Applied}
+use Rattle.strips.specs.declared.Applied.the-variants.{PreconditionMissing}
 
 -- facts put in one after the other are known
 puts-known :
@@ -184,26 +185,16 @@ module _ (arities objects : List ℕ) (schema : Schema) (buffer : List ℕ) (cou
   unfolding leaving changed need _>>_ _>>=_ finish appliedSays
   refused-missing e = rw e (record { answer = refl; buffer = refl })
 
-  pub refused-full :
-      applicable model-schema objects before ≡ true → 1024 < length (successor model-schema objects before)
-      → Does (leaving buffer (changed model-schema objects before)) buffer StateFull
-  unfolding leaving changed need _>>_ _>>=_ finish appliedSays
-  refused-full e h = rw (e, lt-leb (length (successor model-schema objects before)) 1024 h) (record { answer = refl; buffer = refl })
-
-  pub accepted-next :
-      (after numbers : List ℕ) (n : ℕ) → applicable model-schema objects before ≡ true → n ≡ length (successor model-schema objects before)
-      → n ≤ 1024 → numbers ≡ map factNumber (successor model-schema objects before) → after ≡ stored numbers buffer
-      → Does (leaving buffer (changed model-schema objects before)) after (Count n)
-  unfolding leaving changed need _>>_ _>>=_ finish store appliedSays
-  accepted-next after numbers n e p h q w =
-      let few : length (successor model-schema objects before) ≤ 1024 = omega arith in
-      rw (e, le-leb (length (successor model-schema objects before)) 1024 few)
-      (record {
-        answer = ap accepted p;
-        buffer =
-            w ∙ ap (λ (l : List ℕ). stored l buffer) q
-            ∙ stored-written arities (ready .known-objects) shape (successor model-schema objects before) buffer next-known;
-      })
+  -- storing the numbers of the next state is what is asked where the preconditions hold
+  pub next-replaced :
+      (numbers after : List ℕ) (r : Applied) → applicable model-schema objects before ≡ true → numbers ≡ map factNumber (successor model-schema objects before)
+      → Does (replaced numbers buffer) after r → Does (leaving buffer (changed model-schema objects before)) after r
+  unfolding changed need _>>_ _>>=_
+  next-replaced numbers after r e q does =
+      let next = successor model-schema objects before in
+      let same =
+      ap (λ (l : List ℕ). stored l buffer) q ∙ stored-written arities (ready .known-objects) shape next buffer next-known in
+      rw e (rw (replaced-by-facts numbers buffer next (ap length q ∙ length-map next factNumber) same) at does)
 
   -- the state's numbers loaded to the front of an array of zeros
   module _ (numbers : List ℕ) (loaded : numbers ≡ numbersIn count buffer ++ drop count (replicate 1032 0)) where
@@ -241,14 +232,16 @@ module _ (arities objects : List ℕ) (schema : Schema) (buffer : List ℕ) (cou
       next-are : nextNumbers model-schema objects (take count numbers) ≡ map factNumber (successor model-schema objects before)
       next-are = ap (nextNumbers model-schema objects) numbers-are ∙ next-numbers
 
-      pub next-count : n ≡ length (successor model-schema objects before)
-      next-count = becomes .counted ∙ ap length next-are ∙ length-map (successor model-schema objects before) factNumber
-
       pub next-stored : take (n - 0) after ≡ map factNumber (successor model-schema objects before)
       unfolding filled
       next-stored =
           ap (λ (k : ℕ). take k after) (sub-zero n) ∙ ap (take n) (becomes .listed)
           ∙ take-at (nextNumbers model-schema objects (take count numbers)) _ n (sym (becomes .counted)) ∙ next-are
 
-      pub next-length : length (take (n - 0) after) ≡ n
-      next-length = ap length next-stored ∙ length-map (successor model-schema objects before) factNumber ∙ sym next-count
+      pub next-within : n ≤ length after
+      unfolding filled
+      next-within =
+          let set = nextNumbers model-schema objects (take count numbers) in
+          let size = ap length (becomes .listed) ∙ length-append set (replicate (length numbers - length set) 0) in
+          let counted = becomes .counted in
+          omega arith

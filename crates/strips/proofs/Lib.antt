@@ -1,5 +1,6 @@
 pub mod Numbers
 pub mod Applying
+pub mod Replacing
 pub mod Tasks
 pub mod Refusing
 pub mod Pressing

@@ -15,7 +15,7 @@ use Rattle.card.specs.Represents.{schemaOf}
 use Rattle.card.specs.declared.AtomList.{AtomList}
 use Rattle.card.specs.declared.Schema.{Schema}
 use Rattle.sets.specs.Numbers.{withoutAll, insertedAll, Holds}
-use Rattle.state.specs.Rows.{factNumber, signature, Shape}
+use Rattle.state.specs.Rows.{factNumber, stored, signature, Shape}
 use Rattle.actions.specs.Grounds.{Bound}
 use Rattle.strips.specs.Answers.{appliedSays}
 use Rattle.strips.specs.declared.Applied.{Applied}
@@ -28,6 +28,13 @@ pub record Does (call : Call) (after : List ℕ) (r : Applied) : Type 0 where
 -- the next state is stored; a refusal alters no byte
 unfoldable pub leaving : List ℕ → Answer State → Call
 leaving buffer answer = finish buffer (answer >>= (λ next. accepted (store next buffer)))
+
+-- 20: the numbers of a state are stored, unless they are too many
+unfoldable pub replaced : List ℕ → List ℕ → Call
+replaced numbers buffer =
+    finish buffer (do
+      need (leb (length numbers) mostFacts) 20
+      accepted (record { answer = accepted (length numbers); buffer = stored numbers buffer }))
 
 -- 19 and 20
 unfoldable pub changed : model.Schema → List ℕ → State → Answer State

@@ -18,12 +18,13 @@ use state::store;
 use state::well_formed;
 ghost use mathlib.Core.Bool.{true};
 ghost use mathlib.Core.Path.{_≡_};
-ghost use lib.ListN.{take};
+ghost use Prim.Native.Nat.{_≤_};
+ghost use lib.ListN.{length, take};
 ghost use Rattle.model.specs.Strips.{factsIn};
 ghost use Rattle.card.specs.Represents.{schemaOf, taskOf, Represented};
 ghost use Rattle.sets.specs.Numbers.{rising, Becomes};
 ghost use Rattle.strips.specs.Answers.{Opens, Applies};
-ghost use Rattle.strips.specs.Stages.{Does, leaving, changed, bound, pressTask, initialTask, allHeld, nextNumbers};
+ghost use Rattle.strips.specs.Stages.{Does, leaving, replaced, changed, bound, pressTask, initialTask, allHeld, nextNumbers};
 ghost use Rattle.strips.specs.Stages.{Ready, NextReady, StateKept, SchemaKept};
 ghost use Rattle.actions.specs.Grounds.{Bound};
 
@@ -75,7 +76,20 @@ fn applicable(numbers: &[u32], schema: Schema, arities: &[u8], objects: &[u8]) -
     all_in(numbers, &needed_numbers[0..needed_count])
 }
 
-// 19 and 20. Nothing is written before the last check.
+// 20, the last check; only then is the next state written.
+fn store_next(state: &mut [u8], numbers: &[u32]) -> Applied
+    requires { ⌜ 4096 ≤ length (now state) ⌝ }
+    ensures { λ r. ⌜ Does (replaced (now (numbers .entry)) (now (state .entry))) (now (state .exit)) r ⌝ }
+{
+    let count = numbers.len();
+    if 1024 < count {
+        return Applied::StateFull;
+    }
+    store(state, numbers);
+    Applied::Count(count)
+}
+
+// 19 and 20.
 fn apply_bound(
     schema: Schema,
     arities: &[u8],
@@ -95,11 +109,7 @@ fn apply_bound(
         return Applied::PreconditionMissing;
     }
     let next = next_numbers(&mut numbers, count, schema, arities, objects);
-    if 1024 < next {
-        return Applied::StateFull;
-    }
-    store(state, &numbers[0..next]);
-    Applied::Count(next)
+    store_next(state, &numbers[0..next])
 }
 
 // 17 to 20: the objects first.
