@@ -18,6 +18,10 @@ unfoldable pub ascii : String → List ℕ
 ascii text.[] = []
 ascii (text._∷_ c rest) = code c ∷ ascii rest
 
+-- lines of text as bytes, each with its end
+unfoldable pub lines : List String → List ℕ
+lines texts = flatMap (λ line. ascii line ++ (10 ∷ [])) texts
+
 -- A question about the definitions.
 pub data Question : Type 0 where
   prints : List ℕ → Question  -- what the program prints on a card
@@ -105,7 +109,27 @@ table =
     record {
       question = prints k1;
       expected =
-          ascii "S 0 P : 0 1 : 0 1\nT : 1 0\nT : 0 1\nD 0\nD 1\nX 0 1\nS 1 P : 2 : 0 1\nT : 1\nM 2 1\nD 0\nS 2 A : 3 : 2 3\nS 3 S : 4 : 2 3\nF 2 2\nC 2 2\nC 3 2\nR 0 0 : 0 1\nR 1 0 : 0 1\nR 1 1 : 2 3\nR 1 2 : 2 3\n"
+          lines
+          ("S 0 P : 0 1 : 0 1"
+          ∷ "T : 1 0"
+          ∷ "T : 0 1"
+          ∷ "D 0"
+          ∷ "D 1"
+          ∷ "X 0 1"
+          ∷ "S 1 P : 2 : 0 1"
+          ∷ "T : 1"
+          ∷ "M 2 1"
+          ∷ "D 0"
+          ∷ "S 2 A : 3 : 2 3"
+          ∷ "S 3 S : 4 : 2 3"
+          ∷ "F 2 2"
+          ∷ "C 2 2"
+          ∷ "C 3 2"
+          ∷ "R 0 0 : 0 1"
+          ∷ "R 1 0 : 0 1"
+          ∷ "R 1 1 : 2 3"
+          ∷ "R 1 2 : 2 3"
+          ∷ [])
           ∷ [];
     }
     -- K2: schema 1 on 0 2 3 first, and on 0 2 2
@@ -128,7 +152,15 @@ table =
     ∷ record {
       question = prints k4;
       expected =
-          ascii "S 0 P : 0 1 : 0\nT : 1 1\nT : 0 2\nT : 0 1\nD 2\nC 0 1\nR 0 0 : 0\n" ∷ [];
+          lines
+          ("S 0 P : 0 1 : 0"
+          ∷ "T : 1 1"
+          ∷ "T : 0 2"
+          ∷ "T : 0 1"
+          ∷ "D 2"
+          ∷ "C 0 1"
+          ∷ "R 0 0 : 0"
+          ∷ []) ∷ [];
     }
     -- K5: M
     ∷ record { question = extends k5 0; expected = (77 ∷ 0 ∷ []) ∷ [] }
@@ -149,5 +181,5 @@ table =
 
 -- opens every definition of this module, for what is proved by computation
 unfoldable pub vectors-open : Unit {0}
-unfolding ascii said playing fresh opened extension reply cardOf answer k1 k4 k5 k6 act table
+unfolding ascii lines said playing fresh opened extension reply cardOf answer k1 k4 k5 k6 act table
 vectors-open = tt
