@@ -17,7 +17,7 @@ use Rattle.model.proofs.Checked.{checked}
 use Rattle.model.proofs.RoundTrip.{decode-checks, card-length}
 use Rattle.model.proofs.History.{opened, press-cases}
 use Rattle.card.specs.declared.Task.{Task as Kept}
-use Rattle.strips.specs.Answers.{Opens, Applies, appliedSays}
+use Rattle.strips.specs.Answers.{appliedSays, Does}
 use Rattle.strips.specs.declared.Applied.{Applied}
 use Rattle.writer_checks.specs.Tables.{tableOf}
 use Rattle.writer.specs.Answers.{writingSays, Encodes}
@@ -38,7 +38,7 @@ module _ (card buffer : List ℕ) where
   pressing-refused count action k e = ap (λ (x : Answer Call). finish buffer x .answer) (then-refused _ e)
 
   -- the opening call answers the number of the card's facts
-  initial-small : Small (initial card buffer .answer)
+  pub initial-small : Small (initial card buffer .answer)
   initial-small = record {
     within = λ n e. by-answer (decode card)
         (λ t d. let count = opened card t d buffer n e .all-counted in
@@ -48,7 +48,7 @@ module _ (card buffer : List ℕ) where
   }
 
   -- a press answers the number of the next state's facts
-  press-small : (count : ℕ) (action : Action) → Small (press card buffer count action .answer)
+  pub press-small : (count : ℕ) (action : Action) → Small (press card buffer count action .answer)
   press-small count action = record {
     within = λ n e. by-answer (decode card)
         (λ t d. ⊎-elim (λ r. no-value _ n (r .number) e (r .answered))
@@ -74,13 +74,8 @@ encode-small t out = record { within = λ n e. go n (checkTask t) refl (leb outp
         omega arith
 
 -- so what the functions answer is small
-pub opens-small : {card before after : List ℕ} {r : Applied} → Opens card before after r → Small (appliedSays r)
-opens-small {card} {before} opens = subst Small (sym (opens .answer)) (initial-small card before)
-
-pub applies-small :
-    {card before after : List ℕ} {count : ℕ} {action : Action} {r : Applied} → Applies card before count action after r → Small (appliedSays r)
-applies-small {card} {before} {after} {count} {action} applies =
-    subst Small (sym (applies .answer)) (press-small card before count action)
+pub does-small : {call : Call} {after : List ℕ} {r : Applied} → Does call after r → Small (call .answer) → Small (appliedSays r)
+does-small does small = subst Small (sym (does .answer)) small
 
 pub encodes-small : {t : Kept} {out after : List ℕ} {w : Writing} → Encodes t out after w → Small (writingSays w)
 encodes-small {t} {out} encodes = subst Small (sym (encodes .answer)) (encode-small (tableOf t) out)

@@ -29,8 +29,8 @@ use Rattle.state.specs.Rows.{factNumber, numbersIn, signature, stored, Shape}
 use Rattle.state.proofs.Writing.{length-numbersIn}
 use Rattle.state.proofs.FactNumbers.{allKnown, member-has, numbers-puts, numbers-removed, rising-state, numbers-of-rows, stored-written, put-known, keep-known}
 use Rattle.actions.specs.Grounds.{Bound}
-use Rattle.strips.specs.Answers.{appliedSays}
-use Rattle.strips.specs.Stages.{Does, leaving, replaced, changed, allHeld, nextNumbers, ListKept, StateKept, Ready, NextReady}
+use Rattle.strips.specs.Answers.{appliedSays, Does}
+use Rattle.strips.specs.Stages.{leaving, replaced, changed, allHeld, nextNumbers, ListKept, StateKept, Ready, NextReady}
 use Rattle.strips.proofs.Replacing.{replaced-by-facts}
 use Rattle.strips.specs.declared.Applied.{Applied}
 use Rattle.strips.specs.declared.Applied.the-variants.{PreconditionMissing}

@@ -1,6 +1,6 @@
 -- The calls, from what the card reader answers: a refusal is handed through, and an accepted card's task goes on.
 use Prim.Native.Nat.{ℕ}
-use mathlib.Core.Path.{_≡_, refl, sym, ap, _∙_}
+use mathlib.Core.Path.{_≡_, refl, sym, ap, subst}
 use mathlib.Core.List.{List}
 use lib.Dec.{leb}
 use lib.ListN.{length}
@@ -13,8 +13,8 @@ use Rattle.card.specs.declared.Decoded.{Decoded}
 use Rattle.card.specs.declared.Refusal.{Refusal}
 use Rattle.card.specs.declared.Verdict.the-variants.{Accepted, Refused}
 use Rattle.card.proofs.Deciding.{refuses, accepts}
-use Rattle.strips.specs.Answers.{Opens, Applies, appliedSays}
-use Rattle.strips.specs.Stages.{Does, pressTask, initialTask}
+use Rattle.strips.specs.Answers.{appliedSays, Does}
+use Rattle.strips.specs.Stages.{pressTask, initialTask}
 use Rattle.strips.specs.declared.Applied.{Applied}
 use Rattle.strips.specs.declared.Applied.the-variants.{CardRefused}
 
@@ -28,40 +28,31 @@ presses-with buffer count action answer =
     finish buffer (answer >>= (λ t. need (wellFormed t buffer count) 15
     >> (apply t action (factsIn (t .arities) count buffer) >>= (λ next. accepted (store next buffer)))))
 
--- a call that is done is the call that was promised
-opened-by : (card buffer after : List ℕ) (r : Applied) (call : Call) → initial card buffer ≡ call → Does call after r → Opens card buffer after r
-opened-by card buffer after r call e does =
-    record { answer = does .answer ∙ sym (ap (λ (c : Call). c .answer) e); buffer = does .buffer ∙ sym (ap (λ (c : Call). c .buffer) e) }
-
-applied-by :
-    (card buffer after : List ℕ) (count : ℕ) (action : Action) (r : Applied) (call : Call) → press card buffer count action ≡ call
-    → Does call after r → Applies card buffer count action after r
-applied-by card buffer after count action r call e does =
-    record { answer = does .answer ∙ sym (ap (λ (c : Call). c .answer) e); buffer = does .buffer ∙ sym (ap (λ (c : Call). c .buffer) e) }
-
 module _ (card : List ℕ) (d : Decoded) (decodes : Decodes card d) where
   -- a refused card
   module _ (r : Refusal) (verdict : d .verdict ≡ Refused r) where
-    pub opening-refused : (buffer : List ℕ) → Opens card buffer buffer (CardRefused r)
+    pub opening-refused : (buffer : List ℕ) → Does (initial card buffer) buffer (CardRefused r)
     unfolding initial _>>=_ finish appliedSays
     opening-refused buffer =
-        opened-by card buffer buffer (CardRefused r) _ (ap (opens-with buffer) (refuses card d decodes r verdict)) (record { answer = refl; buffer = refl })
+        subst (λ (call : Call). Does call buffer (CardRefused r)) (sym (ap (opens-with buffer) (refuses card d decodes r verdict)))
+        (record { answer = refl; buffer = refl })
 
-    pub applying-refused : (buffer : List ℕ) (count : ℕ) (action : Action) → Applies card buffer count action buffer (CardRefused r)
+    pub applying-refused : (buffer : List ℕ) (count : ℕ) (action : Action) → Does (press card buffer count action) buffer (CardRefused r)
     unfolding press _>>=_ finish appliedSays
     applying-refused buffer count action =
-        applied-by card buffer buffer count action (CardRefused r) _ (ap (presses-with buffer count action) (refuses card d decodes r verdict))
+        subst (λ (call : Call). Does call buffer (CardRefused r)) (sym (ap (presses-with buffer count action) (refuses card d decodes r verdict)))
         (record { answer = refl; buffer = refl })
 
   -- an accepted card
   module _ (verdict : d .verdict ≡ Accepted) where
-    pub opening : (buffer after : List ℕ) (r : Applied) → Does (initialTask (taskOf (d .task)) buffer) after r → Opens card buffer after r
+    pub opening : (buffer after : List ℕ) (r : Applied) → Does (initialTask (taskOf (d .task)) buffer) after r → Does (initial card buffer) after r
     unfolding initial initialTask _>>=_
-    opening buffer after r does = opened-by card buffer after r _ (ap (opens-with buffer) (accepts card d decodes verdict)) does
+    opening buffer after r does =
+        subst (λ (call : Call). Does call after r) (sym (ap (opens-with buffer) (accepts card d decodes verdict))) does
 
     pub applying :
         (buffer after : List ℕ) (count : ℕ) (action : Action) (r : Applied) → Does (pressTask (taskOf (d .task)) buffer count action) after r
-        → Applies card buffer count action after r
+        → Does (press card buffer count action) after r
     unfolding press pressTask _>>=_
     applying buffer after count action r does =
-        applied-by card buffer after count action r _ (ap (presses-with buffer count action) (accepts card d decodes verdict)) does
+        subst (λ (call : Call). Does call after r) (sym (ap (presses-with buffer count action) (accepts card d decodes verdict))) does

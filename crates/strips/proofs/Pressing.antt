@@ -17,7 +17,8 @@ use Rattle.card.proofs.Counts.{schema-count, fact-count, facts-few}
 use Rattle.state.specs.Rows.{factNumber, signature, inRange, stored, Shape}
 use Rattle.state.proofs.FactNumbers.{stored-written}
 use Rattle.actions.specs.Grounds.{FactsRight}
-use Rattle.strips.specs.Stages.{Does, leaving, bound, pressTask, initialTask, SchemaKept, StateKept}
+use Rattle.strips.specs.Answers.{Does}
+use Rattle.strips.specs.Stages.{leaving, bound, pressTask, initialTask, SchemaKept, StateKept}
 use Rattle.strips.specs.declared.Applied.{Applied}
 use Rattle.strips.specs.declared.Applied.the-variants.{Count, StateMalformed, SchemaUnknown}
 use Rattle.strips.proofs.Tasks.{modelTask, arities, task-shape, arities-part, formed-shaped, few-schemas, chosen-is, chosen-kept}

@@ -12,8 +12,8 @@ use Rattle.model.specs.Answer.{Answer, refused, accepted, _>>=_, _>>_, need}
 use Rattle.model.specs.Card.{Schema, Task}
 use Rattle.model.specs.Strips.{State, Action, factsIn, wellFormed, schemaAt, checkAction, apply, written}
 use Rattle.model.specs.Calls.{finish, store}
-use Rattle.strips.specs.Answers.{appliedSays}
-use Rattle.strips.specs.Stages.{Does, leaving, changed, bound, pressTask, initialTask}
+use Rattle.strips.specs.Answers.{appliedSays, Does}
+use Rattle.strips.specs.Stages.{leaving, changed, bound, pressTask, initialTask}
 use Rattle.strips.specs.declared.Applied.the-variants.{Count, StateMalformed, SchemaUnknown, ObjectsWrong, ObjectsRepeated}
 
 -- 17 and 18

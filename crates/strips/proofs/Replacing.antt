@@ -10,8 +10,8 @@ use Rattle.model.specs.Answer.{accepted, _>>=_, _>>_, need}
 use Rattle.model.specs.Strips.{State, mostFacts, written}
 use Rattle.model.specs.Calls.{Call, finish, store}
 use Rattle.state.specs.Rows.{stored}
-use Rattle.strips.specs.Answers.{appliedSays}
-use Rattle.strips.specs.Stages.{Does, leaving, replaced}
+use Rattle.strips.specs.Answers.{appliedSays, Does}
+use Rattle.strips.specs.Stages.{leaving, replaced}
 use Rattle.strips.specs.declared.Applied.the-variants.{Count, StateFull}
 
 module _ (numbers buffer : List ℕ) where

@@ -17,13 +17,6 @@ use Rattle.card.specs.declared.Schema.{Schema}
 use Rattle.sets.specs.Numbers.{withoutAll, insertedAll, Holds}
 use Rattle.state.specs.Rows.{factNumber, stored, signature, Shape}
 use Rattle.actions.specs.Grounds.{Bound}
-use Rattle.strips.specs.Answers.{appliedSays}
-use Rattle.strips.specs.declared.Applied.{Applied}
-
--- What a function answers and leaves in the buffer is what a call of the definition does.
-pub record Does (call : Call) (after : List ℕ) (r : Applied) : Type 0 where
-  pub answer : appliedSays r ≡ call .answer
-  pub buffer : after ≡ call .buffer
 
 -- the next state is stored; a refusal alters no byte
 unfoldable pub leaving : List ℕ → Answer State → Call

@@ -21,10 +21,11 @@ ghost use mathlib.Core.Path.{_≡_};
 ghost use Prim.Native.Nat.{_≤_};
 ghost use lib.ListN.{length, take};
 ghost use Rattle.model.specs.Strips.{factsIn};
+ghost use Rattle.model.specs.Calls.{initial, press};
 ghost use Rattle.card.specs.Represents.{schemaOf, taskOf, Represented};
 ghost use Rattle.sets.specs.Numbers.{rising, Becomes};
-ghost use Rattle.strips.specs.Answers.{Opens, Applies};
-ghost use Rattle.strips.specs.Stages.{Does, leaving, replaced, changed, bound, pressTask, initialTask, allHeld, nextNumbers};
+ghost use Rattle.strips.specs.Answers.{Does};
+ghost use Rattle.strips.specs.Stages.{leaving, replaced, changed, bound, pressTask, initialTask, allHeld, nextNumbers};
 ghost use Rattle.strips.specs.Stages.{Ready, NextReady, StateKept, SchemaKept};
 ghost use Rattle.actions.specs.Grounds.{Bound};
 
@@ -191,7 +192,7 @@ fn open_task(task: Task, state: &mut [u8]) -> Applied
 
 // The opening call: the initial state of a card's task is written to the buffer, and its count is answered.
 pub fn initial(card: &[u8], state: &mut [u8]) -> Applied
-    ensures { λ r. ⌜ Opens (now (card .entry)) (now (state .entry)) (now (state .exit)) r ⌝ }
+    ensures { λ r. ⌜ Does (initial (now (card .entry)) (now (state .entry))) (now (state .exit)) r ⌝ }
 {
     let decoded = decode(card);
     let verdict = decoded.verdict;
@@ -205,7 +206,7 @@ pub fn initial(card: &[u8], state: &mut [u8]) -> Applied
 // An action is applied to the state in the buffer, and the next state's count is answered. A refusal alters no byte.
 pub fn apply(card: &[u8], state: &mut [u8], count: usize, schema: usize, objects: &[u8]) -> Applied
     ensures { λ r. ⌜
-        Applies (now (card .entry)) (now (state .entry)) count (record { schema = schema; objects = now (objects .entry) }) (now (state .exit)) r
+        Does (press (now (card .entry)) (now (state .entry)) count (record { schema = schema; objects = now (objects .entry) })) (now (state .exit)) r
         ⌝ }
 {
     let decoded = decode(card);

@@ -2,7 +2,7 @@
 use borrow.Author.Needs.{needs}
 use mathlib.Core.Path.{sym}
 use Rattle.capi.proofs.Codes.{same-code}
-use Rattle.capi.proofs.Sizes.{opens-small}
+use Rattle.capi.proofs.Sizes.{does-small, initial-small}
 use Rattle.capi.proofs.stakestalk_initial.Statement.{statement}
 use Rattle.capi.proofs.stakestalk_initial.Tie as tie
 
@@ -10,7 +10,7 @@ initial-requires : tie.Need-initial-requires
 initial-requires c κs = search needs
 
 applied-code-requires : tie.Need-applied-code-requires
-applied-code-requires c κs = opens-small (c .before .before .initial .ensures)
+applied-code-requires c κs = does-small (c .before .before .initial .ensures) (initial-small _ _)
 
 same-length : tie.Need-same-length
 same-length c = search needs

@@ -2,7 +2,7 @@
 use borrow.Author.Needs.{needs}
 use mathlib.Core.Path.{sym}
 use Rattle.capi.proofs.Codes.{same-code}
-use Rattle.capi.proofs.Sizes.{applies-small}
+use Rattle.capi.proofs.Sizes.{does-small, press-small}
 use Rattle.capi.proofs.stakestalk_press.Statement.{statement}
 use Rattle.capi.proofs.stakestalk_press.Tie as tie
 
@@ -10,7 +10,7 @@ apply-requires : tie.Need-apply-requires
 apply-requires c κs = search needs
 
 applied-code-requires : tie.Need-applied-code-requires
-applied-code-requires c κs = applies-small (c .before .before .apply .ensures)
+applied-code-requires c κs = does-small (c .before .before .apply .ensures) (press-small _ _ _ _)
 
 same-length : tie.Need-same-length
 same-length c = search needs

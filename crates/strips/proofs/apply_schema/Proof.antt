@@ -5,7 +5,8 @@ use borrow.Author.Tests.{not-true, not-false}
 use Rattle.model.specs.Answer.{Answer}
 use Rattle.model.specs.Strips.{State, factsIn}
 use Rattle.card.specs.Represents.{schemaOf}
-use Rattle.strips.specs.Stages.{Does, leaving}
+use Rattle.strips.specs.Answers.{Does}
+use Rattle.strips.specs.Stages.{leaving}
 use Rattle.strips.proofs.Refusing.{wrong-number, unknown-object, object-repeated, objects-bound}
 use Rattle.strips.proofs.apply_schema.Statement.{statement}
 use Rattle.strips.proofs.apply_schema.Tie as tie
