@@ -209,15 +209,18 @@ module _ (first y z w : ℕ) (table : List ℕ) where
   enter-one zero h fits = absurd (not-suc-le-zero h)
   enter-one (suc arity) h fits = enter-here first y (take arity (z ∷ w ∷ [])) table fits
 
-  pub enter-two : (arity : ℕ) → 2 ≤ arity → Enterable first (take arity (y ∷ z ∷ w ∷ [])) table → (a : List ℕ) → a ≡ raised table (60 * y + first)
-      → (60 * z + (first + 1) < length a) × (getD a (60 * z + (first + 1)) 0 < 65535)
+  pub enter-two : (arity : ℕ) → 2 ≤ arity → Enterable first (take arity (y ∷ z ∷ w ∷ [])) table
+      → (a : List ℕ) → a ≡ raised table (60 * y + first) → (60 * z + (first + 1) < length a) × (getD a (60 * z + (first + 1)) 0 < 65535)
   enter-two zero h fits a e = absurd (not-suc-le-zero h)
   enter-two (suc zero) h fits a e = absurd (not-suc-le-zero (le-of-suc-le-suc h))
   enter-two (suc (suc arity)) h fits a e =
-      rw (e, add-one) (enter-here (suc first) z (take arity (w ∷ [])) (raised table (60 * y + first)) (enter-next first y (z ∷ take arity (w ∷ [])) table fits))
+      rw (e, add-one)
+      (enter-here (suc first) z (take arity (w ∷ [])) (raised table (60 * y + first))
+      (enter-next first y (z ∷ take arity (w ∷ [])) table fits))
 
-  pub enter-three : (arity : ℕ) → arity ≡ 3 → Enterable first (take arity (y ∷ z ∷ w ∷ [])) table → (a b : List ℕ) → a ≡ raised table (60 * y + first)
-      → b ≡ raised a (60 * z + (first + 1)) → (60 * w + (first + 2) < length b) × (getD b (60 * w + (first + 2)) 0 < 65535)
+  pub enter-three : (arity : ℕ) → arity ≡ 3 → Enterable first (take arity (y ∷ z ∷ w ∷ [])) table
+      → (a b : List ℕ) → a ≡ raised table (60 * y + first) → b ≡ raised a (60 * z + (first + 1))
+      → (60 * w + (first + 2) < length b) × (getD b (60 * w + (first + 2)) 0 < 65535)
   enter-three arity k fits a b e f =
       let whole : Enterable first (y ∷ z ∷ w ∷ []) table = subst (λ (n : ℕ). Enterable first (take n (y ∷ z ∷ w ∷ [])) table) k fits in
       rw (f, e, add-one, add-two)

@@ -30,7 +30,8 @@ nothing-counted arities x few =
     (λ i h. omega (arith, getD-zeros 60 i, bag-at-most (propertiesFrom 0 arities) [] x i))
 
 -- an atom's arguments are as many as its predicate's arity
-pub length-arguments : (arities : List ℕ) (a : Atom) → getD arities (a .predicate) 0 ≤ 3 → length (atomOf arities a .arguments) ≡ getD arities (a .predicate) 0
+pub length-arguments : (arities : List ℕ) (a : Atom) → getD arities (a .predicate) 0 ≤ 3
+    → length (atomOf arities a .arguments) ≡ getD arities (a .predicate) 0
 unfolding atomOf
 length-arguments arities a h = length-take-le (getD arities (a .predicate) 0) (a .first ∷ a .second ∷ a .third ∷ []) h
 

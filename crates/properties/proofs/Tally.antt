@@ -99,7 +99,10 @@ module _ (x first y z w : ℕ) (bag : List ℕ) where
   pub tallied-two : (arity : ℕ) (a b : List ℕ) → arity ≡ 2 → a ≡ marked x y first bag → b ≡ marked x z (first + 1) a
       → b ≡ tallied x first (take arity (y ∷ z ∷ w ∷ [])) bag
   unfolding tallied
-  tallied-two arity a b e p q = rw e (q ∙ ap (λ (l : List ℕ). marked x z (first + 1) l) p ∙ ap (λ (n : ℕ). marked x z n (marked x y first bag)) (add-one first))
+  tallied-two arity a b e p q =
+      rw e
+      (q ∙ ap (λ (l : List ℕ). marked x z (first + 1) l) p
+      ∙ ap (λ (n : ℕ). marked x z n (marked x y first bag)) (add-one first))
 
   pub tallied-three : (arity : ℕ) (a b c : List ℕ) → arity ≡ 3 → a ≡ marked x y first bag → b ≡ marked x z (first + 1) a
       → c ≡ marked x w (first + 2) b → c ≡ tallied x first (take arity (y ∷ z ∷ w ∷ [])) bag

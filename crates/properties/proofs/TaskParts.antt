@@ -121,8 +121,8 @@ module _ (task : Task) (r : Represented task (taskOf task)) where
       (getD (taskOf task .facts) i (atomOf arities d)) (mem-getD (taskOf task .facts) i (atomOf arities d) (omega (arith, h, fact-count task r))))
 
   -- of a predicate whose properties have their places
-  pub fact-placed : (firsts : List ℕ) → firsts ≡ padded 20 0 (firstProperties (aritiesOf (task .predicates))) → length (task .predicates .arities) ≡ 20
-      → (i : ℕ) (d : Atom) → i < task .facts .count
+  pub fact-placed : (firsts : List ℕ) → firsts ≡ padded 20 0 (firstProperties (aritiesOf (task .predicates)))
+      → length (task .predicates .arities) ≡ 20 → (i : ℕ) (d : Atom) → i < task .facts .count
       → (getD (task .facts .facts) i d .predicate < length (aritiesOf (task .predicates)))
       × Placed (task .predicates) firsts (getD (task .facts .facts) i d .predicate)
   unfolding atomOf known

@@ -28,21 +28,26 @@ Inv-loop k atoms predicates firsts n bag₀ i₀ bag i = Passed k atoms predicat
 abbrev μ-loop : tie.MeasureT-loop
 μ-loop k atoms predicates firsts n bag₀ i₀ bag i = n - i
 
+-- the loop, from the atom that a turn takes; and this, from its predicate's arity
+abbrev in-loop : tie.After-a Inv-loop μ-loop → tie.At-loop Inv-loop μ-loop
+in-loop c = c .before .before
+
+abbrev taken : tie.After-wide2 Inv-loop μ-loop → tie.After-a Inv-loop μ-loop
+taken c = c .before .before .before
+
 -- the array of atoms has eight places
 eight : (s : tie.Start Inv-loop μ-loop) → length (s .args .t1 .atoms) ≡ 8
 eight s = sym (length-map (s .args .t1 .atoms) _) ∙ s .good .0 .1 .1 .1 .0 .1 .0 .1
 
 -- the atom that a turn takes: its predicate is known
 here : (c : tie.After-a Inv-loop μ-loop)
-    → (getD (c .before .before .before .args .t1 .atoms) (c .before .before .loop .i) blankAtom .predicate
-    < length (aritiesOf (c .before .before .before .args .t2)))
-    × Placed (c .before .before .before .args .t2) (c .before .before .before .args .t3)
-    (getD (c .before .before .before .args .t1 .atoms) (c .before .before .loop .i) blankAtom .predicate)
+    → (getD (in-loop c .before .args .t1 .atoms) (in-loop c .loop .i) blankAtom .predicate < length (aritiesOf (in-loop c .before .args .t2)))
+    × Placed (in-loop c .before .args .t2) (in-loop c .before .args .t3)
+    (getD (in-loop c .before .args .t1 .atoms) (in-loop c .loop .i) blankAtom .predicate)
 here c =
-    let s = c .before .before .before in
-    let e : length (c .before .before .before .args .t2 .arities) ≡ 20 = search needs in
-    at-atom (s .args .t1) (s .args .t2) (s .args .t3) (s .pre .0) (s .pre .1 .0) (s .pre .1 .1) e (eight s)
-    (c .before .before .loop .i) blankAtom (c .before .loop-test .taken)
+    let s = in-loop c .before in
+    let e : length (in-loop c .before .args .t2 .arities) ≡ 20 = search needs in
+    at-atom _ _ _ (s .pre .0) (s .pre .1 .0) (s .pre .1 .1) e (eight s) _ blankAtom (c .before .loop-test .taken)
 
 -- no count of a bag over at most eight atoms is large
 small : (s : tie.Start Inv-loop μ-loop) (bag : List ℕ) (i : ℕ) → Passed (s .args .k) (s .args .t1) (s .args .t2) bag i → (j : ℕ) → getD bag j 0 < 255
@@ -79,24 +84,23 @@ wide-requires-2 : tie.Need-wide-requires-2 Inv-loop μ-loop
 wide-requires-2 c κs = tt
 
 slice-aggregate-count-atom : tie.Need-slice-aggregate-count-atom Inv-loop μ-loop
-slice-aggregate-count-atom c = sym (c .before .before .before .before .before .before .loop .inv .sized)
+slice-aggregate-count-atom c = sym (in-loop (taken (c .before)) .loop .inv .sized)
 
 mul-count-atom : tie.Need-mul-count-atom Inv-loop μ-loop
 mul-count-atom c = omega arith
 
 array-read-count-atom : tie.Need-array-read-count-atom Inv-loop μ-loop
 unfolding blankAtom
-array-read-count-atom c = subst (λ (n : ℕ). n < 20) (sym (c .before .before .before .wide .ensures .0)) (here (c .before .before .before .before) .1 .below)
+array-read-count-atom c = subst (λ (n : ℕ). n < 20) (sym (c .before .before .before .wide .ensures .0)) (here (taken (c .before)) .1 .below)
 
 count-atom-requires : tie.Need-count-atom-requires Inv-loop μ-loop
 unfolding blankAtom
 count-atom-requires c κs =
-    let s = c .before .before .before .before .before .before .before in
-    let at = c .before .before .before .before .before .before .loop in (
-      atom-asked (s .args .t2) (s .args .t3) _ (c .before .before .before .wide .result) (c .before .wide2 .result) (length (at .bag))
-          (here (c .before .before .before .before) .1) (c .before .before .before .wide .ensures .0) (c .before .wide2 .ensures .0)
-          (omega (arith, at .inv .sized)),
-      λ i. small s (at .bag) (at .i) (at .inv) i,
+    let read = c .before in
+    let loop = in-loop (taken read) in (
+      atom-asked _ _ _ _ _ _ (here (taken read) .1) (read .before .before .wide .ensures .0) (read .wide2 .ensures .0)
+          (omega (arith, loop .loop .inv .sized)),
+      small (loop .before) _ _ (loop .loop .inv),
     )
 
 add-i : tie.Need-add-i Inv-loop μ-loop
@@ -108,18 +112,17 @@ loop-less c = omega arith
 loop-again : tie.Need-loop-again Inv-loop μ-loop
 unfolding blankAtom
 loop-again c =
-    let s = c .before .before .before .before .before .before .before .before .before in
-    let at = c .before .before .before .before .before .before .before .before .loop in
+    let called = c .before in
+    let read = called .before .before in
+    let loop = in-loop (taken read) in
+    let s = loop .before in
     let few = s .pre .1 .0 .few in
     record {
       inside = omega arith;
-      sized = c .before .count-atom .kept .0 ∙ at .inv .sized;
+      sized = called .count-atom .kept .0 ∙ loop .loop .inv .sized;
       bag-is =
-          turn (s .args .t1) (s .args .t2) (s .args .t3) (s .pre .0) (s .args .k) (at .i) blankAtom (omega (arith, eight s))
-          (c .before .before .before .before .before .before .before .loop-test .taken) (here (c .before .before .before .before .before .before))
-          (c .before .before .before .before .before .wide .result) (c .before .before .before .wide2 .result)
-          (c .before .before .before .before .before .wide .ensures .0) (c .before .before .before .wide2 .ensures .0)
-          (at .bag) (c .before .count-atom .last .0) (at .inv .bag-is) (c .before .count-atom .ensures);
+          turn _ _ _ (s .pre .0) _ _ blankAtom (omega (arith, eight s)) (taken read .before .loop-test .taken) (here (taken read)) _ _
+          (read .before .before .wide .ensures .0) (read .wide2 .ensures .0) _ _ (loop .loop .inv .bag-is) (called .count-atom .ensures);
     }
 
 returns : tie.Need-returns Inv-loop μ-loop

@@ -35,14 +35,33 @@ Inv-loop counts₀ predicates facts firsts m objects i₀ counts i = Passed coun
 abbrev μ-loop : tie.MeasureT-loop
 μ-loop counts₀ predicates facts firsts m objects i₀ counts i = m - i
 
+-- what is given, from the table emptied; and that, from the loop on
+abbrev given : tie.After-clear-rows Inv-loop μ-loop → tie.Start Inv-loop μ-loop
+given c = c .before .before .before .before .before .before .before
+
+abbrev clearing : tie.At-loop Inv-loop μ-loop → tie.After-clear-rows Inv-loop μ-loop
+clearing c = c .before .before .before
+
+abbrev entry : tie.At-loop Inv-loop μ-loop → tie.Start Inv-loop μ-loop
+entry c = given (clearing c)
+
+-- the first properties of the predicates
+abbrev firsts : tie.At-loop Inv-loop μ-loop → List ℕ
+firsts c = clearing c .before .before .before .numbered .result .firsts
+
+-- the loop, from the fact that a turn takes; and this, from its predicate's arity
+abbrev in-loop : tie.After-fact Inv-loop μ-loop → tie.At-loop Inv-loop μ-loop
+in-loop c = c .before .before
+
+abbrev taken : tie.After-wide2 Inv-loop μ-loop → tie.After-fact Inv-loop μ-loop
+taken c = c .before .before .before
+
 -- the rows of all objects are in the table that was emptied
-room : (c : tie.At-loop Inv-loop μ-loop) → 60 * c .before .before .before .before .before .before .before .before .before
-    .before .args .task .objects ≤ length (c .before .before .before .clear-rows .last .0)
+room : (c : tie.At-loop Inv-loop μ-loop) → 60 * entry c .args .task .objects ≤ length (clearing c .clear-rows .last .0)
 room c =
-    let s = c .before .before .before .before .before .before .before .before .before .before in
-    let few = objects-few (s .args .task) (s .pre .0) in
-    let large = s .pre .1 in
-    omega (arith, c .before .before .before .clear-rows .kept .0)
+    let few = objects-few _ (entry c .pre .0) in
+    let large = entry c .pre .1 in
+    omega (arith, clearing c .clear-rows .kept .0)
 
 -- the emptied table counts no fact
 emptied : (s : tie.Start Inv-loop μ-loop)
@@ -55,69 +74,52 @@ emptied s =
     cleared-table (aritiesOf (task .predicates)) (sum-arities (task .predicates) (arities-right task (s .pre .0))) (task .objects)
     (now (s .args .counts)) (omega arith)
 
+-- the array of arities has twenty places
+twenty : (s : tie.Start Inv-loop μ-loop) → length (s .args .task .predicates .arities) ≡ 20
+twenty s = search needs
+
 -- the fact that a turn takes: its predicate is known
 here : (c : tie.After-fact Inv-loop μ-loop)
-    → (getD (c .before .before .before .before .before .before .before .before .before .before .before .before .args .task .facts .facts)
-    (c .before .before .loop .i) blankAtom .predicate < length
-    (aritiesOf (c .before .before .before .before .before .before .before .before .before .before .before .before .args .task .predicates)))
-    × Placed (c .before .before .before .before .before .before .before .before .before .before .before .before .args .task .predicates)
-    (c .before .before .before .before .before .before .before .before .numbered .result .firsts)
-    (getD (c .before .before .before .before .before .before .before .before .before .before .before .before .args .task .facts .facts)
-    (c .before .before .loop .i) blankAtom .predicate)
+    → (getD (entry (in-loop c) .args .task .facts .facts) (in-loop c .loop .i) blankAtom .predicate
+    < length (aritiesOf (entry (in-loop c) .args .task .predicates)))
+    × Placed (entry (in-loop c) .args .task .predicates) (firsts (in-loop c))
+    (getD (entry (in-loop c) .args .task .facts .facts) (in-loop c .loop .i) blankAtom .predicate)
 here c =
-    let s = c .before .before .before .before .before .before .before .before .before .before .before .before in
-    let e : length (c .before .before .before .before .before .before .before .before .before .before .before .before .args .task .predicates .arities) ≡ 20 = search needs in
-    fact-placed (s .args .task) (s .pre .0) (c .before .before .before .before .before .before .before .before .numbered .result .firsts)
-    (c .before .before .before .before .before .before .before .before .numbered .ensures .firsts) e
-    (c .before .before .loop .i) blankAtom (c .before .loop-test .taken)
+    let loop = in-loop c in
+    fact-placed _ (entry loop .pre .0) _ (clearing loop .before .before .before .numbered .ensures .firsts) (twenty (entry loop)) _ blankAtom
+    (c .before .loop-test .taken)
 
 -- no more facts are passed than there are
 few : (c : tie.At-loop Inv-loop μ-loop)
-    → length
-    (take (c .loop .i) (factsOf (aritiesOf (c .before .before .before .before .before .before .before .before .before
-    .before .args .task .predicates)) (c .before .before .before .before .before .before .before .before .before .before .args .task .facts))) ≤ 512
+    → length (take (c .loop .i) (factsOf (aritiesOf (entry c .args .task .predicates)) (entry c .args .task .facts))) ≤ 512
 unfolding taskOf
 few c =
-    let s = c .before .before .before .before .before .before .before .before .before .before in
-    omega (
-      arith,
-      facts-few (s .args .task) (s .pre .0),
-      fact-count (s .args .task) (s .pre .0),
-      length-take (c .loop .i) (taskOf (s .args .task) .facts),
-    )
+    let s = entry c in
+    omega (arith, facts-few _ (s .pre .0), fact-count _ (s .pre .0), length-take (c .loop .i) (taskOf (s .args .task) .facts))
 
 numbered-requires : tie.Need-numbered-requires Inv-loop μ-loop
-numbered-requires c κs = arities-right (c .before .before .before .args .task) (c .before .before .before .pre .0) .few
+numbered-requires c κs = arities-right _ (c .before .before .before .pre .0) .few
 
 clear-rows-requires : tie.Need-clear-rows-requires Inv-loop μ-loop
 clear-rows-requires c κs =
     let s = c .before .before .before .before .before .before in
-    let few = objects-few (s .args .task) (s .pre .0) in
+    let few = objects-few _ (s .pre .0) in
     let large = s .pre .1 in
     omega arith
 
 loop-holds : tie.Need-loop-holds Inv-loop μ-loop
 loop-holds c =
-    let s = c .before .before .before .before .before .before .before .before .before in
-    let call = c .before .before .clear-rows in
-    let task = s .args .task in
-    let arities = aritiesOf (task .predicates) in
+    let cleared = c .before .before in
     record {
       inside = omega arith;
-      holds =
-          from-here _ (task .objects) (now (s .args .counts)) (call .last .0)
-          (subst (BagTable (bagOf (propertiesFrom 0 arities) []) (task .objects) (now (s .args .counts))) (sym (call .ensures)) (emptied s));
+      holds = from-here _ _ _ _ (subst (BagTable _ _ _) (sym (cleared .clear-rows .ensures)) (emptied (given cleared)));
     }
 
 mul-fact : tie.Need-mul-fact Inv-loop μ-loop
-mul-fact c =
-    let few = facts-few (c .before .before .before .before .before .before .before .before .before .before .before .args .task)
-    (c .before .before .before .before .before .before .before .before .before .before .before .pre .0) in omega arith
+mul-fact c = let few = facts-few _ (entry (c .before) .pre .0) in omega arith
 
 element-copy-out-fact : tie.Need-element-copy-out-fact Inv-loop μ-loop
-element-copy-out-fact c =
-    let few = facts-few (c .before .before .before .before .before .before .before .before .before .before .before .args .task)
-    (c .before .before .before .before .before .before .before .before .before .before .before .pre .0) in omega arith
+element-copy-out-fact c = let few = facts-few _ (entry (c .before) .pre .0) in omega arith
 
 wide-requires : tie.Need-wide-requires Inv-loop μ-loop
 wide-requires c κs = tt
@@ -131,7 +133,7 @@ wide-requires-2 c κs = tt
 
 array-read-enter-fact : tie.Need-array-read-enter-fact Inv-loop μ-loop
 unfolding blankAtom
-array-read-enter-fact c = subst (λ (n : ℕ). n < 20) (sym (c .before .before .before .wide .ensures .0)) (here (c .before .before .before .before) .1 .below)
+array-read-enter-fact c = subst (λ (n : ℕ). n < 20) (sym (c .before .before .before .wide .ensures .0)) (here (taken (c .before)) .1 .below)
 
 mul-enter-fact : tie.Need-mul-enter-fact Inv-loop μ-loop
 mul-enter-fact c = omega (arith, array-read-enter-fact c)
@@ -139,28 +141,22 @@ mul-enter-fact c = omega (arith, array-read-enter-fact c)
 enter-fact-requires : tie.Need-enter-fact-requires Inv-loop μ-loop
 unfolding blankAtom
 enter-fact-requires c κs =
-    let s = c .before .before .before .before .before .before .before .before .before .before .before .before .before .before .before .before in
-    let at = c .before .before .before .before .before .before .loop in
-    let task = s .args .task in
-    let firsts = c .before .before .before .before .before .before .before .before .before .before .before .before .numbered .result .firsts in
-    let asked = atom-asked (task .predicates) firsts _ (c .before .before .before .wide .result) (c .before .wide2 .result) 60
-    (here (c .before .before .before .before) .1) (c .before .before .before .wide .ensures .0) (c .before .wide2 .ensures .0) (omega arith) in (
+    let read = c .before in
+    let loop = in-loop (taken read) in
+    let pre = entry loop .pre .0 in
+    let predicate-is = read .before .before .wide .ensures .0 in
+    let arity-is = read .wide2 .ensures .0 in
+    let asked = atom-asked _ _ _ _ _ 60 (here (taken read) .1) predicate-is arity-is (omega arith) in (
       (asked .0, asked .1),
-      fact-fits (task .predicates) firsts (arities-right task (s .pre .0)) (task .objects) _ (at .counts) _
-          (getD (task .facts .facts) (at .i) blankAtom) (c .before .before .before .wide .result) (c .before .wide2 .result)
-          (at .inv .holds) (room (c .before .before .before .before .before .before))
-          (few (c .before .before .before .before .before .before))
-          (fact-known task (s .pre .0) (at .i) blankAtom (c .before .before .before .before .before .loop-test .taken))
-          (here (c .before .before .before .before))
-          (c .before .before .before .wide .ensures .0) (c .before .wide2 .ensures .0),
+      fact-fits _ _ (arities-right _ pre) _ _ _ _ _ _ _ (loop .loop .inv .holds) (room loop) (few loop)
+          (fact-known _ pre _ blankAtom (taken read .before .loop-test .taken)) (here (taken read)) predicate-is arity-is,
     )
 
 add-i : tie.Need-add-i Inv-loop μ-loop
 add-i c =
-    let few = facts-few (c .before .before .before .before .before .before .before .before .before .before .before .before .before .before .before
-    .before .before .before .before .args .task) (c .before .before .before .before .before .before .before .before .before .before .before
-    .before .before .before .before .before .before .before .before .pre .0) in
-    let h = c .before .before .before .before .before .before .before .before .loop-test .taken in
+    let tested = taken (c .before .before .before .before) .before in
+    let few = facts-few _ (entry (tested .before) .pre .0) in
+    let h = tested .loop-test .taken in
     omega arith
 
 loop-less : tie.Need-loop-less Inv-loop μ-loop
@@ -169,42 +165,36 @@ loop-less c = omega arith
 loop-again : tie.Need-loop-again Inv-loop μ-loop
 unfolding blankAtom factsOf
 loop-again c =
-    let s = c .before .before .before .before .before .before .before .before .before .before .before .before .before .before .before .before .before .before .before in
-    let at = c .before .before .before .before .before .before .before .before .before .loop in
-    let task = s .args .task in
+    let called = c .before .before in
+    let read = called .before .before in
+    let loop = in-loop (taken read) in
+    let pre = entry loop .pre .0 in
+    let task = entry loop .args .task in
     let arities = aritiesOf (task .predicates) in
-    let a = getD (task .facts .facts) (at .i) blankAtom in
-    let h = c .before .before .before .before .before .before .before .before .loop-test .taken in
+    let h = taken read .before .loop-test .taken in
     record {
       inside = omega arith;
       holds =
           subst
-          (λ (l : List model.Atom). BagTable (bagOf (propertiesFrom 0 arities) l) (task .objects)
-          (c .before .before .before .before .before .before .before .before .before .before .before .before .clear-rows .last .0)
-          (c .before .before .enter-fact .last .0))
-          (sym (atoms-next arities (task .facts .facts) (task .facts .count) (at .i) blankAtom (facts-inside task (s .pre .0)) h)
-          ∙ ap (λ (k : ℕ). take k (factsOf arities (task .facts))) (sym (add-one (at .i))))
-          (fact-counted (task .predicates) (c .before .before .before .before .before .before .before .before .before .before .before .before .before
-          .before .before .numbered .result .firsts) (arities-right task (s .pre .0)) (task .objects) _ (at .counts) _ a
-          (c .before .before .before .before .before .before .wide .result) (c .before .before .before .before .wide2 .result)
-          (at .inv .holds) (room (c .before .before .before .before .before .before .before .before .before))
-          (few (c .before .before .before .before .before .before .before .before .before))
-          (fact-known task (s .pre .0) (at .i) blankAtom h) (here (c .before .before .before .before .before .before .before))
-          (c .before .before .before .before .before .before .wide .ensures .0) (c .before .before .before .before .wide2 .ensures .0)
-          (c .before .before .enter-fact .last .0) (c .before .before .enter-fact .ensures));
+          (λ (l : List model.Atom). BagTable (bagOf (propertiesFrom 0 arities) l) (task .objects) (clearing loop .clear-rows .last .0)
+          (called .enter-fact .last .0))
+          (sym (atoms-next arities _ _ _ blankAtom (facts-inside task pre) h)
+          ∙ ap (λ (k : ℕ). take k (factsOf arities (task .facts))) (sym (add-one (loop .loop .i))))
+          (fact-counted _ _ (arities-right _ pre) _ _ _ _ _ _ _ (loop .loop .inv .holds) (room loop) (few loop) (fact-known _ pre _ blankAtom h)
+          (here (taken read)) (read .before .before .wide .ensures .0) (read .wide2 .ensures .0) _ (called .enter-fact .ensures));
     }
 
 same-length : tie.Need-same-length Inv-loop μ-loop
-same-length c = c .before .loop .inv .holds .kept ∙ c .before .before .before .before .clear-rows .kept .0
+same-length c = c .before .loop .inv .holds .kept ∙ clearing (c .before) .clear-rows .kept .0
 
 returns : tie.Need-returns Inv-loop μ-loop
 unfolding taskOf objectBags properties
 returns c =
-    let s = c .before .before .before .before .before .before .before .before .before .before .before in
+    let s = entry (c .before) in
     let at = c .before .loop in
     let task = s .args .task in
     let t = taskOf task in
-    let call = c .before .before .before .before .clear-rows in
+    let call = clearing (c .before) .clear-rows in
     let all : take (at .i) (t .facts) ≡ t .facts =
     take-all (at .i) (t .facts) (omega (arith, c .loop-test .left, fact-count task (s .pre .0))) in
     table-is (bagOf (properties t) (t .facts)) (t .objects) (call .last .0) (at .counts)
