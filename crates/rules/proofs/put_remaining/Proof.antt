@@ -6,16 +6,17 @@ use borrow.Author.Needs.{needs}
 use Rattle.rules.proofs.put_remaining.Statement.{statement}
 use Rattle.rules.proofs.put_remaining.Tie as tie
 
+-- what is given, from the test of the start
+abbrev entry : tie.After-is-empty → tie.Start
+entry c = c .before .before .before .before
+
 is-empty-requires : tie.Need-is-empty-requires
 is-empty-requires c κs = search needs
 
 put-increasing-requires : tie.Need-put-increasing-requires
 put-increasing-requires c κs =
-    let s = c .before .before .before .before .before .before .before .before in
-    as-room
-    (remaining-increasing (s .args .p) (s .args .start) (s .args .finish)
-    (sym (c .before .before .before .before .is-empty .ensures) ∙ c .before .before .before .if1 .taken))
-    (s .args .n) (s .pre)
+    let branch = c .before .before .before in
+    as-room (remaining-increasing _ _ _ (sym (branch .before .is-empty .ensures) ∙ branch .if1 .taken)) _ (entry (branch .before) .pre)
 
 same-length : tie.Need-same-length
 same-length c = search needs
@@ -28,20 +29,14 @@ same-length-3 c = search needs
 
 returns : tie.Need-returns
 returns c =
-    let s = c .before .before .before .before .before .before .before .before .before .before .before .before .before .before .before in
-    as-rules
-    (sym (remaining-increasing (s .args .p) (s .args .start) (s .args .finish)
-    (sym (c .before .before .before .before .before .before .before .before .before .before .before .is-empty .ensures) ∙
-    c .before .before .before .before .before .before .before .before .before .before .if1 .taken)))
-    (c .before .before .before .before .before .before .put-increasing .ensures)
+    let called = c .before .before .before .before .before .before in
+    let branch = called .before .before .before .before in
+    as-rules (sym (remaining-increasing _ _ _ (sym (branch .before .is-empty .ensures) ∙ branch .if1 .taken))) (called .put-increasing .ensures)
 
 put-rule-requires : tie.Need-put-rule-requires
 put-rule-requires c κs =
-    let s = c .before .before .before .before .before .before .before .before in
-    as-room
-    (remaining-one (s .args .p) (s .args .start) (s .args .finish)
-    (sym (c .before .before .before .before .is-empty .ensures) ∙ c .before .before .before .if1 .left))
-    (s .args .n) (s .pre)
+    let branch = c .before .before .before in
+    as-room (remaining-one _ _ _ (sym (branch .before .is-empty .ensures) ∙ branch .if1 .left)) _ (entry (branch .before) .pre)
 
 same-length-4 : tie.Need-same-length-4
 same-length-4 c = search needs
@@ -54,12 +49,9 @@ same-length-6 c = search needs
 
 returns-2 : tie.Need-returns-2
 returns-2 c =
-    let s = c .before .before .before .before .before .before .before .before .before .before .before .before .before .before .before in
-    as-rules
-    (sym (remaining-one (s .args .p) (s .args .start) (s .args .finish)
-    (sym (c .before .before .before .before .before .before .before .before .before .before .before .is-empty .ensures) ∙
-    c .before .before .before .before .before .before .before .before .before .before .if1 .left)))
-    (c .before .before .before .before .before .before .put-rule .ensures)
+    let called = c .before .before .before .before .before .before in
+    let branch = called .before .before .before .before in
+    as-rules (sym (remaining-one _ _ _ (sym (branch .before .is-empty .ensures) ∙ branch .if1 .left))) (called .put-rule .ensures)
 
 pub put-remaining-spec : {M : Type 1} → statement M
 put-remaining-spec =

@@ -1,5 +1,4 @@
 -- A rule's three bags are put into the three tables.
-use denote.Ref.{now}
 use Rattle.rules.proofs.Appending.{one-rule}
 use borrow.Author.Needs.{needs}
 use Rattle.rules.proofs.put_rule.Statement.{statement}
@@ -31,15 +30,11 @@ same-length-3 c = search needs
 
 returns : tie.Need-returns
 returns c =
-    let s = c .before .before .before .before .before .before .before .before .before .before .before .before .before .before .before .before in
-    one-rule (s .args .p) (s .args .start) (s .args .finish)
-    (c .before .before .before .before .before .before .before .before .before .before .before .less-row .result) (s .args .n)
-    (now (s .args .enablers)) (now (s .args .starts)) (now (s .args .finishes))
-    (c .before .before .before .before .before .before .before .before .before .before .put-row .last .0)
-    (c .before .before .before .before .before .before .put-row2 .last .0) (c .before .before .put-row3 .last .0)
-    (c .before .before .before .before .before .before .before .before .before .before .before .less-row .ensures)
-    (c .before .before .before .before .before .before .before .before .before .before .put-row .ensures)
-    (c .before .before .before .before .before .before .put-row2 .ensures) (c .before .before .put-row3 .ensures)
+    let third = c .before .before in
+    let second = third .before .before .before .before in
+    let first = second .before .before .before .before in
+    one-rule _ _ _ _ _ _ _ _ _ _ _ (first .before .less-row .ensures) (first .put-row .ensures) (second .put-row2 .ensures)
+    (third .put-row3 .ensures)
 
 pub put-rule-spec : {M : Type 1} → statement M
 put-rule-spec =

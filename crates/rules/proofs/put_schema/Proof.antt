@@ -30,6 +30,13 @@ Inv-loop enablers₀ starts₀ finishes₀ n schema predicates firsts parameters
 abbrev μ-loop : tie.MeasureT-loop
 μ-loop enablers₀ starts₀ finishes₀ n schema predicates firsts parameters count₀ k₀ enablers starts finishes count k = parameters - k
 
+-- what is given, from the loop on; and the loop, from the call in it
+abbrev entry : tie.At-loop Inv-loop μ-loop → tie.Start Inv-loop μ-loop
+entry c = c .before .before .before .before
+
+abbrev in-loop : tie.After-put-parameter-of Inv-loop μ-loop → tie.In-loop Inv-loop μ-loop
+in-loop c = c .before .before .before .before
+
 -- what the loop is given
 given : (s : tie.Start Inv-loop μ-loop)
     → ItemsGiven (ofParameter (s .args .schema) (s .args .predicates)) (upTo (s .args .schema .parameters)) (s .args .n)
@@ -52,30 +59,31 @@ loop-holds : tie.Need-loop-holds Inv-loop μ-loop
 loop-holds c = items-start (given (c .before .before .before))
 
 cast-put-parameter-of : tie.Need-cast-put-parameter-of Inv-loop μ-loop
-cast-put-parameter-of c = let few = c .before .before .before .before .before .before .before .before .pre .1 .0 .few-parameters in omega arith
+cast-put-parameter-of c = let few = entry (c .before .before .before .before) .pre .1 .0 .few-parameters in omega arith
 
 put-parameter-of-requires : tie.Need-put-parameter-of-requires Inv-loop μ-loop
 unfolding ofParameter
 put-parameter-of-requires c κs =
-    let s = c .before .before .before .before .before .before .before .before in
-    let at = c .before .before .before .before .loop in
-    let h = c .before .before .before .loop-test .taken in
-    let m = s .args .schema .parameters in (
+    let tested = c .before .before .before in
+    let s = entry (tested .before) in
+    let h = tested .loop-test .taken in (
       s .pre .0,
       (
         s .pre .1 .0,
         (
           s .pre .1 .1 .0,
-          as-room (ap (ofParameter (s .args .schema) (s .args .predicates)) (getD-upTo m (at .k) 0 h)) (at .count)
-              (room-item (given s) (at .inv) 0 (turn m (at .k) h)),
+          as-room (ap (ofParameter (s .args .schema) (s .args .predicates)) (getD-upTo _ _ 0 h)) _
+              (room-item (given s) (tested .before .loop .inv) 0 (turn _ _ h)),
         ),
       ),
     )
 
 add-k : tie.Need-add-k Inv-loop μ-loop
 add-k c =
-    let few = c .before .before .before .before .before .before .before .before .before .before .before .before .before .before
-    .before .pre .1 .0 .few-parameters in let h = c .before .before .before .before .before .before .before .before .before .before .loop-test .taken in omega arith
+    let tested = in-loop (c .before .before .before .before .before .before) in
+    let few = entry (tested .before) .pre .1 .0 .few-parameters in
+    let h = tested .loop-test .taken in
+    omega arith
 
 loop-less : tie.Need-loop-less Inv-loop μ-loop
 loop-less c = omega arith
@@ -83,27 +91,26 @@ loop-less c = omega arith
 loop-again : tie.Need-loop-again Inv-loop μ-loop
 unfolding ofParameter
 loop-again c =
-    let s = c .before .before .before .before .before .before .before .before .before .before .before .before .before .before .before in
-    let at = c .before .before .before .before .before .before .before .before .before .before .before .loop in
-    let h = c .before .before .before .before .before .before .before .before .before .before .loop-test .taken in
-    let m = s .args .schema .parameters in
-    put-item (given s) (at .inv) 0 (turn m (at .k) h)
-    (as-rules (ap (ofParameter (s .args .schema) (s .args .predicates)) (sym (getD-upTo m (at .k) 0 h)))
-    (c .before .before .before .before .before .before .put-parameter-of .ensures))
+    let called = c .before .before .before .before .before .before in
+    let tested = in-loop called in
+    let s = entry (tested .before) in
+    let h = tested .loop-test .taken in
+    put-item (given s) (tested .before .loop .inv) 0 (turn _ _ h)
+    (as-rules (ap (ofParameter (s .args .schema) (s .args .predicates)) (sym (getD-upTo _ _ 0 h))) (called .put-parameter-of .ensures))
 
 same-length : tie.Need-same-length Inv-loop μ-loop
-same-length c = items-kept (given (c .before .before .before .before .before)) (c .before .loop .inv) .enablers-kept
+same-length c = items-kept (given (entry (c .before))) (c .before .loop .inv) .enablers-kept
 
 same-length-2 : tie.Need-same-length-2 Inv-loop μ-loop
-same-length-2 c = items-kept (given (c .before .before .before .before .before)) (c .before .loop .inv) .starts-kept
+same-length-2 c = items-kept (given (entry (c .before))) (c .before .loop .inv) .starts-kept
 
 same-length-3 : tie.Need-same-length-3 Inv-loop μ-loop
-same-length-3 c = items-kept (given (c .before .before .before .before .before)) (c .before .loop .inv) .finishes-kept
+same-length-3 c = items-kept (given (entry (c .before))) (c .before .loop .inv) .finishes-kept
 
 returns : tie.Need-returns Inv-loop μ-loop
 unfolding ofParameter schemaRulesOver schemaOf
 returns c =
-    let s = c .before .before .before .before .before in
+    let s = entry (c .before) in
     items-end (given s) (c .before .loop .inv) (omega (arith, c .loop-test .left, length-upTo (s .args .schema .parameters)))
 
 pub put-schema-spec : {M : Type 1} → statement M

@@ -26,6 +26,16 @@ Inv-loop enablers₀ starts₀ finishes₀ predicates schemas firsts m count₀ 
 abbrev μ-loop : tie.MeasureT-loop
 μ-loop enablers₀ starts₀ finishes₀ predicates schemas firsts m count₀ i₀ enablers starts finishes count i = m - i
 
+-- what is given, from the numbering of the properties; this, from the loop on; and the loop, from the call in it
+abbrev entry : tie.After-numbered Inv-loop μ-loop → tie.Start Inv-loop μ-loop
+entry c = c .before .before .before .before .before .before
+
+abbrev numbering : tie.At-loop Inv-loop μ-loop → tie.After-numbered Inv-loop μ-loop
+numbering c = c .before .before
+
+abbrev in-loop : tie.After-put-schema Inv-loop μ-loop → tie.In-loop Inv-loop μ-loop
+in-loop c = c .before .before .before .before .before
+
 -- what the loop is given
 given : (s : tie.Start Inv-loop μ-loop)
     → ItemsGiven (schemaRulesOver (aritiesOf (s .args .task .predicates)))
@@ -52,45 +62,41 @@ unfolding taskOf
 turn s i h = omega (arith, h, schema-count (s .args .task) (s .pre .0))
 
 numbered-requires : tie.Need-numbered-requires Inv-loop μ-loop
-numbered-requires c κs = arities-right (c .before .before .before .before .before .args .task) (c .before .before .before .before .before .pre .0) .few
+numbered-requires c κs = arities-right _ (c .before .before .before .before .before .pre .0) .few
 
 loop-holds : tie.Need-loop-holds Inv-loop μ-loop
-loop-holds c = items-start (given (c .before .before .before .before .before .before .before))
+loop-holds c = items-start (given (entry (c .before)))
 
 mul-schema : tie.Need-mul-schema Inv-loop μ-loop
-mul-schema c =
-    let few = schemas-few (c .before .before .before .before .before .before .before .before .before .args .task)
-    (c .before .before .before .before .before .before .before .before .before .pre .0) in omega arith
+mul-schema c = let few = schemas-few _ (entry (numbering (c .before)) .pre .0) in omega arith
 
 element-copy-out-schema : tie.Need-element-copy-out-schema Inv-loop μ-loop
-element-copy-out-schema c =
-    let few = schemas-few (c .before .before .before .before .before .before .before .before .before .args .task)
-    (c .before .before .before .before .before .before .before .before .before .pre .0) in omega arith
+element-copy-out-schema c = let few = schemas-few _ (entry (numbering (c .before)) .pre .0) in omega arith
 
 put-schema-requires : tie.Need-put-schema-requires Inv-loop μ-loop
 unfolding taskOf
 put-schema-requires c κs =
-    let s = c .before .before .before .before .before .before .before .before .before .before .before .before .before in
-    let at = c .before .before .before .before .before .loop in
-    let h = c .before .before .before .before .loop-test .taken in
-    let task = s .args .task in
-    let arities = aritiesOf (task .predicates) in (
-      arities-right task (s .pre .0),
+    let tested = c .before .before .before .before in
+    let loop = tested .before in
+    let s = entry (numbering loop) in
+    let h = tested .loop-test .taken in
+    let arities = aritiesOf (s .args .task .predicates) in (
+      arities-right _ (s .pre .0),
       (
-        schema-right task (s .pre .0) (at .i) noSchema h,
+        schema-right _ (s .pre .0) _ noSchema h,
         (
-          c .before .before .before .before .before .before .before .numbered .ensures .firsts,
-          as-room (ap (schemaRulesOver arities) (schema-at task (s .pre .0) (at .i) noSchema h)) (at .count)
-              (room-item (given s) (at .inv) (schemaOf arities noSchema) (turn s (at .i) h)),
+          numbering loop .numbered .ensures .firsts,
+          as-room (ap (schemaRulesOver arities) (schema-at _ (s .pre .0) _ noSchema h)) _
+              (room-item (given s) (loop .loop .inv) (schemaOf arities noSchema) (turn s _ h)),
         ),
       ),
     )
 
 add-i : tie.Need-add-i Inv-loop μ-loop
 add-i c =
-    let s = c .before .before .before .before .before .before .before .before .before .before .before .before .before .before .before .before .before .before .before .before in
-    let few = schemas-few (s .args .task) (s .pre .0) in
-    let h = c .before .before .before .before .before .before .before .before .before .before .before .loop-test .taken in
+    let tested = in-loop (c .before .before .before .before .before .before) in
+    let few = schemas-few _ (entry (numbering (tested .before)) .pre .0) in
+    let h = tested .loop-test .taken in
     omega arith
 
 loop-less : tie.Need-loop-less Inv-loop μ-loop
@@ -99,30 +105,30 @@ loop-less c = omega arith
 loop-again : tie.Need-loop-again Inv-loop μ-loop
 unfolding taskOf
 loop-again c =
-    let s = c .before .before .before .before .before .before .before .before .before .before .before .before .before .before .before .before .before .before .before .before in
-    let at = c .before .before .before .before .before .before .before .before .before .before .before .before .loop in
-    let h = c .before .before .before .before .before .before .before .before .before .before .before .loop-test .taken in
-    let task = s .args .task in
-    let arities = aritiesOf (task .predicates) in
-    put-item (given s) (at .inv) (schemaOf arities noSchema) (turn s (at .i) h)
-    (as-rules (ap (schemaRulesOver arities) (sym (schema-at task (s .pre .0) (at .i) noSchema h)))
-    (c .before .before .before .before .before .before .put-schema .ensures))
+    let called = c .before .before .before .before .before .before in
+    let tested = in-loop called in
+    let loop = tested .before in
+    let s = entry (numbering loop) in
+    let h = tested .loop-test .taken in
+    let arities = aritiesOf (s .args .task .predicates) in
+    put-item (given s) (loop .loop .inv) (schemaOf arities noSchema) (turn s _ h)
+    (as-rules (ap (schemaRulesOver arities) (sym (schema-at _ (s .pre .0) _ noSchema h))) (called .put-schema .ensures))
 
 same-length : tie.Need-same-length Inv-loop μ-loop
-same-length c = items-kept (given (c .before .before .before .before .before .before .before .before .before)) (c .before .loop .inv) .enablers-kept
+same-length c = items-kept (given (entry (numbering (c .before)))) (c .before .loop .inv) .enablers-kept
 
 same-length-2 : tie.Need-same-length-2 Inv-loop μ-loop
-same-length-2 c = items-kept (given (c .before .before .before .before .before .before .before .before .before)) (c .before .loop .inv) .starts-kept
+same-length-2 c = items-kept (given (entry (numbering (c .before)))) (c .before .loop .inv) .starts-kept
 
 same-length-3 : tie.Need-same-length-3 Inv-loop μ-loop
-same-length-3 c = items-kept (given (c .before .before .before .before .before .before .before .before .before)) (c .before .loop .inv) .finishes-kept
+same-length-3 c = items-kept (given (entry (numbering (c .before)))) (c .before .loop .inv) .finishes-kept
 
 returns : tie.Need-returns Inv-loop μ-loop
 unfolding taskOf
 returns c =
-    let s = c .before .before .before .before .before .before .before .before .before in
+    let s = entry (numbering (c .before)) in
     whole-table (as-rules (sym (transitions-over (taskOf (s .args .task))))
-    (items-end (given s) (c .before .loop .inv) (omega (arith, c .loop-test .left, schema-count (s .args .task) (s .pre .0)))))
+    (items-end (given s) (c .before .loop .inv) (omega (arith, c .loop-test .left, schema-count _ (s .pre .0)))))
 
 pub rules-spec : {M : Type 1} → statement M
 rules-spec =
