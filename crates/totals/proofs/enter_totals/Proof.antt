@@ -27,13 +27,19 @@ Inv-loop fixed₀ groups properties lowest table count members column₀ c₀ fi
 abbrev μ-loop : tie.MeasureT-loop
 μ-loop fixed₀ groups properties lowest table count members column₀ c₀ fixed column c = properties - c
 
+-- what is given, from the loop on; and the loop, from the place of an own property
+abbrev entry : tie.At-loop Inv-loop μ-loop → tie.Start Inv-loop μ-loop
+entry c = c .before .before .before .before
+
+abbrev in-loop : tie.Else1 Inv-loop μ-loop → tie.In-loop Inv-loop μ-loop
+in-loop c = c .before .before
+
 loop-holds : tie.Need-loop-holds Inv-loop μ-loop
 unfolding propertiesOf
 loop-holds c = (enter-start _ _ _ _ _, passed-none refl)
 
 shared-slice-read-if1 : tie.Need-shared-slice-read-if1 Inv-loop μ-loop
-shared-slice-read-if1 c =
-    omega (arith, c .before .loop-test .taken, c .before .before .before .before .before .before .pre .groups-long)
+shared-slice-read-if1 c = omega (arith, c .before .loop-test .taken, entry (c .before .before) .pre .groups-long)
 
 add-c : tie.Need-add-c Inv-loop μ-loop
 add-c c = search needs
@@ -46,26 +52,26 @@ loop-again c =
     let l = c .before .before .before .loop in
     let h = c .before .before .loop-test .taken in
     let e = ne-eqb _ _ (c .if1 .taken) in
-    (enter-other _ _ _ _ _ (l .c) (l .fixed) h e (l .inv .0), passed-other (l .inv .1) h e)
+    (enter-other _ _ _ _ _ _ _ h e (l .inv .0), passed-other (l .inv .1) h e)
 
 -- the column of an own property is one of the row's
-column-small : (c : tie.Else1 Inv-loop μ-loop) → c .before .before .before .loop .column < 60
+column-small : (c : tie.Else1 Inv-loop μ-loop) → in-loop c .before .loop .column < 60
 column-small c =
-    let l = c .before .before .before .loop in
-    let pre = c .before .before .before .before .before .before .before .pre in
-    omega (arith, pre .rows-there .narrow, column-inside (l .inv .1) (c .before .before .loop-test .taken) (eq-eqb _ _ (c .if1 .left)))
+    let tested = in-loop c in
+    let loop = tested .before in
+    omega (arith, entry loop .pre .rows-there .narrow, column-inside (loop .loop .inv .1) (tested .loop-test .taken) (eq-eqb _ _ (c .if1 .left)))
 
 total-by-requires : tie.Need-total-by-requires Inv-loop μ-loop
 total-by-requires c κs =
-    let pre = c .before .before .before .before .before .before .before .pre in
+    let pre = entry (in-loop c .before) .pre in
     (pre .rows-there .long, column-small c, pre .few-members)
 
 -- an own property is one of those in the table
-inside : (c : tie.After-total-by Inv-loop μ-loop) → c .before .before .before .before .loop .c < length (c .before .before .before .before .loop .fixed)
+inside : (c : tie.After-total-by Inv-loop μ-loop) → in-loop (c .before) .before .loop .c < length (in-loop (c .before) .before .loop .fixed)
 inside c =
-    let l = c .before .before .before .before .loop in
-    let pre = c .before .before .before .before .before .before .before .before .pre in
-    omega (arith, l .inv .0 .sized, pre .places-there, c .before .before .before .loop-test .taken)
+    let tested = in-loop (c .before) in
+    let loop = tested .before in
+    omega (arith, loop .loop .inv .0 .sized, entry loop .pre .places-there, tested .loop-test .taken)
 
 mul-fixed : tie.Need-mul-fixed Inv-loop μ-loop
 mul-fixed c = search needs
@@ -85,12 +91,13 @@ loop-less-2 c = search needs
 loop-again-2 : tie.Need-loop-again-2 Inv-loop μ-loop
 unfolding propertiesOf
 loop-again-2 c =
-    let l = c .before .before .before .before .loop in
-    let pre = c .before .before .before .before .before .before .before .before .pre in
-    let h = c .before .before .before .loop-test .taken in
+    let tested = in-loop (c .before) in
+    let l = tested .before .loop in
+    let pre = entry (tested .before) .pre in
+    let h = tested .loop-test .taken in
     let e = eq-eqb _ _ (c .before .if1 .left) in (
-      enter-own _ _ _ _ _ (l .c) _ (l .fixed) h (omega (arith, h, pre .places-there)) e
-          (column-gives _ _ _ _ _ (l .c) (l .column) (pre .rows-there) (l .inv .1) h e (c .total-by .ensures)) (l .inv .0),
+      enter-own _ _ _ _ _ _ _ _ h (omega (arith, h, pre .places-there)) e
+          (column-gives _ _ _ _ _ _ _ (pre .rows-there) (l .inv .1) h e (c .total-by .ensures)) (l .inv .0),
       passed-one (l .inv .1) h e,
     )
 
@@ -101,7 +108,7 @@ returns : tie.Need-returns Inv-loop μ-loop
 unfolding propertiesOf
 returns c =
     let l = c .before .loop in
-    enter-end _ _ _ _ _ (l .c) (l .fixed) (omega (arith, c .loop-test .left, l .inv .1 .within)) (l .inv .0)
+    enter-end _ _ _ _ _ _ _ (omega (arith, c .loop-test .left, l .inv .1 .within)) (l .inv .0)
 
 pub enter-totals-spec : {M : Type 1} → statement M
 enter-totals-spec =
