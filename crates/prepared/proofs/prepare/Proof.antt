@@ -6,6 +6,16 @@ use borrow.Author.Needs.{needs}
 use Rattle.prepared.proofs.prepare.Statement.{statement}
 use Rattle.prepared.proofs.prepare.Tie as tie
 
+-- what is given, from the rules written; these, from the objects' bags; and those, from the number of properties
+abbrev entry : tie.After-rules → tie.Start
+entry c = c .before .before .before .before .before .before .before .before
+
+abbrev writing : tie.After-object-bags → tie.After-rules
+writing c = c .before .before .before .before .before .before .before .before
+
+abbrev counting : tie.After-numbered → tie.After-object-bags
+counting c = c .before .before .before
+
 rules-requires : tie.Need-rules-requires
 rules-requires c κs = search needs
 
@@ -13,26 +23,22 @@ object-bags-requires : tie.Need-object-bags-requires
 object-bags-requires c κs = search needs
 
 numbered-requires : tie.Need-numbered-requires
-numbered-requires c κs =
-    arities-right _ (c .before .before .before .before .before .before .before .before .before .before .before .before .before .before .before .before .before .before .pre .0) .few
+numbered-requires c κs = arities-right _ (entry (writing (c .before .before)) .pre .0) .few
 
 spaces-of-requires : tie.Need-spaces-of-requires
 spaces-of-requires c κs =
-    let rep = c .before .before .before .before .before .before .before .before .before .before .before .before .before .before .before .before
-    .before .before .before .before .before .before .before .pre .0 in
-    let room = c .before .before .before .before .before .before .before .before .before .before .before .before .before .before .before .before
-    .before .before .before .before .before .before .before .pre .1 .0 in
-    let long = c .before .before .before .before .before .before .before .before .before .before .before .before .before .before .before .before
-    .before .before .before .before .before .before .before .pre .1 .1 in
-    let written = c .before .before .before .before .before .before .before .before .before .before .before .before .before .before .before .rules in
-    let bags = c .before .before .before .before .before .before .before .object-bags in
-    let counted = properties-counted _ _ (c .before .before .before .before .numbered .ensures) in
-    let few = sizes-few _ rep _ _ _ _ _ _ _ _ _ _ (written .ensures) (bags .ensures) counted in (
+    let numbered = c .before .before .before .before in
+    let bags = counting numbered .object-bags in
+    let ruled = writing (counting numbered) in
+    let written = ruled .rules in
+    let pre = entry ruled .pre in
+    let counted = properties-counted _ _ (numbered .numbered .ensures) in
+    let few = sizes-few _ (pre .0) _ _ _ _ _ _ _ _ _ _ (written .ensures) (bags .ensures) counted in (
       few,
       (
-        room-for _ rep _ _ _ _ _ _ _ _ _ _ (written .ensures) (bags .ensures) counted room
+        room-for _ (pre .0) _ _ _ _ _ _ _ _ _ _ (written .ensures) (bags .ensures) counted (pre .1 .0)
             (written .kept .1 .0) (written .kept .1 .1 .0) (written .kept .1 .1 .1 .0),
-        omega (arith, long, bags .kept .1 .0, few .1),
+        omega (arith, pre .1 .1, bags .kept .1 .0, few .1),
       ),
     )
 
@@ -50,15 +56,14 @@ same-length-4 c = search needs
 
 returns : tie.Need-returns
 returns c =
-    let rep = c .before .before .before .before .before .before .before .before .before .before .before .before .before .before .before .before
-    .before .before .before .before .before .before .before .before .pre .0 in
-    let long = c .before .before .before .before .before .before .before .before .before .before .before .before .before .before .before .before
-    .before .before .before .before .before .before .before .before .pre .1 .1 in
-    let written = c .before .before .before .before .before .before .before .before .before .before .before .before .before .before .before .before .rules .ensures in
-    let bags = c .before .before .before .before .before .before .before .before .object-bags in
-    let counted = properties-counted _ _ (c .before .before .before .before .before .numbered .ensures) in
-    given _ rep _ _ _ _ _ _ _ _ _ _ written (bags .ensures) counted _
-    (c .spaces-of .ensures _ (holds _ rep _ _ _ _ _ _ _ _ _ _ written (bags .ensures) counted)) (omega (arith, long, bags .kept .1 .0))
+    let numbered = c .before .before .before .before .before in
+    let bags = counting numbered .object-bags in
+    let ruled = writing (counting numbered) in
+    let written = ruled .rules .ensures in
+    let pre = entry ruled .pre in
+    let counted = properties-counted _ _ (numbered .numbered .ensures) in
+    given _ (pre .0) _ _ _ _ _ _ _ _ _ _ written (bags .ensures) counted _
+    (c .spaces-of .ensures _ (holds _ (pre .0) _ _ _ _ _ _ _ _ _ _ written (bags .ensures) counted)) (omega (arith, pre .1 .1, bags .kept .1 .0))
 
 pub prepare-spec : {M : Type 1} → statement M
 prepare-spec =
