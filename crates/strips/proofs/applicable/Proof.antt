@@ -13,10 +13,14 @@ use Rattle.strips.proofs.Numbers.{length-grounds, kept-within, kept-num
 use Rattle.strips.proofs.applicable.Statement.{statement}
 use Rattle.strips.proofs.applicable.Tie as tie
 
+-- what is given, from the facts that the preconditions ask for
+abbrev entry : tie.After-grounded → tie.Start
+entry c = c .before .before .before .before .before
+
 -- at most eight facts
 few : (c : tie.Start) → length (map (ground (c .args .objects .now)) (atomsOf (c .args .arities .now) (c .args .schema .preconditions))) ≤ 8
 few c =
-    let size = length-grounds (c .args .arities .now) (c .args .objects .now) (c .args .schema .preconditions) (c .pre .1) in
+    let size = length-grounds _ _ _ (c .pre .1) in
     let some = c .pre .1 .few in
     omega arith
 
@@ -30,7 +34,7 @@ part-all-in-start : tie.Need-part-all-in-start
 part-all-in-start c = search needs
 
 part-all-in-end : tie.Need-part-all-in-end
-part-all-in-end c = kept-within _ _ (c .before .before .grounded .ensures) (few (c .before .before .before .before .before .before .before))
+part-all-in-end c = let needed = c .before .before in kept-within _ _ (needed .grounded .ensures) (few (entry needed))
 
 all-in-requires : tie.Need-all-in-requires
 all-in-requires c κs = search needs
@@ -38,9 +42,8 @@ all-in-requires c κs = search needs
 returns : tie.Need-returns
 unfolding allHeld schemaOf
 returns c =
-    let start = c .before .before .before .before .before .before .before .before .before in
-    c .all-in .ensures ∙ ap (all (λ n. member n (start .args .numbers .now)))
-    (kept-numbers _ _ (c .before .before .before .before .grounded .ensures) (few start))
+    let needed = c .before .before .before .before in
+    c .all-in .ensures ∙ ap (all (λ n. member n (entry needed .args .numbers .now))) (kept-numbers _ _ (needed .grounded .ensures) (few (entry needed)))
 
 pub applicable-spec : {M : Type 1} → statement M
 applicable-spec =

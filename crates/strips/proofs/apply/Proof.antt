@@ -5,6 +5,10 @@ use Rattle.strips.proofs.Calling.{applying-refused, applying}
 use Rattle.strips.proofs.apply.Statement.{statement}
 use Rattle.strips.proofs.apply.Tie as tie
 
+-- what the card reader answers, from its word that the card is accepted
+abbrev reading : tie.After-enum-told → tie.After-decode
+reading c = c .before .before .before
+
 decode-requires : tie.Need-decode-requires
 decode-requires c κs = search needs
 
@@ -16,27 +20,21 @@ enum-told c = search needs
 
 apply-task-requires : tie.Need-apply-task-requires
 apply-task-requires c κs =
-    let start = c .before .before .before .before .before .before .before .before in represented (start .args .card .now)
-    (c .before .before .before .before .decode .result) (c .before .before .before .before .decode .ensures) (c .before .enum-told .given .1)
+    let accepted = c .before in
+    represented _ _ (reading accepted .decode .ensures) (accepted .enum-told .given .1)
 
 returns : tie.Need-returns
 returns c =
-    let start = c .before .before .before .before .before .before .before .before in
-    applying-refused (start .args .card .now) (c .before .before .before .before .decode .result) (c .before .before .before .before .decode .ensures)
-    _ (c .before .verdict .given .1) (start .args .state .now)
-    (start .args .count) (record { schema = start .args .schema; objects = start .args .objects .now })
+    let refused = c .before in
+    applying-refused _ _ (refused .before .before .before .decode .ensures) _ (refused .verdict .given .1) _ _ _
 
 same-length : tie.Need-same-length
 same-length c = search needs
 
 returns-2 : tie.Need-returns-2
 returns-2 c =
-    let start = c .before .before .before .before .before .before .before .before .before .before .before in
-    applying (start .args .card .now) (c .before .before .before .before .before .before .before .decode .result)
-    (c .before .before .before .before .before .before .before .decode .ensures) (c .before .before .before .before .enum-told .given .1)
-    (start .args .state .now) (c .before .before .apply-task .last .1 .0) (start .args .count)
-    (record { schema = start .args .schema; objects = start .args .objects .now })
-    (c .before .before .apply-task .result) (c .before .before .apply-task .ensures)
+    let accepted = c .before .before .before .before in
+    applying _ _ (reading accepted .decode .ensures) (accepted .enum-told .given .1) _ _ _ _ _ (c .before .before .apply-task .ensures)
 
 pub apply-spec : {M : Type 1} → statement M
 apply-spec =

@@ -1,12 +1,33 @@
 -- 15 and 16, then the rest with the schema.
 use borrow.Author.Needs.{needs}
+use mathlib.Core.Path.{_≡_}
+use mathlib.Core.Bool.{true}
 use native.Mathlib.Omega.{arith}
 use borrow.Author.Tests.{not-true, not-false}
+use Rattle.model.specs.Strips.{Action}
 use Rattle.card.proofs.Counts.{predicates-inside}
 use Rattle.strips.proofs.Tasks.{schema-below}
 use Rattle.strips.proofs.Pressing.{part-right, refused-malformed, refused-unknown, state-kept, schema-kept, pressed}
 use Rattle.strips.proofs.apply_task.Statement.{statement}
 use Rattle.strips.proofs.apply_task.Tie as tie
+
+-- what is given, from the arities lent; these, from the test of the state; and this, from the schema looked for
+abbrev entry : tie.After-arities2 → tie.Start
+entry c = c .before .before .before .before .before .before
+
+abbrev lending : tie.After-well-formed → tie.After-arities2
+lending c = c .before .before
+
+abbrev testing : tie.Else2 → tie.After-well-formed
+testing c = c .before .before .before
+
+-- the action that is asked for
+abbrev action : tie.Start → Action
+action s = record { schema = s .args .schema; objects = s .args .objects .now }
+
+-- the state is well-formed
+passed : (c : tie.Else2) → testing c .well-formed .result ≡ true
+passed c = not-false _ (c .before .before .if1 .left)
 
 sub-well-formed : tie.Need-sub-well-formed
 sub-well-formed c = search needs
@@ -15,40 +36,32 @@ part-well-formed-start : tie.Need-part-well-formed-start
 part-well-formed-start c = search needs
 
 part-well-formed-end : tie.Need-part-well-formed-end
-part-well-formed-end c = let start = c .before .before .before .before .before .before in predicates-inside (start .args .task) (start .pre)
+part-well-formed-end c = predicates-inside _ (entry c .pre)
 
 well-formed-requires : tie.Need-well-formed-requires
-well-formed-requires c κs = let start = c .before .before .before .before .before .before .before in part-right (start .args .task) (start .pre)
+well-formed-requires c κs = part-right _ (entry (c .before) .pre)
 
 same-length : tie.Need-same-length
 same-length c = search needs
 
 returns : tie.Need-returns
 returns c =
-    let start = c .before .before .before .before .before .before .before .before .before in
-    refused-malformed (start .args .task) (start .pre) (start .args .state .now) (start .args .count)
-    (record { schema = start .args .schema; objects = start .args .objects .now })
-    _ (c .before .well-formed .ensures) (not-true _ (c .if1 .taken))
+    let tested = c .before in
+    refused-malformed _ (entry (lending tested) .pre) _ _ _ _ (tested .well-formed .ensures) (not-true _ (c .if1 .taken))
 
 same-length-2 : tie.Need-same-length-2
 same-length-2 c = search needs
 
 returns-2 : tie.Need-returns-2
 returns-2 c =
-    let start = c .before .before .before .before .before .before .before .before .before .before .before in
-    refused-unknown (start .args .task) (start .pre) (start .args .state .now) (start .args .count)
-    (record { schema = start .args .schema; objects = start .args .objects .now })
-    _ (c .before .before .before .well-formed .ensures) (not-false _ (c .before .before .if1 .left)) (c .if2 .taken)
-
-mul-chosen : tie.Need-mul-chosen
-mul-chosen c =
-    let start = c .before .before .before .before .before .before .before .before .before .before .before in let below = schema-below
-    (start .args .task) (start .pre) (start .args .schema) (c .if2 .left) in omega (arith, below)
+    let tested = c .before .before .before in
+    refused-unknown _ (entry (lending tested) .pre) _ _ _ _ (tested .well-formed .ensures) (not-false _ (c .before .before .if1 .left)) (c .if2 .taken)
 
 element-copy-out-chosen : tie.Need-element-copy-out-chosen
-element-copy-out-chosen c =
-    let start = c .before .before .before .before .before .before .before .before .before .before .before in schema-below (start .args .task)
-    (start .pre) (start .args .schema) (c .if2 .left)
+element-copy-out-chosen c = schema-below _ (entry (lending (testing c)) .pre) _ (c .if2 .left)
+
+mul-chosen : tie.Need-mul-chosen
+mul-chosen c = omega (arith, element-copy-out-chosen c)
 
 sub-apply-schema : tie.Need-sub-apply-schema
 sub-apply-schema c = search needs
@@ -58,20 +71,15 @@ part-apply-schema-start c = search needs
 
 part-apply-schema-end : tie.Need-part-apply-schema-end
 part-apply-schema-end c =
-    let start = c .before .before .before .before .before .before .before .before .before .before .before .before .before in predicates-inside
-    (start .args .task) (start .pre)
+    predicates-inside _ (entry (lending (testing (c .before .before))) .pre)
 
 apply-schema-requires : tie.Need-apply-schema-requires
 apply-schema-requires c κs =
-    let start = c .before .before .before .before .before .before .before .before .before .before .before .before .before .before .before in (
-      state-kept (start .args .task) (start .pre) (start .args .state .now) (start .args .count)
-          (record { schema = start .args .schema; objects = start .args .objects .now })
-          _ (c .before .before .before .before .before .before .before .well-formed .ensures)
-          (not-false _ (c .before .before .before .before .before .before .if1 .left)),
-      schema-kept (start .args .task) (start .pre) (start .args .state .now) (start .args .count)
-          (record { schema = start .args .schema; objects = start .args .objects .now })
-          _ (c .before .before .before .before .before .before .before .well-formed .ensures)
-          (not-false _ (c .before .before .before .before .before .before .if1 .left)) _ (c .before .before .before .before .if2 .left),
+    let found = c .before .before .before .before in
+    let tested = testing found in
+    let start = entry (lending tested) in (
+      state-kept _ (start .pre) _ _ (action start) _ (tested .well-formed .ensures) (passed found),
+      schema-kept _ (start .pre) _ _ (action start) _ (tested .well-formed .ensures) (passed found) _ (found .if2 .left),
     )
 
 same-length-3 : tie.Need-same-length-3
@@ -79,12 +87,10 @@ same-length-3 c = search needs
 
 returns-3 : tie.Need-returns-3
 returns-3 c =
-    let start = c .before .before .before .before .before .before .before .before .before .before .before .before .before .before .before .before .before .before in
-    pressed (start .args .task) (start .pre) (start .args .state .now) (start .args .count)
-    (record { schema = start .args .schema; objects = start .args .objects .now })
-    _ (c .before .before .before .before .before .before .before .before .before .before .well-formed .ensures)
-    (not-false _ (c .before .before .before .before .before .before .before .before .before .if1 .left)) _
-    (c .before .before .before .before .before .before .before .if2 .left) _ _ (c .before .before .apply-schema .ensures)
+    let applied = c .before .before in
+    let found = applied .before .before .before .before .before in
+    let tested = testing found in
+    pressed _ (entry (lending tested) .pre) _ _ _ _ (tested .well-formed .ensures) (passed found) _ (found .if2 .left) _ _ (applied .apply-schema .ensures)
 
 pub apply-task-spec : {M : Type 1} → statement M
 apply-task-spec =

@@ -2,15 +2,29 @@
 use borrow.Author.Needs.{needs}
 use Prim.Native.Nat.{ℕ, _≤_}
 use mathlib.Core.Path.{sym, subst}
+use lib.ListN.{length}
 use Rattle.card.proofs.Counts.{predicates-inside, facts-few}
 use Rattle.strips.proofs.Refusing.{buffer-short}
 use Rattle.strips.proofs.Pressing.{facts-right, numbers-few, opened}
-use Rattle.card.specs.Represents.{taskOf}
 use Rattle.strips.proofs.open_task.Statement.{statement}
 use Rattle.strips.proofs.open_task.Tie as tie
 
+-- what is given, from the arities lent; these, from the facts' numbers; and those, from the numbers lent to be stored
+abbrev entry : tie.After-arities2 → tie.Start
+entry c = c .before .before .before .before .before .before
+
+abbrev lending : tie.After-fact-numbers → tie.After-arities2
+lending c = c .before .before .before
+
+abbrev numbering : tie.After-store-arg2 → tie.After-fact-numbers
+numbering c = c .before .before .before .before
+
 returns : tie.Need-returns
-returns c = let start = c .before .before in buffer-short (taskOf (start .args .task)) (start .args .state .now) (c .if1 .taken)
+returns c = buffer-short _ _ (c .if1 .taken)
+
+-- the buffer is long enough
+long : (c : tie.After-arities2) → 4096 ≤ length (entry c .args .state .now)
+long c = c .before .before .before .before .if1 .left
 
 sub-fact-numbers : tie.Need-sub-fact-numbers
 sub-fact-numbers c = search needs
@@ -19,15 +33,15 @@ part-fact-numbers-start : tie.Need-part-fact-numbers-start
 part-fact-numbers-start c = search needs
 
 part-fact-numbers-end : tie.Need-part-fact-numbers-end
-part-fact-numbers-end c = let start = c .before .before .before .before .before .before in predicates-inside (start .args .task) (start .pre)
+part-fact-numbers-end c = predicates-inside _ (entry c .pre)
 
 slice-aggregate-fact-numbers : tie.Need-slice-aggregate-fact-numbers
 slice-aggregate-fact-numbers c = search needs
 
 fact-numbers-requires : tie.Need-fact-numbers-requires
 fact-numbers-requires c κs =
-    let start = c .before .before .before .before .before .before .before .before in facts-right (start .args .task) (start .pre) _
-    (facts-few (start .args .task) (start .pre))
+    let start = entry (c .before .before) in
+    facts-right _ (start .pre) _ (facts-few _ (start .pre))
 
 sub-store : tie.Need-sub-store
 sub-store c = search needs
@@ -37,27 +51,24 @@ part-store-start c = search needs
 
 part-store-end : tie.Need-part-store-end
 part-store-end c =
-    let start = c .before .before .before .before .before .before .before .before .before .before .before .before in
-    subst (λ (n : ℕ). start .args .task .facts .count ≤ n) (sym (c .before .before .before .fact-numbers .kept .1 .1 .0))
-    (facts-few (start .args .task) (start .pre))
+    let numbered = c .before .before .before in
+    let start = entry (lending numbered) in
+    subst (λ (n : ℕ). start .args .task .facts .count ≤ n) (sym (numbered .fact-numbers .kept .1 .1 .0)) (facts-few _ (start .pre))
 
 store-requires : tie.Need-store-requires
 store-requires c κs =
-    let start = c .before .before .before .before .before .before .before .before .before .before .before .before .before in (
-      numbers-few (start .args .task) (start .pre) (start .args .state .now) _ _ (c .before .before .before .before .fact-numbers .ensures),
-      c .before .before .before .before .before .before .before .before .before .before .before .if1 .left,
-    )
+    let numbered = numbering c in
+    let start = entry (lending numbered) in
+    (numbers-few _ (start .pre) (start .args .state .now) _ _ (numbered .fact-numbers .ensures), long (lending numbered))
 
 same-length : tie.Need-same-length
 same-length c = search needs
 
 returns-2 : tie.Need-returns-2
 returns-2 c =
-    let start = c .before .before .before .before .before .before .before .before .before .before .before .before .before .before .before .before in
-    opened (start .args .task) (start .pre) (start .args .state .now) _ _
-    (c .before .before .before .before .before .before .before .fact-numbers .ensures) _
-    (c .before .before .before .before .before .before .before .before .before .before .before .before .before .before .if1 .left)
-    (c .before .before .store .ensures)
+    let stored = c .before .before in
+    let numbered = numbering (stored .before) in
+    opened _ (entry (lending numbered) .pre) _ _ _ (numbered .fact-numbers .ensures) _ (long (lending numbered)) (stored .store .ensures)
 
 pub open-task-spec : {M : Type 1} → statement M
 open-task-spec =
