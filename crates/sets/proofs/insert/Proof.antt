@@ -15,6 +15,18 @@ use Rattle.sets.proofs.Changing.{part-front, found-there, found-missing
 use Rattle.sets.proofs.insert.Statement.{statement}
 use Rattle.sets.proofs.insert.Tie as tie
 
+-- what is given, from what looking for the number answers
+abbrev entry : tie.After-find → tie.Start
+entry c = c .before .before .before .before
+
+-- the numbers of the set
+abbrev list : tie.Start → List ℕ
+list s = take (s .args .count) (s .args .numbers .now)
+
+-- the answer, of the set
+answered : (c : tie.After-find) → c .find .result ≡ found (entry c .args .n) (list (entry c))
+answered c = c .find .ensures ∙ ap (found (entry c .args .n)) (part-front (entry c .args .count) _)
+
 sub-find : tie.Need-sub-find
 sub-find c = search needs
 
@@ -27,7 +39,7 @@ part-find-end c = search needs
 find-requires : tie.Need-find-requires
 find-requires c κs =
     let start = c .before .before .before in
-    ap (rising 0) (part-front (start .args .count) (start .args .numbers .now)) ∙ start .pre .1 .ascends
+    ap (rising 0) (part-front (start .args .count) _) ∙ start .pre .1 .ascends
 
 enum-known-there : tie.Need-enum-known-there
 enum-known-there c = search needs
@@ -40,32 +52,23 @@ same-length c = search needs
 
 returns : tie.Need-returns
 returns c =
-    let start = c .before .before .before .before .before .before in
-    let list : List ℕ = start .args .numbers .now in
-    let told = found-there _ (start .args .n) _ (take (start .args .count) list)
-    (c .before .before .find .ensures ∙ ap (found (start .args .n)) (part-front (start .args .count) list)) (c .enum-told .given .1) in
-    inserted-again (start .args .count) (start .args .n) list (start .pre .1) (told .0)
+    let looked = c .before .before in
+    inserted-again _ _ _ (entry looked .pre .1) (found-there _ _ _ _ (answered looked) (c .enum-told .given .1) .0)
 
 -- where the number was not found
-abbrev list : tie.After-there → List ℕ
-list c = let start = c .before .before .before .before .before .before in take (start .args .count) (start .args .numbers .now)
+abbrev given : tie.After-there → tie.Start
+given c = entry (c .before .before)
 
-abbrev n : tie.After-there → ℕ
-n c = c .before .before .before .before .before .before .args .n
-
-told : (c : tie.After-there) → (member (n c) (list c) ≡ false) × (c .there .given .0 .0 ≡ place (n c) (list c))
-told c =
-    let start = c .before .before .before .before .before .before in
-    found-missing _ (n c) _ (list c)
-    (c .before .before .find .ensures ∙ ap (found (n c)) (part-front (start .args .count) (start .args .numbers .now)))
-    (c .there .given .1)
+told : (c : tie.After-there)
+    → (member (given c .args .n) (list (given c)) ≡ false) × (c .there .given .0 .0 ≡ place (given c .args .n) (list (given c)))
+told c = found-missing _ _ _ _ (answered (c .before .before)) (c .there .given .1)
 
 make-room-requires : tie.Need-make-room-requires
 make-room-requires c κs =
     let there = c .before .before in
-    let start = there .before .before .before .before .before .before in
+    let start = given there in
     let size = length-take-le (start .args .count) (start .args .numbers .now) (le-of-lt (start .pre .0)) in
-    let inside = place-within (n there) (list there) in
+    let inside = place-within (start .args .n) (list start) in
     let at = told there .1 in
     (omega arith, start .pre .0)
 
@@ -78,9 +81,8 @@ same-length-2 c = search needs
 returns-2 : tie.Need-returns-2
 returns-2 c =
     let there = c .before .before .before .before .before in
-    let start = there .before .before .before .before .before .before in
-    inserted-new (start .args .count) (start .args .n) (start .args .numbers .now) (start .pre .1)
-    (there .there .given .0 .0) _ (start .pre .0) (told there .0) (told there .1) (c .before .before .make-room .ensures)
+    let pre = given there .pre in
+    inserted-new _ _ _ (pre .1) _ _ (pre .0) (told there .0) (told there .1) (c .before .before .make-room .ensures)
 
 pub insert-spec : {M : Type 1} → statement M
 insert-spec =

@@ -1,7 +1,6 @@
 -- Numbers come one after the other.
-use Prim.Native.Nat.{ℕ, _+_, _-_, _≤_}
+use Prim.Native.Nat.{_+_, _-_, _≤_}
 use native.Mathlib.Omega.{arith}
-use mathlib.Core.List.{List}
 use lib.ListN.{length, take}
 use lib.Seq.{length-take-le}
 use Rattle.sets.specs.Numbers.{insertedAll}
@@ -15,10 +14,13 @@ Inv-loop numbers₀ count new held₀ i₀ numbers held i = Changing putIn new (
 abbrev μ-loop : tie.MeasureT-loop
 μ-loop numbers₀ count new held₀ i₀ numbers held i = length new - i
 
+-- what is given, from the loop on
+abbrev entry : tie.At-loop Inv-loop μ-loop → tie.Start Inv-loop μ-loop
+entry c = c .before .before .before
+
 loop-holds : tie.Need-loop-holds Inv-loop μ-loop
 loop-holds c =
-    let start = c .before .before in
-    changing-start putIn (start .args .new .now) (start .args .numbers .now) (start .args .count) (start .pre .1)
+    changing-start _ _ _ _ (c .before .before .pre .1)
 
 mul-insert : tie.Need-mul-insert Inv-loop μ-loop
 mul-insert c = omega arith
@@ -28,16 +30,13 @@ shared-slice-read-insert c = omega arith
 
 insert-requires : tie.Need-insert-requires Inv-loop μ-loop
 insert-requires c κs =
-    let start = c .before .before .before .before .before .before in
-    let head = c .before .before .before .loop in
-    let list : List ℕ = take (start .args .count) (start .args .numbers .now) in
+    let head = c .before .before .before in
+    let inv = head .loop .inv in
+    let start = entry head in
     let size = length-take-le (start .args .count) (start .args .numbers .now) (start .pre .1 .few) in
-    let same = changing-length putIn (start .args .new .now) list (start .args .numbers .now) (head .i) (head .numbers) (head .held) (head .inv) in
-    let count = changing-count putIn (start .args .new .now) list (start .args .numbers .now) (head .i) (head .numbers) (head .held) (head .inv) in (
-      omega arith,
-      changing-holds putIn (start .args .new .now) (take (start .args .count) (start .args .numbers .now)) (start .args .numbers .now)
-          (head .i) (head .numbers) (head .held) (head .inv),
-    )
+    let same = changing-length _ _ _ _ _ _ _ inv in
+    let count = changing-count _ _ _ _ _ _ _ inv in
+    (omega arith, changing-holds _ _ _ _ _ _ _ inv)
 
 add-i : tie.Need-add-i Inv-loop μ-loop
 add-i c = omega arith
@@ -47,28 +46,22 @@ loop-less c = omega arith
 
 loop-again : tie.Need-loop-again Inv-loop μ-loop
 loop-again c =
-    let start = c .before .before .before .before .before .before .before .before .before in
-    let head = c .before .before .before .before .before .before .loop in
+    let inserted = c .before .before in
+    let in-loop = inserted .before .before .before in
+    let start = entry (in-loop .before) in
     let size = length-take-le (start .args .count) (start .args .numbers .now) (start .pre .1 .few) in
     let enough : length (take (start .args .count) (start .args .numbers .now)) + length (start .args .new .now) ≤ length (start .args .numbers .now) =
     omega arith in
-    inserting-step (start .args .new .now) (take (start .args .count) (start .args .numbers .now)) (start .args .numbers .now)
-    (head .i) (head .numbers) _ (head .held) _ (head .inv) (omega arith) enough (c .before .before .insert .ensures)
+    inserting-step _ _ _ _ _ _ _ _ (in-loop .before .loop .inv) (in-loop .loop-test .taken) enough (inserted .insert .ensures)
 
 same-length : tie.Need-same-length Inv-loop μ-loop
 same-length c =
-    let start = c .before .before .before .before in
-    let head = c .before .loop in
-    changing-length putIn (start .args .new .now) (take (start .args .count) (start .args .numbers .now)) (start .args .numbers .now)
-    (head .i) (head .numbers) (head .held) (head .inv)
+    changing-length _ _ _ _ _ _ _ (c .before .loop .inv)
 
 returns : tie.Need-returns Inv-loop μ-loop
 unfolding insertedAll
 returns c =
-    let start = c .before .before .before .before in
-    let head = c .before .loop in
-    changing-end putIn (start .args .new .now) (take (start .args .count) (start .args .numbers .now)) (start .args .numbers .now)
-    (head .i) (head .numbers) (head .held) (head .inv) (omega arith)
+    changing-end _ _ _ _ _ _ _ (c .before .loop .inv) (c .loop-test .left)
 
 pub insert-all-spec : {M : Type 1} → statement M
 insert-all-spec =

@@ -13,6 +13,18 @@ use Rattle.sets.proofs.Changing.{part-front, found-there, found-missing
 use Rattle.sets.proofs.remove.Statement.{statement}
 use Rattle.sets.proofs.remove.Tie as tie
 
+-- what is given, from what looking for the number answers
+abbrev entry : tie.After-find → tie.Start
+entry c = c .before .before .before .before
+
+-- the numbers of the set
+abbrev list : tie.Start → List ℕ
+list s = take (s .args .count) (s .args .numbers .now)
+
+-- the answer, of the set
+answered : (c : tie.After-find) → c .find .result ≡ found (entry c .args .n) (list (entry c))
+answered c = c .find .ensures ∙ ap (found (entry c .args .n)) (part-front (entry c .args .count) _)
+
 sub-find : tie.Need-sub-find
 sub-find c = search needs
 
@@ -25,7 +37,7 @@ part-find-end c = search needs
 find-requires : tie.Need-find-requires
 find-requires c κs =
     let start = c .before .before .before in
-    ap (rising 0) (part-front (start .args .count) (start .args .numbers .now)) ∙ start .pre .ascends
+    ap (rising 0) (part-front (start .args .count) _) ∙ start .pre .ascends
 
 enum-known-there : tie.Need-enum-known-there
 enum-known-there c = search needs
@@ -38,36 +50,27 @@ same-length c = search needs
 
 returns : tie.Need-returns
 returns c =
-    let start = c .before .before .before .before .before .before in
-    let list : List ℕ = start .args .numbers .now in
-    let told = found-missing _ (start .args .n) _ (take (start .args .count) list)
-    (c .before .before .find .ensures ∙ ap (found (start .args .n)) (part-front (start .args .count) list)) (c .enum-told .given .1) in
-    removed-missing (start .args .count) (start .args .n) list (start .pre) (told .0)
+    let looked = c .before .before in
+    removed-missing _ _ _ (entry looked .pre) (found-missing _ _ _ _ (answered looked) (c .enum-told .given .1) .0)
 
 -- where the number was found
-abbrev list : tie.After-there → List ℕ
-list c = let start = c .before .before .before .before .before .before in take (start .args .count) (start .args .numbers .now)
+abbrev given : tie.After-there → tie.Start
+given c = entry (c .before .before)
 
-abbrev n : tie.After-there → ℕ
-n c = c .before .before .before .before .before .before .args .n
+told : (c : tie.After-there)
+    → (member (given c .args .n) (list (given c)) ≡ true) × (c .there .given .0 .0 ≡ place (given c .args .n) (list (given c)))
+told c = found-there _ _ _ _ (answered (c .before .before)) (c .there .given .1)
 
-told : (c : tie.After-there) → (member (n c) (list c) ≡ true) × (c .there .given .0 .0 ≡ place (n c) (list c))
-told c =
-    let start = c .before .before .before .before .before .before in
-    found-there _ (n c) _ (list c)
-    (c .before .before .find .ensures ∙ ap (found (n c)) (part-front (start .args .count) (start .args .numbers .now)))
-    (c .there .given .1)
-
-within : (c : tie.After-there) → c .there .given .0 .0 < c .before .before .before .before .before .before .args .count
+within : (c : tie.After-there) → c .there .given .0 .0 < given c .args .count
 within c =
-    let start = c .before .before .before .before .before .before in
+    let start = given c in
     let size = length-take-le (start .args .count) (start .args .numbers .now) (start .pre .few) in
-    let inside = there-within (n c) (list c) (told c .0) in
+    let inside = there-within _ _ (told c .0) in
     let at = told c .1 in
     omega arith
 
 close-gap-requires : tie.Need-close-gap-requires
-close-gap-requires c κs = (within (c .before .before), c .before .before .before .before .before .before .before .before .pre .few)
+close-gap-requires c κs = let there = c .before .before in (within there, given there .pre .few)
 
 sub-result : tie.Need-sub-result
 sub-result c = let h = within (c .before .before .before .before .before) in omega arith
@@ -78,9 +81,7 @@ same-length-2 c = search needs
 returns-2 : tie.Need-returns-2
 returns-2 c =
     let there = c .before .before .before .before .before in
-    let start = there .before .before .before .before .before .before in
-    removed-there (start .args .count) (start .args .n) (start .args .numbers .now) (start .pre)
-    (there .there .given .0 .0) _ (told there .0) (told there .1) (c .before .before .close-gap .ensures)
+    removed-there _ _ _ (given there .pre) _ _ (told there .0) (told there .1) (c .before .before .close-gap .ensures)
 
 pub remove-spec : {M : Type 1} → statement M
 remove-spec =

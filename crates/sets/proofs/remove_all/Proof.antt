@@ -15,8 +15,7 @@ abbrev μ-loop : tie.MeasureT-loop
 
 loop-holds : tie.Need-loop-holds Inv-loop μ-loop
 loop-holds c =
-    let start = c .before .before in
-    changing-start takeOut (start .args .out .now) (start .args .numbers .now) (start .args .count) (start .pre)
+    changing-start _ _ _ _ (c .before .before .pre)
 
 mul-remove : tie.Need-mul-remove Inv-loop μ-loop
 mul-remove c = omega arith
@@ -26,10 +25,7 @@ shared-slice-read-remove c = omega arith
 
 remove-requires : tie.Need-remove-requires Inv-loop μ-loop
 remove-requires c κs =
-    let start = c .before .before .before .before .before .before in
-    let head = c .before .before .before .loop in
-    changing-holds takeOut (start .args .out .now) (take (start .args .count) (start .args .numbers .now)) (start .args .numbers .now)
-    (head .i) (head .numbers) (head .left) (head .inv)
+    changing-holds _ _ _ _ _ _ _ (c .before .before .before .loop .inv)
 
 add-i : tie.Need-add-i Inv-loop μ-loop
 add-i c = omega arith
@@ -39,25 +35,18 @@ loop-less c = omega arith
 
 loop-again : tie.Need-loop-again Inv-loop μ-loop
 loop-again c =
-    let start = c .before .before .before .before .before .before .before .before .before in
-    let head = c .before .before .before .before .before .before .loop in
-    removing-step (start .args .out .now) (take (start .args .count) (start .args .numbers .now)) (start .args .numbers .now)
-    (head .i) (head .numbers) _ (head .left) _ (head .inv) (omega arith) (c .before .before .remove .ensures)
+    let removed = c .before .before in
+    let in-loop = removed .before .before .before in
+    removing-step _ _ _ _ _ _ _ _ (in-loop .before .loop .inv) (in-loop .loop-test .taken) (removed .remove .ensures)
 
 same-length : tie.Need-same-length Inv-loop μ-loop
 same-length c =
-    let start = c .before .before .before .before in
-    let head = c .before .loop in
-    changing-length takeOut (start .args .out .now) (take (start .args .count) (start .args .numbers .now)) (start .args .numbers .now)
-    (head .i) (head .numbers) (head .left) (head .inv)
+    changing-length _ _ _ _ _ _ _ (c .before .loop .inv)
 
 returns : tie.Need-returns Inv-loop μ-loop
 unfolding withoutAll
 returns c =
-    let start = c .before .before .before .before in
-    let head = c .before .loop in
-    changing-end takeOut (start .args .out .now) (take (start .args .count) (start .args .numbers .now)) (start .args .numbers .now)
-    (head .i) (head .numbers) (head .left) (head .inv) (omega arith)
+    changing-end _ _ _ _ _ _ _ (c .before .loop .inv) (c .loop-test .left)
 
 pub remove-all-spec : {M : Type 1} → statement M
 remove-all-spec =
