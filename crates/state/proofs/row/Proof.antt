@@ -1,5 +1,4 @@
 -- The four bytes of a row.
-use Prim.Native.Nat.{_*_}
 use mathlib.Core.Path.{sym, ap, _∙_}
 use Rattle.state.specs.Rows.{rowNumber, rowAt}
 use Rattle.state.proofs.RowBytes.{four-at}
@@ -38,7 +37,7 @@ returns : tie.Need-returns
 unfolding rowAt
 returns c =
     let start = c .before .before .before .before .before .before in
-    c .row-number .ensures ∙ ap rowNumber (sym (four-at (4 * start .args .i) (start .args .state .now) (start .pre)))
+    c .row-number .ensures ∙ ap rowNumber (sym (four-at _ _ (start .pre)))
 
 pub row-spec : {M : Type 1} → statement M
 row-spec =

@@ -1,12 +1,25 @@
 -- A row is right if its predicate is known and its three places are right.
-use Prim.Native.Nat.{_*_}
-use mathlib.Core.Path.{sym, _∙_}
+use Prim.Native.Nat.{ℕ, _*_}
+use mathlib.Core.Path.{_≡_, sym, _∙_}
+use mathlib.Core.Bool.{Bool, true, _&&_}
 use native.Mathlib.Omega.{arith}
 use borrow.Author.Tests.{not-true, not-false}
-use Rattle.state.proofs.RightRows.{row-unknown, row-places, first-fails, second-fails, third-decides}
+use Rattle.model.specs.Strips.{rowRight}
+use Rattle.state.specs.Rows.{signature, rowAt}
+use Rattle.state.proofs.RightRows.{row-unknown, row-places, placeTest, first-fails, second-fails, third-decides}
 use borrow.Author.Needs.{needs}
 use Rattle.state.proofs.row_right.Statement.{statement}
 use Rattle.state.proofs.row_right.Tie as tie
+
+-- what is given, from the test that the predicate is known; this, from the test of the first place; and that, from the test of the second
+abbrev entry : tie.Else1 → tie.Start
+entry c = c .before .before .before .before
+
+abbrev known : tie.After-place-right → tie.Else1
+known c = c .before .before .before
+
+abbrev first : tie.After-place-right2 → tie.After-place-right
+first c = c .before .before .before
 
 mul-at : tie.Need-mul-at
 mul-at c = search needs
@@ -20,7 +33,7 @@ cast-predicate c = omega (arith, c .shared-slice-known3 .given (4 * c .before .b
 returns : tie.Need-returns
 returns c =
     let start = c .before .before .before .before in
-    row-unknown (start .args .arities .now) (start .args .objects) (start .args .i) (start .args .state .now) (start .pre .0) (c .if1 .taken)
+    row-unknown _ _ (start .args .i) _ (start .pre .0) (c .if1 .taken)
 
 shared-slice-read-arity : tie.Need-shared-slice-read-arity
 shared-slice-read-arity c = search needs
@@ -34,12 +47,22 @@ shared-slice-read-place-right c = search needs
 place-right-requires : tie.Need-place-right-requires
 place-right-requires c κs = search needs
 
+-- the test of place k
+abbrev test : tie.Start → ℕ → Bool
+test s k = placeTest (s .args .arities .now) (s .args .objects) (s .args .i) (s .args .state .now) (s .pre .0) k
+
+-- the row is right by its three places
+by-places : (c : tie.Else1)
+    → (test (entry c) 1 && test (entry c) 2 && test (entry c) 3)
+    ≡ rowRight (signature (entry c .args .arities .now) (entry c .args .objects)) (rowAt (entry c .args .i) (entry c .args .state .now))
+by-places c = row-places _ _ _ _ (entry c .pre .0) (entry c .pre .1) (c .if1 .left)
+
+first-right : (c : tie.Else2) → test (entry (known (c .before))) 1 ≡ true
+first-right c = sym (c .before .place-right .ensures) ∙ not-false _ (c .if2 .left)
+
 returns-2 : tie.Need-returns-2
 returns-2 c =
-    let start = c .before .before .before .before .before .before .before .before in
-    first-fails _ _ _ (sym (c .before .place-right .ensures) ∙ not-true _ (c .if2 .taken))
-    ∙ row-places (start .args .arities .now) (start .args .objects) (start .args .i) (start .args .state .now) (start .pre .0) (start .pre .1)
-    (c .before .before .before .before .if1 .left)
+    first-fails _ _ _ (sym (c .before .place-right .ensures) ∙ not-true _ (c .if2 .taken)) ∙ by-places (known (c .before))
 
 add-place-right-2 : tie.Need-add-place-right-2
 add-place-right-2 c = search needs
@@ -52,11 +75,9 @@ place-right-requires-2 c κs = search needs
 
 returns-3 : tie.Need-returns-3
 returns-3 c =
-    let start = c .before .before .before .before .before .before .before .before .before .before .before in
-    second-fails _ _ _ (sym (c .before .before .before .before .place-right .ensures) ∙ not-false _ (c .before .before .before .if2 .left))
-    (sym (c .before .place-right2 .ensures) ∙ not-true _ (c .if3 .taken))
-    ∙ row-places (start .args .arities .now) (start .args .objects) (start .args .i) (start .args .state .now) (start .pre .0) (start .pre .1)
-    (c .before .before .before .before .before .before .before .if1 .left)
+    let second = c .before in
+    second-fails _ _ _ (first-right (second .before .before)) (sym (second .place-right2 .ensures) ∙ not-true _ (c .if3 .taken))
+    ∙ by-places (known (first second))
 
 add-place-right-3 : tie.Need-add-place-right-3
 add-place-right-3 c = search needs
@@ -69,13 +90,10 @@ place-right-requires-3 c κs = search needs
 
 returns-4 : tie.Need-returns-4
 returns-4 c =
-    let start = c .before .before .before .before .before .before .before .before .before .before .before .before .before in
+    let second = c .before .before .before in
     c .place-right3 .ensures
-    ∙ third-decides _ _ _ (sym (c .before .before .before .before .before .before .place-right .ensures) ∙ not-false _
-    (c .before .before .before .before .before .if2 .left))
-    (sym (c .before .before .before .place-right2 .ensures) ∙ not-false _ (c .before .before .if3 .left))
-    ∙ row-places (start .args .arities .now) (start .args .objects) (start .args .i) (start .args .state .now) (start .pre .0) (start .pre .1)
-    (c .before .before .before .before .before .before .before .before .before .if1 .left)
+    ∙ third-decides _ _ _ (first-right (second .before .before)) (sym (second .place-right2 .ensures) ∙ not-false _ (c .before .before .if3 .left))
+    ∙ by-places (known (first second))
 
 pub row-right-spec : {M : Type 1} → statement M
 row-right-spec =

@@ -18,18 +18,16 @@ abbrev μ-loop : tie.MeasureT-loop
 
 loop-holds : tie.Need-loop-holds Inv-loop μ-loop
 loop-holds c =
-    let start = c .before .before in
-    (omega arith, rows-start (signature (start .args .arities .now) (start .args .objects)) (start .args .count) (start .args .state .now))
+    (omega arith, rows-start _ _ _)
 
 row-right-requires : tie.Need-row-right-requires Inv-loop μ-loop
 row-right-requires c κs = (omega arith, c .before .before .before .before .pre .1)
 
 returns : tie.Need-returns Inv-loop μ-loop
 returns c =
-    let start = c .before .before .before .before .before .before in
-    let head = c .before .before .before .loop in
-    rows-wrong _ (start .args .count) (start .args .state .now) (head .least) (head .i) _ (head .inv .1) (c .before .before .loop-test .taken)
-    (sym (c .before .row-right .ensures) ∙ not-true _ (c .if1 .taken))
+    let tested = c .before in
+    let more = tested .before in
+    rows-wrong _ _ _ _ _ _ (more .before .loop .inv .1) (more .loop-test .taken) (sym (tested .row-right .ensures) ∙ not-true _ (c .if1 .taken))
 
 row-requires : tie.Need-row-requires Inv-loop μ-loop
 row-requires c κs = omega arith
@@ -39,11 +37,11 @@ cast-n c = omega arith
 
 returns-2 : tie.Need-returns-2 Inv-loop μ-loop
 returns-2 c =
-    let start = c .before .before .before .before .before .before .before .before in
-    let head = c .before .before .before .before .before .loop in
-    rows-low _ (start .args .count) (start .args .state .now) (head .least) (head .i) _ (head .inv .1) (c .before .before .before .before .loop-test .taken)
-    (c .before .row .result)
-    (sym (c .before .before .before .row-right .ensures) ∙ not-false _ (c .before .before .if1 .left)) (c .before .row .ensures) (c .if2 .taken)
+    let read = c .before in
+    let tested = read .before .before in
+    let more = tested .before in
+    rows-low _ _ _ _ _ _ (more .before .loop .inv .1) (more .loop-test .taken) _
+    (sym (tested .row-right .ensures) ∙ not-false _ (read .before .if1 .left)) (read .row .ensures) (c .if2 .taken)
 
 add-least : tie.Need-add-least Inv-loop μ-loop
 add-least c = omega arith
@@ -56,21 +54,17 @@ loop-less c = omega arith
 
 loop-again : tie.Need-loop-again Inv-loop μ-loop
 loop-again c =
-    let start = c .before .before .before .before .before .before .before .before in
-    let head = c .before .before .before .before .before .loop in (
+    let read = c .before in
+    let tested = read .before .before in
+    let more = tested .before in (
       omega arith,
-      rows-again _ (start .args .count) (start .args .state .now) (head .least) (head .i) _ (head .inv .1) (c .before .before .before .before .loop-test .taken)
-          (c .before .row .result)
-          (sym (c .before .before .before .row-right .ensures) ∙ not-false _ (c .before .before .if1 .left)) (c .before .row .ensures) (c .if2 .left),
+      rows-again _ _ _ _ _ _ (more .before .loop .inv .1) (more .loop-test .taken) _
+          (sym (tested .row-right .ensures) ∙ not-false _ (read .before .if1 .left)) (read .row .ensures) (c .if2 .left),
     )
 
 returns-3 : tie.Need-returns-3 Inv-loop μ-loop
 returns-3 c =
-    let start = c .before .before .before .before in
-    let head = c .before .loop in
-    rows-end (signature (start .args .arities .now) (start .args .objects)) (start .args .count) (start .args .state .now) (head .least) (head .i)
-    (c .loop-test .left)
-    ∙ head .inv .1
+    rows-end _ _ _ _ _ (c .loop-test .left) ∙ c .before .loop .inv .1
 
 pub rows-right-spec : {M : Type 1} → statement M
 rows-right-spec =

@@ -18,10 +18,9 @@ same-length c = omega arith
 
 returns : tie.Need-returns
 returns c =
-    let start = c .before .before .before .before .before .before .before .before .before .before in
-    rows-stored (start .args .numbers .now) (start .args .state .now) _ _ (c .before .before .before .before .before .before .write-rows .ensures)
-    (start .pre .0)
-    (c .before .before .clear .ensures)
+    let cleared = c .before .before in
+    let written = cleared .before .before .before .before in
+    rows-stored _ _ _ _ (written .write-rows .ensures) (written .before .before .before .before .pre .0) (cleared .clear .ensures)
 
 pub store-spec : {M : Type 1} → statement M
 store-spec = tie.close (tie.spec write-rows-requires mul-clear clear-requires same-length returns)

@@ -37,11 +37,12 @@ loop-less c = omega arith
 
 loop-again : tie.Need-loop-again Inv-loop μ-loop
 loop-again c =
-    let start = c .before .before .before .before .before .before .before .before .before in
-    let head = c .before .before .before .before .before .before .loop in
-    let more = rows-written (start .args .numbers .now) (start .args .state .now) (head .state) _ (head .i) (head .inv .2) (omega arith)
-    (c .before .before .write-row .ensures) in
-    (omega arith, rows-length (start .args .numbers .now) (start .args .state .now) _ (head .i + 1) more (omega arith) (start .pre), more)
+    let written = c .before .before in
+    let in-loop = written .before .before .before in
+    let head = in-loop .before in
+    let start = head .before .before .before in
+    let more = rows-written _ _ _ _ _ (head .loop .inv .2) (in-loop .loop-test .taken) (written .write-row .ensures) in
+    (omega arith, rows-length (start .args .numbers .now) _ _ (head .loop .i + 1) more (omega arith) (start .pre), more)
 
 same-length : tie.Need-same-length Inv-loop μ-loop
 same-length c = c .before .loop .inv .1
