@@ -28,9 +28,8 @@ stands-from-requires c κs = omega arith
 
 returns : tie.Need-returns Inv-loop μ-loop
 returns c =
-    let start = c .before .before .before .before .before .before in
-    let head = c .before .before .before .before .loop in
-    distinct-fails (start .args .objects .now) (head .i) _ (head .inv .1) (omega arith) (sym (c .before .stands-from .ensures) ∙ c .if1 .taken)
+    let more = c .before .before .before in
+    distinct-fails _ _ _ (more .before .loop .inv .1) (more .loop-test .taken) (sym (c .before .stands-from .ensures) ∙ c .if1 .taken)
 
 add-i : tie.Need-add-i Inv-loop μ-loop
 add-i c = omega arith
@@ -40,17 +39,12 @@ loop-less c = omega arith
 
 loop-again : tie.Need-loop-again Inv-loop μ-loop
 loop-again c =
-    let start = c .before .before .before .before .before .before in
-    let head = c .before .before .before .before .loop in (
-      omega arith,
-      distinct-again (start .args .objects .now) (head .i) _ (head .inv .1) (omega arith) (sym (c .before .stands-from .ensures) ∙ c .if1 .left),
-    )
+    let more = c .before .before .before in
+    (omega arith, distinct-again _ _ _ (more .before .loop .inv .1) (more .loop-test .taken) (sym (c .before .stands-from .ensures) ∙ c .if1 .left))
 
 returns-2 : tie.Need-returns-2 Inv-loop μ-loop
 returns-2 c =
-    let start = c .before .before .before in
-    let head = c .before .loop in
-    distinct-end (start .args .objects .now) (head .i) _ (head .inv .1) (omega arith)
+    distinct-end _ _ _ (c .before .loop .inv .1) (c .loop-test .left)
 
 pub all-different-spec : {M : Type 1} → statement M
 all-different-spec =

@@ -37,10 +37,9 @@ enum-told-2 c = search needs
 
 returns : tie.Need-returns Inv-loop μ-loop
 returns c =
-    let start = c .before .before .before .before .before .before .before .before in
-    let head = c .before .before .before .before .before .loop in
-    all-fails (λ n. member n (start .args .numbers .now)) (start .args .facts .now) (head .i) _ (head .inv .1) (omega arith)
-    (found-missing _ _ _ (start .args .numbers .now) (c .before .before .find .ensures) (c .enum-told2 .given .1) .0)
+    let looked = c .before .before in
+    let more = looked .before .before in
+    all-fails _ _ _ _ (more .before .loop .inv .1) (more .loop-test .taken) (found-missing _ _ _ _ (looked .find .ensures) (c .enum-told2 .given .1) .0)
 
 add-i : tie.Need-add-i Inv-loop μ-loop
 add-i c = omega arith
@@ -50,18 +49,15 @@ loop-less c = omega arith
 
 loop-again : tie.Need-loop-again Inv-loop μ-loop
 loop-again c =
-    let start = c .before .before .before .before .before .before .before .before in
-    let head = c .before .before .before .before .before .loop in (
+    let looked = c .before .before in
+    let more = looked .before .before in (
       omega arith,
-      all-again (λ n. member n (start .args .numbers .now)) (start .args .facts .now) (head .i) _ (head .inv .1) (omega arith)
-          (found-there _ _ _ (start .args .numbers .now) (c .before .before .find .ensures) (c .enum-told .given .1) .0),
+      all-again _ _ _ _ (more .before .loop .inv .1) (more .loop-test .taken) (found-there _ _ _ _ (looked .find .ensures) (c .enum-told .given .1) .0),
     )
 
 returns-2 : tie.Need-returns-2 Inv-loop μ-loop
 returns-2 c =
-    let start = c .before .before .before .before in
-    let head = c .before .loop in
-    all-end (λ n. member n (start .args .numbers .now)) (start .args .facts .now) (head .i) _ (head .inv .1) (omega arith)
+    all-end _ _ _ _ (c .before .loop .inv .1) (c .loop-test .left)
 
 pub all-in-spec : {M : Type 1} → statement M
 all-in-spec =

@@ -25,10 +25,10 @@ row-number-requires c κs = search needs
 
 returns : tie.Need-returns
 returns c =
-    let start = c .before .before .before .before .before .before in
+    let first = c .before .before .before in
+    let pre = first .before .before .before .pre in
     c .row-number .ensures
-    ∙ fact-row (start .args .arities .now) (start .args .f) (start .pre .0) (start .pre .1) _ _ _ (c .before .before .before .up-to .ensures)
-    (c .before .before .up-to2 .ensures) (c .before .up-to3 .ensures)
+    ∙ fact-row _ _ (pre .0) (pre .1) _ _ _ (first .up-to .ensures) (c .before .before .up-to2 .ensures) (c .before .up-to3 .ensures)
 
 pub fact-number-spec : {M : Type 1} → statement M
 fact-number-spec =

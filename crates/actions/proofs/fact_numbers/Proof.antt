@@ -17,6 +17,10 @@ Inv-loop arities numbers₀ facts count i₀ numbers i =
 abbrev μ-loop : tie.MeasureT-loop
 μ-loop arities numbers₀ facts count i₀ numbers i = facts .count - i
 
+-- what is given, from the loop on
+abbrev entry : tie.At-loop Inv-loop μ-loop → tie.Start Inv-loop μ-loop
+entry c = c .before .before .before
+
 loop-holds : tie.Need-loop-holds Inv-loop μ-loop
 loop-holds c = (omega arith, refl, refl)
 
@@ -24,22 +28,20 @@ mul-f : tie.Need-mul-f Inv-loop μ-loop
 mul-f c = omega arith
 
 element-copy-out-f : tie.Need-element-copy-out-f Inv-loop μ-loop
-element-copy-out-f c = let few = c .before .before .before .before .pre .few in omega arith
+element-copy-out-f c = let few = entry (c .before) .pre .few in omega arith
 
 fact-number-requires : tie.Need-fact-number-requires Inv-loop μ-loop
 unfolding blankAtom
 fact-number-requires c κs =
-    let start = c .before .before .before .before .before in (
-      start .pre .right,
-      fact-predicate (start .args .arities .now) (start .args .t1) (start .args .numbers .now) (start .pre)
-          (c .before .before .loop .i) (omega arith),
-    )
+    let more = c .before in
+    let pre = entry (more .before) .pre in
+    (pre .right, fact-predicate _ _ _ pre _ (more .loop-test .taken))
 
 mul-numbers : tie.Need-mul-numbers Inv-loop μ-loop
 mul-numbers c = omega arith
 
 slice-write-numbers : tie.Need-slice-write-numbers Inv-loop μ-loop
-slice-write-numbers c = let room = c .before .before .before .before .before .before .pre .room in omega arith
+slice-write-numbers c = let room = entry (c .before .before .before) .pre .room in omega arith
 
 add-i : tie.Need-add-i Inv-loop μ-loop
 add-i c = omega arith
@@ -50,12 +52,11 @@ loop-less c = omega arith
 loop-again : tie.Need-loop-again Inv-loop μ-loop
 unfolding blankAtom
 loop-again c =
-    let start = c .before .before .before .before .before .before in
-    let head = c .before .before .before .loop in (
+    let more = c .before .before in
+    let head = more .before in (
       omega arith,
-      length-set (head .numbers) (head .i) _ ∙ head .inv .1,
-      facts-step (start .args .arities .now) (start .args .t1) (start .args .numbers .now) (start .pre) (head .i) (c .fact-number .result) (head .numbers)
-          (omega arith) (head .inv .2) (c .fact-number .ensures),
+      length-set (head .loop .numbers) (head .loop .i) _ ∙ head .loop .inv .1,
+      facts-step _ _ _ (entry head .pre) _ _ _ (more .loop-test .taken) (head .loop .inv .2) (c .fact-number .ensures),
     )
 
 same-length : tie.Need-same-length Inv-loop μ-loop
@@ -63,9 +64,8 @@ same-length c = c .before .loop .inv .1
 
 returns : tie.Need-returns Inv-loop μ-loop
 returns c =
-    let start = c .before .before .before .before in
-    let head = c .before .loop in
-    facts-end (start .args .arities .now) (start .args .t1) (start .args .numbers .now) (start .pre) (head .i) (head .numbers) (omega arith) (head .inv .2)
+    let head = c .before in
+    facts-end _ (entry head .args .t1) _ (entry head .pre) (head .loop .i) _ (omega arith) (head .loop .inv .2)
 
 pub fact-numbers-spec : {M : Type 1} → statement M
 fact-numbers-spec =

@@ -19,6 +19,10 @@ Inv-loop arities objects list count numbers₀ i₀ numbers i =
 abbrev μ-loop : tie.MeasureT-loop
 μ-loop arities objects list count numbers₀ i₀ numbers i = list .count - i
 
+-- what is given, from the loop on
+abbrev entry : tie.At-loop Inv-loop μ-loop → tie.Start Inv-loop μ-loop
+entry c = c .before .before .before
+
 loop-holds : tie.Need-loop-holds Inv-loop μ-loop
 unfolding filled
 loop-holds c = (omega arith, refl)
@@ -27,22 +31,20 @@ mul-a : tie.Need-mul-a Inv-loop μ-loop
 mul-a c = omega arith
 
 element-copy-out-a : tie.Need-element-copy-out-a Inv-loop μ-loop
-element-copy-out-a c = let few = c .before .before .before .before .pre .few in omega arith
+element-copy-out-a c = let few = entry (c .before) .pre .few in omega arith
 
 ground-requires : tie.Need-ground-requires Inv-loop μ-loop
 unfolding blankAtom
 ground-requires c κs =
-    let start = c .before .before .before .before .before in (
-      start .pre .right,
-      atom-known (start .args .arities .now) (start .args .objects .now) (start .args .t1) (start .pre) (c .before .before .loop .i)
-          (omega arith),
-    )
+    let more = c .before in
+    let pre = entry (more .before) .pre in
+    (pre .right, atom-known _ _ _ pre _ (more .loop-test .taken))
 
 mul-numbers : tie.Need-mul-numbers Inv-loop μ-loop
 mul-numbers c = omega arith
 
 array-write-numbers : tie.Need-array-write-numbers Inv-loop μ-loop
-array-write-numbers c = let few = c .before .before .before .before .before .before .pre .few in omega arith
+array-write-numbers c = let few = entry (c .before .before .before) .pre .few in omega arith
 
 add-i : tie.Need-add-i Inv-loop μ-loop
 add-i c = omega arith
@@ -53,18 +55,14 @@ loop-less c = omega arith
 loop-again : tie.Need-loop-again Inv-loop μ-loop
 unfolding blankAtom
 loop-again c =
-    let start = c .before .before .before .before .before .before in
-    let head = c .before .before .before .loop in (
-      omega arith,
-      grounded-step (start .args .arities .now) (start .args .objects .now) (start .args .t1) (start .pre) (head .i) (c .ground .result) (head .numbers)
-          (omega arith) (head .inv .1) (c .ground .ensures),
-    )
+    let more = c .before .before in
+    let head = more .before in
+    (omega arith, grounded-step _ _ _ (entry head .pre) _ _ _ (more .loop-test .taken) (head .loop .inv .1) (c .ground .ensures))
 
 returns : tie.Need-returns Inv-loop μ-loop
 returns c =
-    let start = c .before .before .before .before in
-    let head = c .before .loop in
-    grounded-end (start .args .arities .now) (start .args .objects .now) (start .args .t1) (start .pre) (head .i) (head .numbers) (omega arith) (head .inv .1)
+    let head = c .before in
+    grounded-end _ _ (entry head .args .t1) (entry head .pre) (head .loop .i) _ (omega arith) (head .loop .inv .1)
 
 pub grounded-spec : {M : Type 1} → statement M
 grounded-spec =
