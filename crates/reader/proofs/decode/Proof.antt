@@ -1,15 +1,47 @@
 -- `decode` answers as the definition does, and keeps the task with its arrays filled up.
+use Prim.Native.Nat.{ℕ, _-_}
 use mathlib.Core.Bool.{true}
+use mathlib.Core.List.{List}
 use mathlib.Core.Path.{_≡_, subst⁻¹}
-use Rattle.card.specs.Represents.{refusalNumber, taskOf}
+use lib.ListN.{take, drop}
+use Rattle.model.specs.Answer.{accepted}
+use Rattle.card.specs.declared.ArityList.{ArityList}
+use Rattle.card.specs.Represents.{refusalNumber, taskOf, aritiesOf, aritiesFor}
 use Rattle.reader_atoms.specs.Atoms.{inRange}
 use Rattle.reader_bytes.proofs.Reading.{accepted-by, kept-as, refusal-by, byte-read, byte-refusal}
+use Rattle.reader.specs.Parts.{predicates}
 use Rattle.reader.proofs.Decoding.{no-predicates, no-objects, no-schemas, no-facts, more-bytes, whole-card, goes-on, is-over}
 use Rattle.reader.proofs.Decoding.{arities-in-range, arities-room, arities-part, schemas-with, facts-with}
 use Rattle.reader.proofs.Decoding.{task-kept, decodes-refused, decodes-accepted}
 use borrow.Author.Needs.{needs}
 use Rattle.reader.proofs.decode.Statement.{statement}
 use Rattle.reader.proofs.decode.Tie as tie
+
+-- the predicates, from the objects' number; this, from the schemas; and these, from the facts
+abbrev predicates-before : tie.After-byte-between → tie.After-step
+predicates-before c = c .before .before .before .before
+
+abbrev objects-before : tie.After-schemas → tie.After-counted
+objects-before c = c .before .before .before .before
+
+abbrev schemas-before : tie.After-facts → tie.After-step2
+schemas-before c = c .before .before .before .before .before
+
+-- the card, and the arities that are read from it
+abbrev card : tie.After-step → List ℕ
+card c = c .before .before .before .before .args .card .now
+
+abbrev list : tie.After-step → ArityList
+list c = c .before .before .predicates .result .list
+
+predicates-read : (c : tie.After-step) → predicates (card c) ≡ accepted (aritiesOf (list c), drop (c .step .given .0 .0 .at) (card c))
+predicates-read c = accepted-by (c .before .before .predicates .ensures) (c .step .given .1)
+
+arities-kept : (c : tie.After-step) → list c ≡ aritiesFor (aritiesOf (list c))
+arities-kept c = kept-as (c .before .before .predicates .ensures) (c .step .given .1)
+
+arities-right : (c : tie.After-step) → inRange (take (list c .count - 0) (list c .arities)) ≡ true
+arities-right c = subst⁻¹ (λ a. inRange a ≡ true) (arities-part _) (arities-in-range _ (predicates-read c))
 
 predicates-requires : tie.Need-predicates-requires
 predicates-requires c κs = search needs
@@ -52,9 +84,7 @@ returns-2 : tie.Need-returns-2
 unfolding refusalNumber
 returns-2 c =
     let at-byte-between = c .before .before .before .before in
-    let at-step = at-byte-between .before .before .before .before in
-    let at-predicates = at-step .before .before in
-    let p = accepted-by (at-predicates .predicates .ensures) (at-step .step .given .1) in
+    let p = predicates-read (predicates-before at-byte-between) in
     let none = byte-refusal (at-byte-between .byte-between .ensures) (c .before .before .enum-told2 .given .1) (c .before .refusal2 .ensures) in
     decodes-refused (c .refused2 .ensures) (no-objects _ _ p none)
 
@@ -68,17 +98,10 @@ part-schemas-start : tie.Need-part-schemas-start
 part-schemas-start c = search needs
 
 part-schemas-end : tie.Need-part-schemas-end
-part-schemas-end c =
-    let at-step = c .before .before .before .before .before .before .before .before in
-    let at-predicates = at-step .before .before in
-    arities-room (kept-as (at-predicates .predicates .ensures) (at-step .step .given .1))
+part-schemas-end c = arities-room (arities-kept (predicates-before (c .before .before .before .before)))
 
 schemas-requires : tie.Need-schemas-requires
-schemas-requires c κs =
-    let at-step = c .before .before .before .before .before .before .before .before .before in
-    let at-predicates = at-step .before .before in
-    let p = accepted-by (at-predicates .predicates .ensures) (at-step .step .given .1) in
-    subst⁻¹ (λ a. inRange a ≡ true) (arities-part _) (arities-in-range _ p)
+schemas-requires c κs = arities-right (predicates-before (c .before .before .before .before .before))
 
 enum-known-step-2 : tie.Need-enum-known-step-2
 enum-known-step-2 c = search needs
@@ -97,11 +120,9 @@ unfolding refusalNumber
 returns-3 c =
     let at-enum-told3 = c .before .before in
     let at-schemas = at-enum-told3 .before .before in
-    let at-counted = at-schemas .before .before .before .before in
+    let at-counted = objects-before at-schemas in
     let at-byte-between = at-counted .before .before in
-    let at-step = at-byte-between .before .before .before .before in
-    let at-predicates = at-step .before .before in
-    let p = accepted-by (at-predicates .predicates .ensures) (at-step .step .given .1) in
+    let p = predicates-read (predicates-before at-byte-between) in
     let o = byte-read (at-byte-between .byte-between .ensures) (at-counted .counted .given .1) in
     let none = refusal-by (schemas-with _ _ (at-schemas .schemas .ensures)) (at-enum-told3 .enum-told3 .given .1) (c .before .refusal3 .ensures) in
     decodes-refused (c .refused3 .ensures) (no-schemas _ _ p _ o none)
@@ -114,16 +135,13 @@ part-facts-start c = search needs
 
 part-facts-end : tie.Need-part-facts-end
 part-facts-end c =
-    let at-step = c .before .before .before .before .before .before .before .before .before .before .before .before .before .before .before in
-    let at-predicates = at-step .before .before in
-    arities-room (kept-as (at-predicates .predicates .ensures) (at-step .step .given .1))
+    let at-counted = objects-before (c .before .before .before .before .before) in
+    arities-room (arities-kept (predicates-before (at-counted .before .before)))
 
 facts-requires : tie.Need-facts-requires
 facts-requires c κs =
-    let at-step = c .before .before .before .before .before .before .before .before .before .before .before .before .before .before .before .before in
-    let at-predicates = at-step .before .before in
-    let p = accepted-by (at-predicates .predicates .ensures) (at-step .step .given .1) in
-    subst⁻¹ (λ a. inRange a ≡ true) (arities-part _) (arities-in-range _ p)
+    let at-counted = objects-before (c .before .before .before .before .before .before) in
+    arities-right (predicates-before (at-counted .before .before))
 
 enum-known-step-3 : tie.Need-enum-known-step-3
 enum-known-step-3 c = search needs
@@ -141,13 +159,11 @@ returns-4 : tie.Need-returns-4
 unfolding refusalNumber
 returns-4 c =
     let at-facts = c .before .before .before .before in
-    let at-step2 = at-facts .before .before .before .before .before in
+    let at-step2 = schemas-before at-facts in
     let at-schemas = at-step2 .before .before in
-    let at-counted = at-schemas .before .before .before .before in
+    let at-counted = objects-before at-schemas in
     let at-byte-between = at-counted .before .before in
-    let at-step = at-byte-between .before .before .before .before in
-    let at-predicates = at-step .before .before in
-    let p = accepted-by (at-predicates .predicates .ensures) (at-step .step .given .1) in
+    let p = predicates-read (predicates-before at-byte-between) in
     let o = byte-read (at-byte-between .byte-between .ensures) (at-counted .counted .given .1) in
     let w₁ = schemas-with _ _ (at-schemas .schemas .ensures) in
     let e₁ = at-step2 .step2 .given .1 in
@@ -162,13 +178,11 @@ unfolding refusalNumber
 returns-5 c =
     let at-step3 = c .before .before .before .before .before in
     let at-facts = at-step3 .before .before in
-    let at-step2 = at-facts .before .before .before .before .before in
+    let at-step2 = schemas-before at-facts in
     let at-schemas = at-step2 .before .before in
-    let at-counted = at-schemas .before .before .before .before in
+    let at-counted = objects-before at-schemas in
     let at-byte-between = at-counted .before .before in
-    let at-step = at-byte-between .before .before .before .before in
-    let at-predicates = at-step .before .before in
-    let p = accepted-by (at-predicates .predicates .ensures) (at-step .step .given .1) in
+    let p = predicates-read (predicates-before at-byte-between) in
     let o = byte-read (at-byte-between .byte-between .ensures) (at-counted .counted .given .1) in
     let w₁ = schemas-with _ _ (at-schemas .schemas .ensures) in
     let e₁ = at-step2 .step2 .given .1 in
@@ -182,21 +196,18 @@ unfolding refusalNumber taskOf
 returns-6 c =
     let at-step3 = c .before .before .before .before in
     let at-facts = at-step3 .before .before in
-    let at-step2 = at-facts .before .before .before .before .before in
+    let at-step2 = schemas-before at-facts in
     let at-schemas = at-step2 .before .before in
-    let at-counted = at-schemas .before .before .before .before in
+    let at-counted = objects-before at-schemas in
     let at-byte-between = at-counted .before .before in
-    let at-step = at-byte-between .before .before .before .before in
-    let at-predicates = at-step .before .before in
-    let p = accepted-by (at-predicates .predicates .ensures) (at-step .step .given .1) in
+    let p = predicates-read (predicates-before at-byte-between) in
     let o = byte-read (at-byte-between .byte-between .ensures) (at-counted .counted .given .1) in
     let w₁ = schemas-with _ _ (at-schemas .schemas .ensures) in
     let e₁ = at-step2 .step2 .given .1 in
     let w₂ = facts-with _ _ _ (at-facts .facts .ensures) in
     let e₂ = at-step3 .step3 .given .1 in
     let whole = whole-card _ _ p _ o _ (accepted-by w₁ e₁) _ (accepted-by w₂ e₂) (is-over _ _ (c .if1 .left)) in
-    let k = kept-as (at-predicates .predicates .ensures) (at-step .step .given .1) in
-    decodes-accepted whole (task-kept _ k (kept-as w₁ e₁) (kept-as w₂ e₂))
+    decodes-accepted whole (task-kept _ (arities-kept (predicates-before at-byte-between)) (kept-as w₁ e₁) (kept-as w₂ e₂))
 
 pub decode-spec : {M : Type 1} → statement M
 decode-spec =

@@ -32,10 +32,11 @@ returns c =
 
 facts-requires : tie.Need-facts-requires
 facts-requires c κs =
-    let start = c .before .before .before .before .before .before in
-    let w = c .before .before .before .fact-count .ensures in
-    let e = c .before .counted .given .1 in
-    (count-held _ (count-found w e), count-within w e, start .pre)
+    let at-counted = c .before in
+    let at-fact-count = at-counted .before .before in
+    let w = at-fact-count .fact-count .ensures in
+    let e = at-counted .counted .given .1 in
+    (count-held _ (count-found w e), count-within w e, at-fact-count .before .before .before .pre)
 
 returns-2 : tie.Need-returns-2
 unfolding facts

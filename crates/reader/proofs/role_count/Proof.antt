@@ -35,18 +35,24 @@ returns-2 c =
 returns-3 : tie.Need-returns-3
 unfolding refusalNumber
 returns-3 c =
-    let read = byte-read (c .before .before .before .before .byte .ensures) (c .before .before .read .given .1) in
-    let few : c .before .before .read .given .0 .0 < 2 = omega (arith, c .if2 .taken) in
-    refuses (role-present _ _ (not-false _ (c .before .before .before .before .before .if1 .left)) ∙ byteThat-fails _ _ _ read (between-below _ _ _ few))
+    let at-read = c .before .before in
+    let at-byte = at-read .before .before in
+    let at-if1 = at-byte .before in
+    let read = byte-read (at-byte .byte .ensures) (at-read .read .given .1) in
+    let few : at-read .read .given .0 .0 < 2 = omega (arith, c .if2 .taken) in
+    refuses (role-present _ _ (not-false _ (at-if1 .if1 .left)) ∙ byteThat-fails _ _ _ read (between-below _ _ _ few))
 
 returns-4 : tie.Need-returns-4
 returns-4 c =
-    let w = c .before .before .before .before .before .byte .ensures in
-    let e = c .before .before .before .read .given .1 in
-    let low : 2 ≤ c .before .before .before .read .given .0 .0 = omega (arith, c .before .if2 .left) in
-    let high : c .before .before .before .read .given .0 .0 ≤ 6 = omega (arith, c .if3 .taken) in
+    let at-read = c .before .before .before in
+    let at-byte = at-read .before .before in
+    let at-if1 = at-byte .before in
+    let w = at-byte .byte .ensures in
+    let e = at-read .read .given .1 in
+    let low : 2 ≤ at-read .read .given .0 .0 = omega (arith, c .before .if2 .left) in
+    let high : at-read .read .given .0 .0 ≤ 6 = omega (arith, c .if3 .taken) in
     let passes = byteThat-passes _ _ _ (byte-read w e) (between-intro _ _ _ low high) in
-    accepts (role-present _ _ (not-false _ (c .before .before .before .before .before .before .if1 .left)) ∙ passes) (byte-within w e) refl
+    accepts (role-present _ _ (not-false _ (at-if1 .if1 .left)) ∙ passes) (byte-within w e) refl
 
 returns-5 : tie.Need-returns-5
 unfolding refusalNumber

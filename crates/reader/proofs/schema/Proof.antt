@@ -57,8 +57,9 @@ cast-lists c = search needs
 
 lists-requires : tie.Need-lists-requires
 lists-requires c κs =
-    let start = c .before .before .before .before .before .before .before .before .before .before in
-    (byte-within (c .before .before .before .role-count .ensures) (c .before .read2 .given .1), start .pre)
+    let at-role-count = c .before .before .before in
+    let at-map-byte = at-role-count .before .before .before .before in
+    (byte-within (at-role-count .role-count .ensures) (c .before .read2 .given .1), at-map-byte .before .before .before .pre)
 
 returns-3 : tie.Need-returns-3
 returns-3 c =

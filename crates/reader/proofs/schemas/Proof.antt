@@ -56,8 +56,8 @@ loop-holds c =
 
 schema-requires : tie.Need-schema-requires Inv-loop μ-loop
 schema-requires c κs =
-    let start = c .before .before .before .before .before .before .before .before .before in
-    start .pre
+    let at-byte-between = c .before .before .before .before .before in
+    at-byte-between .before .before .before .before .pre
 
 enum-known-step : tie.Need-enum-known-step Inv-loop μ-loop
 enum-known-step c = search needs
