@@ -13,6 +13,22 @@ use Rattle.space_lines.proofs.write_conditions.Tie as tie
 output-small : (c : tie.After-slice-known) → length (c .before .args .out .now) < 18446744073709551616
 output-small c = omega arith
 
+-- what is given, from the `T` lines; these, from the `M` lines; these, from the indices; these, from the `D` lines; and these, from the `X` lines
+abbrev entry : tie.After-write-states → tie.Start
+entry c = c .before .before .before .before .before .before
+
+abbrev states : tie.After-write-limits → tie.After-write-states
+states c = c .before .before .before .before
+
+abbrev limits : tie.After-minimal-of → tie.After-write-limits
+limits c = c .before .before .before
+
+abbrev indices : tie.After-write-memberships → tie.After-minimal-of
+indices c = c .before .before .before .before .before
+
+abbrev memberships : tie.After-write-exclusions → tie.After-write-memberships
+memberships c = c .before .before .before .before .before .before
+
 write-states-requires : tie.Need-write-states-requires
 write-states-requires c κs =
     let pre = c .before .before .before .before .before .pre in
@@ -20,9 +36,8 @@ write-states-requires c κs =
 
 sub-write-limits : tie.Need-sub-write-limits
 sub-write-limits c =
-    let pre = c .before .before .before .before .before .before .before .before .pre in
-    let states = c .before .before .write-states .ensures in
-    omega (arith, states-inside _ _ _ _ _ (pre .5) states)
+    let after-T = c .before .before in
+    omega (arith, states-inside _ _ _ _ _ (entry after-T .pre .5) (after-T .write-states .ensures))
 
 part-write-limits-start : tie.Need-part-write-limits-start
 part-write-limits-start c = sub-write-limits c
@@ -32,26 +47,28 @@ part-write-limits-end c = search needs
 
 write-limits-requires : tie.Need-write-limits-requires
 write-limits-requires c κs =
-    let pre = c .before .before .before .before .before .before .before .before .before .pre in
-    let states = c .before .before .before .write-states .ensures in
-    (has-rows-as (pre .2) (pre .0), pre .3, pre .4, limits-fit _ _ _ _ _ (pre .5) states (pre .2))
+    let after-T = c .before .before .before in
+    let pre = entry after-T .pre in
+    (has-rows-as (pre .2) (pre .0), pre .3, pre .4, limits-fit _ _ _ _ _ (pre .5) (after-T .write-states .ensures) (pre .2))
 
 add-at : tie.Need-add-at
 add-at c =
-    let pre = c .before .before .before .before .before .before .before .before .before .before .before .before .pre in
-    let states = c .before .before .before .before .before .before .write-states .ensures in
-    let limits = with-limits _ _ _ _ _ (pre .5) states (pre .2) (c .before .before .write-limits .ensures) in
-    omega (arith, limits-within _ _ _ _ _ (pre .5) limits)
+    let after-M = c .before .before in
+    let after-T = states after-M in
+    let pre = entry after-T .pre in
+    let both = with-limits _ _ _ _ _ (pre .5) (after-T .write-states .ensures) (pre .2) (after-M .write-limits .ensures) in
+    omega (arith, limits-within _ _ _ _ _ (pre .5) both)
 
 minimal-of-requires : tie.Need-minimal-of-requires
 minimal-of-requires c κs = search needs
 
 sub-write-memberships : tie.Need-sub-write-memberships
 sub-write-memberships c =
-    let pre = c .before .before .before .before .before .before .before .before .before .before .before .before .before .before .pre in
-    let states = c .before .before .before .before .before .before .before .before .write-states .ensures in
-    let limits = with-limits _ _ _ _ _ (pre .5) states (pre .2) (c .before .before .before .before .write-limits .ensures) in
-    omega (arith, limits-inside _ _ _ _ _ (pre .5) limits)
+    let after-M = limits (c .before) in
+    let after-T = states after-M in
+    let pre = entry after-T .pre in
+    let both = with-limits _ _ _ _ _ (pre .5) (after-T .write-states .ensures) (pre .2) (after-M .write-limits .ensures) in
+    omega (arith, limits-inside _ _ _ _ _ (pre .5) both)
 
 part-write-memberships-start : tie.Need-part-write-memberships-start
 part-write-memberships-start c = sub-write-memberships c
@@ -70,31 +87,34 @@ part-write-memberships-end-2 c = indices-inside (c .before .before .before .mini
 
 write-memberships-requires : tie.Need-write-memberships-requires
 write-memberships-requires c κs =
-    let pre = c .before .before .before .before .before .before .before .before .before .before .before .before .before .before .before .before .before .pre in
-    let states = c .before .before .before .before .before .before .before .before .before .before .before .write-states .ensures in
-    let limits = with-limits _ _ _ _ _ (pre .5) states (pre .2) (c .before .before .before .before .before .before .before .write-limits .ensures) in
-    let indices = c .before .before .before .before .minimal-of .ensures in
-    memberships-fit _ _ _ _ _ (pre .5) limits indices
+    let found = c .before .before .before .before in
+    let after-M = limits found in
+    let after-T = states after-M in
+    let pre = entry after-T .pre in
+    let both = with-limits _ _ _ _ _ (pre .5) (after-T .write-states .ensures) (pre .2) (after-M .write-limits .ensures) in
+    memberships-fit _ _ _ _ _ (pre .5) both (found .minimal-of .ensures)
 
 add-at-2 : tie.Need-add-at-2
 add-at-2 c =
-    let pre = c .before .before .before .before .before .before .before .before .before .before .before .before .before .before .before .before .before .before .before .before .pre in
-    let states = c .before .before .before .before .before .before .before .before .before .before .before .before .before .before .write-states .ensures in
-    let limits = with-limits _ _ _ _ _ (pre .5) states (pre .2)
-    (c .before .before .before .before .before .before .before .before .before .before .write-limits .ensures) in
-    let indices = c .before .before .before .before .before .before .before .minimal-of .ensures in
-    let memberships = with-memberships _ _ _ _ _ (pre .5) limits indices (c .before .before .write-memberships .ensures) in
-    omega (arith, memberships-within _ _ _ _ _ (pre .5) memberships)
+    let after-D = c .before .before in
+    let found = indices after-D in
+    let after-M = limits found in
+    let after-T = states after-M in
+    let pre = entry after-T .pre in
+    let both = with-limits _ _ _ _ _ (pre .5) (after-T .write-states .ensures) (pre .2) (after-M .write-limits .ensures) in
+    let three = with-memberships _ _ _ _ _ (pre .5) both (found .minimal-of .ensures) (after-D .write-memberships .ensures) in
+    omega (arith, memberships-within _ _ _ _ _ (pre .5) three, output-small (after-T .before .before .before .before .before))
 
 sub-write-exclusions : tie.Need-sub-write-exclusions
 sub-write-exclusions c =
-    let pre = c .before .before .before .before .before .before .before .before .before .before .before .before .before .before .before .before .before .before .before .before .pre in
-    let states = c .before .before .before .before .before .before .before .before .before .before .before .before .before .before .write-states .ensures in
-    let limits = with-limits _ _ _ _ _ (pre .5) states (pre .2)
-    (c .before .before .before .before .before .before .before .before .before .before .write-limits .ensures) in
-    let indices = c .before .before .before .before .before .before .before .minimal-of .ensures in
-    let memberships = with-memberships _ _ _ _ _ (pre .5) limits indices (c .before .before .write-memberships .ensures) in
-    omega (arith, memberships-inside _ _ _ _ _ (pre .5) memberships)
+    let after-D = c .before .before in
+    let found = indices after-D in
+    let after-M = limits found in
+    let after-T = states after-M in
+    let pre = entry after-T .pre in
+    let both = with-limits _ _ _ _ _ (pre .5) (after-T .write-states .ensures) (pre .2) (after-M .write-limits .ensures) in
+    let three = with-memberships _ _ _ _ _ (pre .5) both (found .minimal-of .ensures) (after-D .write-memberships .ensures) in
+    omega (arith, memberships-inside _ _ _ _ _ (pre .5) three)
 
 part-write-exclusions-start : tie.Need-part-write-exclusions-start
 part-write-exclusions-start c = sub-write-exclusions c
@@ -109,40 +129,40 @@ part-write-exclusions-start-2 : tie.Need-part-write-exclusions-start-2
 part-write-exclusions-start-2 c = search needs
 
 part-write-exclusions-end-2 : tie.Need-part-write-exclusions-end-2
-part-write-exclusions-end-2 c = indices-inside (c .before .before .before .before .before .before .before .before .before .minimal-of .ensures)
+part-write-exclusions-end-2 c = indices-inside (indices (c .before .before .before .before) .minimal-of .ensures)
 
 write-exclusions-requires : tie.Need-write-exclusions-requires
 write-exclusions-requires c κs =
-    let pre = c .before .before .before .before .before .before .before .before .before .before .before .before .before .before .before .before
-    .before .before .before .before .before .before .before .pre in
-    let states = c .before .before .before .before .before .before .before .before .before .before .before .before .before .before .before .before .before .write-states .ensures in
-    let limits = with-limits _ _ _ _ _ (pre .5) states (pre .2)
-    (c .before .before .before .before .before .before .before .before .before .before .before .before .before .write-limits .ensures) in
-    let indices = c .before .before .before .before .before .before .before .before .before .before .minimal-of .ensures in
-    let memberships = with-memberships _ _ _ _ _ (pre .5) limits indices (c .before .before .before .before .before .write-memberships .ensures) in
-    (pre .0, indices-below _ _ _ indices, exclusions-fit _ _ _ _ _ (pre .5) memberships indices)
+    let after-D = c .before .before .before .before .before in
+    let found = indices after-D in
+    let after-M = limits found in
+    let after-T = states after-M in
+    let pre = entry after-T .pre in
+    let least = found .minimal-of .ensures in
+    let both = with-limits _ _ _ _ _ (pre .5) (after-T .write-states .ensures) (pre .2) (after-M .write-limits .ensures) in
+    let three = with-memberships _ _ _ _ _ (pre .5) both least (after-D .write-memberships .ensures) in
+    (pre .0, indices-below _ _ _ least, exclusions-fit _ _ _ _ _ (pre .5) three least)
 
 same-length : tie.Need-same-length
 same-length c = search needs
 
 returns : tie.Need-returns
 returns c =
-    let pre = c .before .before .before .before .before .before .before .before .before .before .before .before .before .before .before .before
-    .before .before .before .before .before .before .before .before .before .before .pre in
-    let states = c .before .before .before .before .before .before .before .before .before .before .before .before .before .before .before .before
-    .before .before .before .before .write-states .ensures in
-    let limits = with-limits _ _ _ _ _ (pre .5) states (pre .2)
-    (c .before .before .before .before .before .before .before .before .before .before .before .before .before .before .before .before .write-limits .ensures) in
-    let indices = c .before .before .before .before .before .before .before .before .before .before .before .before .before .minimal-of .ensures in
-    let memberships = with-memberships _ _ _ _ _ (pre .5) limits indices
-    (c .before .before .before .before .before .before .before .before .write-memberships .ensures) in
-    with-exclusions _ _ _ _ _ (pre .5) memberships indices (c .before .before .write-exclusions .ensures)
+    let after-X = c .before .before in
+    let after-D = memberships after-X in
+    let found = indices after-D in
+    let after-M = limits found in
+    let after-T = states after-M in
+    let pre = entry after-T .pre in
+    let least = found .minimal-of .ensures in
+    let both = with-limits _ _ _ _ _ (pre .5) (after-T .write-states .ensures) (pre .2) (after-M .write-limits .ensures) in
+    let three = with-memberships _ _ _ _ _ (pre .5) both least (after-D .write-memberships .ensures) in
+    with-exclusions _ _ _ _ _ (pre .5) three least (after-X .write-exclusions .ensures)
 
 add-result : tie.Need-add-result
 add-result c =
-    let entry = c .before .before .before .before .before .before .before .before .before .before .before .before .before .before .before .before
-    .before .before .before .before .before .before .before .before .before in
-    omega (arith, returns c .count, entry .before .pre .5 .fits, output-small entry)
+    let after-T = states (limits (indices (memberships (c .before .before)))) in
+    omega (arith, returns c .count, entry after-T .pre .5 .fits, output-small (after-T .before .before .before .before .before))
 
 pub write-conditions-spec : {M : Type 1} → statement M
 write-conditions-spec =

@@ -8,7 +8,6 @@ use mir.Val.{Fits}
 use mir.Syntax.{w16}
 use Rattle.model.specs.Text.{text}
 use Rattle.sections.proofs.LinesLeft.{first-line}
-use Rattle.text.specs.declared.lists.Kind.{Kind}
 use Rattle.text.specs.Room.{Room}
 use Rattle.text.proofs.Writing.{first-fits, second-fits, rest-inside, both}
 use Rattle.space_lines.proofs.Section.{size-few, number-few, rows-there, rows-few, own-counted, front, later, section-written, section-fits}
@@ -27,21 +26,37 @@ bags-small : (s : tie.Start) (i : ℕ) → getD (s .args .analysed .bags) i 0 < 
 bags-small s i = let f : Fits w16 (getD (s .args .analysed .bags) i 0) = search needs in omega arith
 
 groups-long : (s : tie.Start) → s .args .size ≤ length (s .args .t3 .groups)
-groups-long s = omega (arith, groups-full s, size-few (s .pre .0 .task) (s .pre .0 .given) (s .pre .0 .known))
+groups-long s = omega (arith, groups-full s, size-few _ (s .pre .0 .given) (s .pre .0 .known))
+
+-- few spaces
+number-small : (s : tie.Start) → s .args .number < 60
+number-small s = number-few _ (s .pre .0 .given) (s .pre .0 .known)
+
+-- what is given, from the kind; this, from the `S` line; that, from the bags lent; and these, from the lines of the conditions
+abbrev entry : tie.After-kind-of → tie.Start
+entry c = c .before .before .before .before .before
+
+abbrev kind : tie.After-write-space → tie.After-kind-of
+kind c = c .before .before .before .before
+
+abbrev line : tie.After-bags → tie.After-write-space
+line c = c .before .before .before
+
+abbrev lent : tie.After-write-conditions → tie.After-bags
+lent c = c .before .before .before .before
 
 -- the section fits the output
-room : (s : tie.Start) (kind : Kind)
+fits : (c : tie.After-kind-of)
     → Room
-    (text (front (s .pre .0 .task) (s .pre .0 .given) (s .pre .0 .known) (groups-full s) kind
-    ∷ later (s .pre .0 .task) (s .pre .0 .given) (s .pre .0 .known) (groups-full s) kind))
-    (s .args .out .now)
-room s kind =
-    section-fits (s .pre .0 .task) (s .pre .0 .given) (s .pre .0 .known) (groups-full s) kind (bags-full s) (bags-small s) (s .args .out .now) (s .pre .1)
+    (text (front _ (entry c .pre .0 .given) (entry c .pre .0 .known) (groups-full (entry c)) (c .kind-of .result)
+    ∷ later _ (entry c .pre .0 .given) (entry c .pre .0 .known) (groups-full (entry c)) (c .kind-of .result)))
+    (entry c .args .out .now)
+fits c =
+    let s = entry c in
+    section-fits _ (s .pre .0 .given) (s .pre .0 .known) (groups-full s) _ (bags-full s) (bags-small s) _ (s .pre .1)
 
 element-copy-out-lowest : tie.Need-element-copy-out-lowest
-element-copy-out-lowest c =
-    let s = c .before .before .before in
-    omega (arith, number-few (s .pre .0 .task) (s .pre .0 .given) (s .pre .0 .known))
+element-copy-out-lowest c = omega (arith, number-small (c .before .before .before))
 
 kind-of-requires : tie.Need-kind-of-requires
 kind-of-requires c κs = search needs
@@ -50,28 +65,19 @@ slice-aggregate-write-space : tie.Need-slice-aggregate-write-space
 slice-aggregate-write-space c = search needs
 
 mul-write-space : tie.Need-mul-write-space
-mul-write-space c =
-    let s = c .before .before .before .before .before .before .before in
-    omega (arith, number-few (s .pre .0 .task) (s .pre .0 .given) (s .pre .0 .known))
+mul-write-space c = omega (arith, number-small (entry (c .before .before)))
 
 element-copy-out-write-space : tie.Need-element-copy-out-write-space
-element-copy-out-write-space c =
-    let s = c .before .before .before .before .before .before .before in
-    omega (arith, number-few (s .pre .0 .task) (s .pre .0 .given) (s .pre .0 .known))
+element-copy-out-write-space c = omega (arith, number-small (entry (c .before .before)))
 
 write-space-requires : tie.Need-write-space-requires
 write-space-requires c κs =
-    let s = c .before .before .before .before .before .before .before .before in
-    (groups-long s, first-fits (first-line _ _) (room s (c .before .before .before .kind-of .result)))
+    let found = c .before .before .before in
+    (groups-long (entry found), first-fits (first-line _ _) (fits found))
 
 sub-write-conditions : tie.Need-sub-write-conditions
 sub-write-conditions c =
-    let s = c .before .before .before .before .before .before .before .before .before .before .before .before in
-    omega (
-      arith,
-      rest-inside (first-line _ _) (room s (c .before .before .before .before .before .before .before .kind-of .result))
-          (c .before .before .before .write-space .ensures),
-    )
+    omega (arith, rest-inside (first-line _ _) (fits (kind (line c))) (line c .write-space .ensures))
 
 part-write-conditions-start : tie.Need-part-write-conditions-start
 part-write-conditions-start c = sub-write-conditions c
@@ -87,15 +93,15 @@ slice-aggregate-write-conditions-2 c = search needs
 
 write-conditions-requires : tie.Need-write-conditions-requires
 write-conditions-requires c κs =
-    let s = c .before .before .before .before .before .before .before .before .before .before .before .before .before .before .before in
+    let written = line (c .before .before .before) in
+    let s = entry (kind written) in
     let g = s .pre .0 in (
-      rows-there (g .task) (g .given) (g .known),
-      rows-few (g .task) (g .given) (g .known) (bags-full s),
-      own-counted (g .task) (g .given) (g .known) (groups-full s),
+      rows-there _ (g .given) (g .known),
+      rows-few _ (g .given) (g .known) (bags-full s),
+      own-counted _ (g .given) (g .known) (groups-full s),
       groups-long s,
       g .given .arities-are .long,
-      second-fits (first-line _ _) (room s (c .before .before .before .before .before .before .before .before .before .before .kind-of .result))
-          (c .before .before .before .before .before .before .write-space .ensures),
+      second-fits (first-line _ _) (fits (kind written)) (written .write-space .ensures),
     )
 
 same-length : tie.Need-same-length
@@ -103,20 +109,17 @@ same-length c = search needs
 
 add-result : tie.Need-add-result
 add-result c =
-    let s = c .before .before .before .before .before .before .before .before .before .before .before .before .before .before .before .before .before .before in
-    let w = both (first-line _ _) (room s (c .before .before .before .before .before .before .before .before .before .before .before .before
-    .before .kind-of .result)) (c .before .before .before .before .before .before .before .before .before .write-space .ensures)
-    (c .before .before .write-conditions .ensures) in
-    omega (arith, w .count, room s (c .before .before .before .before .before .before .before .before .before .before .before .before .before .kind-of .result) .fits)
+    let room = fits (kind (line (lent (c .before .before)))) in
+    let w = both (first-line _ _) room (line (lent (c .before .before)) .write-space .ensures) (c .before .before .write-conditions .ensures) in
+    omega (arith, w .count, room .fits)
 
 returns : tie.Need-returns
 returns c t g =
-    let s = c .before .before .before .before .before .before .before .before .before .before .before .before .before .before .before .before .before .before in
-    section-written t g (s .pre .0 .known) (groups-full s) (c .before .before .before .before .before .before .before .before .before .before .before
-    .before .before .kind-of .result) (c .before .before .before .before .before .before .before .before .before .before .before .before .before .kind-of .ensures)
-    (both (first-line _ _) (room s (c .before .before .before .before .before .before .before .before .before .before .before .before
-    .before .kind-of .result)) (c .before .before .before .before .before .before .before .before .before .write-space .ensures)
-    (c .before .before .write-conditions .ensures))
+    let conditions = c .before .before in
+    let written = line (lent conditions) in
+    let found = kind written in
+    section-written t g (entry found .pre .0 .known) (groups-full (entry found)) _ (found .kind-of .ensures)
+    (both (first-line _ _) (fits found) (written .write-space .ensures) (conditions .write-conditions .ensures))
 
 pub write-space-spec : {M : Type 1} → statement M
 write-space-spec =
