@@ -1,9 +1,5 @@
 -- `write_closing` meets its contract.
-use Prim.Native.Nat.{ℕ}
 use native.Mathlib.Omega.{arith}
-use lib.ListN.{getD}
-use mir.Syntax.{w32}
-use mir.Val.{Fits}
 use Rattle.model.specs.Lines.{analysis, closingLines}
 use Rattle.model.specs.Text.{text}
 use Rattle.model.proofs.RuleCount.{properties-few}
@@ -16,63 +12,56 @@ use borrow.Author.Needs.{needs}
 use Rattle.closing.proofs.write_closing.Statement.{statement}
 use Rattle.closing.proofs.write_closing.Tie as tie
 
+-- what is given, from the table known to be lent; this, from the front part; and that, from the `R` lines
+abbrev entry : tie.After-shared-slice-known → tie.Start
+entry c = c .before .before
+
+abbrev known : tie.After-write-front → tie.After-shared-slice-known
+known c = c .before .before
+
+abbrev front : tie.After-write-type-lines → tie.After-write-front
+front c = c .before .before .before .before
+
 -- there is room for the section
-room : (s : tie.Start) → ((i : ℕ) → Fits w32 (getD (s .args .fixed .now) i 0))
-    → Room (text (closingLines (taskOf (s .args .task)) (analysis (taskOf (s .args .task))))) (s .args .out .now)
-room s known =
+room : (c : tie.After-shared-slice-known)
+    → Room (text (closingLines (taskOf (entry c .args .task)) (analysis (taskOf (entry c .args .task))))) (entry c .args .out .now)
+room c =
+    let s = entry c in
     let task = s .args .task in
     closing-fits (taskOf task) (right task (s .pre .0)) (s .args .fixed .now) (s .pre .1 .1 .0)
-    (properties-few (taskOf task) (s .pre .0 .checked)) (λ i. omega (arith, known i)) (s .args .out .now) (s .pre .1 .1 .1)
+    (properties-few (taskOf task) (s .pre .0 .checked)) (λ i. omega (arith, c .shared-slice-known .given i)) (s .args .out .now) (s .pre .1 .1 .1)
 
 write-front-requires : tie.Need-write-front-requires
 write-front-requires c κs =
-    let s = c .before .before .before in (
-      s .pre .0,
-      (
-        s .pre .1 .1 .0,
-        first-fits (closing-parts _)
-            (room (c .before .before .before) (c .before .shared-slice-known .given)),
-      ),
-    )
+    let s = entry (c .before) in
+    (s .pre .0, (s .pre .1 .1 .0, first-fits (closing-parts _) (room (c .before))))
 
 sub-write-type-lines : tie.Need-sub-write-type-lines
 sub-write-type-lines c =
-    rest-inside (closing-parts _) (room (c .before .before .before .before .before .before)
-    (c .before .before .before .before .shared-slice-known .given)) (c .before .before .write-front .ensures)
+    let written = c .before .before in
+    rest-inside (closing-parts _) (room (known written)) (written .write-front .ensures)
 
 part-write-type-lines-start : tie.Need-part-write-type-lines-start
-part-write-type-lines-start c =
-    omega (
-      arith,
-      rest-inside (closing-parts _) (room (c .before .before .before .before .before .before)
-          (c .before .before .before .before .shared-slice-known .given)) (c .before .before .write-front .ensures),
-    )
+part-write-type-lines-start c = omega (arith, sub-write-type-lines c)
 
 part-write-type-lines-end : tie.Need-part-write-type-lines-end
 part-write-type-lines-end c = search needs
 
 write-type-lines-requires : tie.Need-write-type-lines-requires
-write-type-lines-requires c κs = (
-  c .before .before .before .before .before .before .before .pre .0,
-  (
-    c .before .before .before .before .before .before .before .pre .1 .0,
-    second-fits (closing-parts _)
-        (room (c .before .before .before .before .before .before .before) (c .before .before .before .before .before .shared-slice-known .given))
-        (c .before .before .before .write-front .ensures),
-  ),
-)
+write-type-lines-requires c κs =
+    let written = c .before .before .before in
+    let s = entry (known written) in
+    (s .pre .0, (s .pre .1 .0, second-fits (closing-parts _) (room (known written)) (written .write-front .ensures)))
 
 returns : tie.Need-returns
 returns c =
-    both (closing-parts _) (room (c .before .before .before .before .before .before .before .before .before .before)
-    (c .before .before .before .before .before .before .before .before .shared-slice-known .given))
-    (c .before .before .before .before .before .before .write-front .ensures) (c .before .before .write-type-lines .ensures)
+    let typed = c .before .before in
+    both (closing-parts _) (room (known (front typed))) (front typed .write-front .ensures) (typed .write-type-lines .ensures)
 
 add-result : tie.Need-add-result
 add-result c =
     let whole = returns c in
-    let fits = room (c .before .before .before .before .before .before .before .before .before .before)
-    (c .before .before .before .before .before .before .before .before .shared-slice-known .given) in
+    let fits = room (known (front (c .before .before))) in
     omega arith
 
 same-length : tie.Need-same-length

@@ -26,19 +26,26 @@ Inv-loop out₀ task at₀ p₀ out at p =
 abbrev μ-loop : tie.MeasureT-loop
 μ-loop out₀ task at₀ p₀ out at p = task .predicates .count - p
 
+-- what is given, from the test of a predicate on; and this test, from the predicate's facts
+abbrev entry : tie.Then1 Inv-loop μ-loop → tie.Start Inv-loop μ-loop
+entry c = c .before .before .before .before
+
+abbrev tested : tie.After-facts-of Inv-loop μ-loop → tie.After-is-capped Inv-loop μ-loop
+tested c = c .before .before .before
+
 loop-holds : tie.Need-loop-holds Inv-loop μ-loop
 loop-holds c =
     let s = c .before in
     (remains-as (rw (← predicate-count (s .args .task) (s .pre .0)) (lines-start _ _)) (start (s .pre .1)), omega arith)
 
 add-p : tie.Need-add-p Inv-loop μ-loop
-add-p c = let s = c .before .before .before .before in let few = predicates-few (s .args .task) (s .pre .0) in omega arith
+add-p c = omega (arith, predicates-few _ (entry c .pre .0))
 
 cast-is-capped : tie.Need-cast-is-capped Inv-loop μ-loop
-cast-is-capped c = let s = c .before .before .before .before in let few = predicates-few (s .args .task) (s .pre .0) in omega arith
+cast-is-capped c = omega (arith, predicates-few _ (entry c .pre .0))
 
 is-capped-requires : tie.Need-is-capped-requires Inv-loop μ-loop
-is-capped-requires c κs = let s = c .before .before .before .before in schemas-fit (s .args .task) (s .pre .0)
+is-capped-requires c κs = schemas-fit _ (entry c .pre .0)
 
 loop-less : tie.Need-loop-less Inv-loop μ-loop
 loop-less c = search needs
@@ -61,28 +68,30 @@ part-write-ceiling-end : tie.Need-part-write-ceiling-end Inv-loop μ-loop
 part-write-ceiling-end c = search needs
 
 cast-facts-of : tie.Need-cast-facts-of Inv-loop μ-loop
-cast-facts-of c = let s = c .before .before .before .before .before .before .before in let few = predicates-few (s .args .task) (s .pre .0) in omega arith
+cast-facts-of c = omega (arith, predicates-few _ (entry (c .before .before .before) .pre .0))
 
 facts-of-requires : tie.Need-facts-of-requires Inv-loop μ-loop
-facts-of-requires c κs = let s = c .before .before .before .before .before .before .before in facts-few (s .args .task) (s .pre .0)
+facts-of-requires c κs = facts-few _ (entry (c .before .before .before) .pre .0)
 
 write-ceiling-requires : tie.Need-write-ceiling-requires Inv-loop μ-loop
 write-ceiling-requires c κs =
-    let l = c .before .before .before .before .before .before .loop in
+    let more = tested c .before in
+    let l = more .before .before .loop in
     next-fits (l .inv .0)
-    (line-next _ _ (l .p) (c .before .before .before .before .if1 .taken)
-    (capped-line _ (l .p) (c .before .before .before .is-capped .ensures) (not-false _ (c .before .before .if2 .left)) (c .facts-of .ensures)))
+    (line-next _ _ (l .p) (more .if1 .taken)
+    (capped-line _ (l .p) (tested c .is-capped .ensures) (not-false _ (c .before .before .if2 .left)) (c .facts-of .ensures)))
 
 loop-less-2 : tie.Need-loop-less-2 Inv-loop μ-loop
 loop-less-2 c = search needs
 
 loop-again-2 : tie.Need-loop-again-2 Inv-loop μ-loop
 loop-again-2 c =
-    let l = c .before .before .before .before .before .before .before .before .before .loop in (
+    let counted = c .before .before .before in
+    let more = tested counted .before in
+    let l = more .before .before .loop in (
       next (l .inv .0)
-          (line-next _ _ (l .p) (c .before .before .before .before .before .before .before .if1 .taken)
-          (capped-line _ (l .p) (c .before .before .before .before .before .before .is-capped .ensures)
-          (not-false _ (c .before .before .before .before .before .if2 .left)) (c .before .before .before .facts-of .ensures)))
+          (line-next _ _ (l .p) (more .if1 .taken)
+          (capped-line _ (l .p) (tested counted .is-capped .ensures) (not-false _ (counted .before .before .if2 .left)) (counted .facts-of .ensures)))
           (c .before .before .write-ceiling .ensures),
       search needs,
     )

@@ -1,13 +1,14 @@
 -- `totals::write_totals` meets its contract.
-use Prim.Native.Nat.{ℕ, _-_, _+_, _≤_, _<_}
+use Prim.Native.Nat.{ℕ, _-_, _+_, _≤_}
 use mathlib.Core.Path.{_≡_, refl, sym, ap, _∙_}
-use mathlib.Core.List.{flatMap}
+use mathlib.Core.List.{[], _∷_, flatMap}
 use native.Mathlib.Omega.{arith}
 use lib.ListN.{length, getD, take}
 use Rattle.laws.specs.Lists.{sum, upTo}
-use Rattle.model.specs.Lines.{analysis, totals}
+use Rattle.model.specs.Lines.{analysis, total, totals}
 use Rattle.model.specs.Text.{text}
 use Rattle.model.proofs.RuleCount.{properties-few}
+use Rattle.card.specs.declared.ArityList.{ArityList}
 use Rattle.card.specs.Represents.{aritiesOf, taskOf}
 use Rattle.card.proofs.Counts.{predicate-count, predicates-few, predicates-inside}
 use Rattle.properties.proofs.TaskParts.{arities-right}
@@ -40,10 +41,31 @@ found s =
     ap text (totals-found (taskOf task) (s .args .fixed .now) (s .pre .1 .0) (properties-few (taskOf task) (s .pre .0 .checked)))
     ∙ ap (λ (n : ℕ). text (flatMap (totalFound (aritiesOf (task .predicates)) (s .args .fixed .now)) (upTo n))) (sym (predicate-count task (s .pre .0)))
 
+-- what is given, from the loop on; the loop, from the predicate's total; and this, from its line
+abbrev entry : tie.At-loop Inv-loop μ-loop → tie.Start Inv-loop μ-loop
+entry c = c .before .before .before .before
+
+abbrev in-loop : tie.After-total-of Inv-loop μ-loop → tie.In-loop Inv-loop μ-loop
+in-loop c = c .before .before
+
+abbrev asked : tie.After-write-total Inv-loop μ-loop → tie.After-total-of Inv-loop μ-loop
+asked c = c .before .before .before
+
+abbrev predicates : tie.In-loop Inv-loop μ-loop → ArityList
+predicates c = entry (c .before) .args .task .predicates
+
 -- the positions of a predicate are within the table
-inside : (s : tie.Start Inv-loop μ-loop) (p first : ℕ) → p < s .args .task .predicates .count
-    → first ≡ sum (take p (aritiesOf (s .args .task .predicates))) → first + getD (s .args .task .predicates .arities) p 0 ≤ 60
-inside s = positions-inside (s .args .task .predicates) (arities-right (s .args .task) (s .pre .0)) (predicates-inside (s .args .task) (s .pre .0))
+inside : (c : tie.In-loop Inv-loop μ-loop) → c .before .loop .first + getD (predicates c .arities) (c .before .loop .p) 0 ≤ 60
+inside c =
+    let pre = entry (c .before) .pre .0 in
+    positions-inside _ (arities-right _ pre) (predicates-inside _ pre) _ _ (c .loop-test .taken) (c .before .loop .inv .2)
+
+-- and those of the next one stand after them
+begins : (c : tie.In-loop Inv-loop μ-loop)
+    → c .before .loop .first + getD (predicates c .arities) (c .before .loop .p) 0 ≡ sum (take (c .before .loop .p + 1) (aritiesOf (predicates c)))
+begins c =
+    let pre = entry (c .before) .pre .0 in
+    begins-next _ (arities-right _ pre) (predicates-inside _ pre) _ _ (c .loop-test .taken) (c .before .loop .inv .2)
 
 positive : (n : ℕ) → (n ≡ 0 → ⊥) → 1 ≤ n
 positive n some = omega arith
@@ -56,55 +78,46 @@ unfolding sum
 loop-holds c = (remains-as (lines-start _ _) (start (room-as (found (c .before .before .before)) (c .before .before .before .pre .1 .1))), omega arith, refl)
 
 element-copy-out-arity : tie.Need-element-copy-out-arity Inv-loop μ-loop
-element-copy-out-arity c = let s = c .before .before .before .before .before in let few = predicates-few (s .args .task) (s .pre .0) in omega arith
+element-copy-out-arity c = omega (arith, predicates-few _ (entry (c .before) .pre .0))
 
 cast-arity : tie.Need-cast-arity Inv-loop μ-loop
-cast-arity c =
-    omega (
-      arith,
-      inside (c .before .before .before .before .before .before) (c .before .before .loop .p) (c .before .before .loop .first)
-          (c .before .loop-test .taken) (c .before .before .loop .inv .2),
-    )
+cast-arity c = omega (arith, inside (c .before))
 
 total-of-requires : tie.Need-total-of-requires Inv-loop μ-loop
 total-of-requires c κs =
-    let long = c .before .before .before .before .before .before .pre .1 .0 .long in omega (
-      arith,
-      inside (c .before .before .before .before .before .before) (c .before .before .loop .p) (c .before .before .loop .first)
-          (c .before .loop-test .taken) (c .before .before .loop .inv .2),
-    )
+    let long = entry (c .before .before) .pre .1 .0 .long in
+    omega (arith, inside (c .before))
 
 add-first : tie.Need-add-first Inv-loop μ-loop
-add-first c =
-    omega (
-      arith,
-      inside (c .before .before .before .before .before .before .before) (c .before .before .before .loop .p)
-          (c .before .before .before .loop .first) (c .before .before .loop-test .taken) (c .before .before .before .loop .inv .2),
-    )
+add-first c = omega (arith, inside (in-loop c))
 
 add-p : tie.Need-add-p Inv-loop μ-loop
-add-p c = let s = c .before .before .before .before .before .before .before in let few = predicates-few (s .args .task) (s .pre .0) in omega arith
+add-p c = omega (arith, predicates-few _ (entry (in-loop c .before) .pre .0))
 
 loop-less : tie.Need-loop-less Inv-loop μ-loop
 loop-less c = search needs
 
 loop-again : tie.Need-loop-again Inv-loop μ-loop
 loop-again c =
-    let l = c .before .before .before .before .loop in (
-      remains-as (no-line _ _ (l .p) (c .before .before .before .loop-test .taken)
-          (total-none (c .before .before .before .before .before .before .before .before .args .task .predicates)
-          (arities-right (c .before .before .before .before .before .before .before .before .args .task)
-          (c .before .before .before .before .before .before .before .before .pre .0))
-          (predicates-inside (c .before .before .before .before .before .before .before .before .args .task)
-          (c .before .before .before .before .before .before .before .before .pre .0)) (l .p) (l .first) (c .before .before .before .loop-test .taken)
-          (l .inv .2) _ (c .before .total-of .ensures) (c .if1 .taken))) (l .inv .0),
+    let here = in-loop (c .before) in
+    let l = here .before .loop in
+    let pre = entry (here .before) .pre .0 in (
+      remains-as (no-line _ _ (l .p) (here .loop-test .taken)
+          (total-none _ (arities-right _ pre) (predicates-inside _ pre) _ _ (here .loop-test .taken) (l .inv .2) _ (c .before .total-of .ensures)
+          (c .if1 .taken))) (l .inv .0),
       search needs,
-      begins-next (c .before .before .before .before .before .before .before .before .args .task .predicates)
-          (arities-right (c .before .before .before .before .before .before .before .before .args .task)
-          (c .before .before .before .before .before .before .before .before .pre .0))
-          (predicates-inside (c .before .before .before .before .before .before .before .before .args .task)
-          (c .before .before .before .before .before .before .before .before .pre .0)) (l .p) (l .first) (c .before .before .before .loop-test .taken) (l .inv .2),
+      begins here,
     )
+
+-- the line of a total
+line : (c : tie.Else1 Inv-loop μ-loop)
+    → totalFound (aritiesOf (predicates (in-loop (c .before)))) (entry (in-loop (c .before) .before) .args .fixed .now) (in-loop (c .before) .before .loop .p)
+    ≡ total (in-loop (c .before) .before .loop .p) (c .before .total-of .result - 1) ∷ []
+line c =
+    let here = in-loop (c .before) in
+    let pre = entry (here .before) .pre .0 in
+    total-next _ (arities-right _ pre) (predicates-inside _ pre) _ _ (here .loop-test .taken) (here .before .loop .inv .2) _
+    (c .before .total-of .ensures) (c .if1 .left) (one-less _ (c .if1 .left))
 
 sub-write-total : tie.Need-sub-write-total Inv-loop μ-loop
 sub-write-total c = search needs
@@ -123,41 +136,19 @@ cast-write-total c = search needs
 
 write-total-requires : tie.Need-write-total-requires Inv-loop μ-loop
 write-total-requires c κs =
-    let l = c .before .before .before .before .before .loop in
-    next-fits (l .inv .0)
-    (line-next _ _ (l .p) (c .before .before .before .before .loop-test .taken)
-    (total-next (c .before .before .before .before .before .before .before .before .before .args .task .predicates)
-    (arities-right (c .before .before .before .before .before .before .before .before .before .args .task)
-    (c .before .before .before .before .before .before .before .before .before .pre .0))
-    (predicates-inside (c .before .before .before .before .before .before .before .before .before .args .task)
-    (c .before .before .before .before .before .before .before .before .before .pre .0)) (l .p) (l .first)
-    (c .before .before .before .before .loop-test .taken) (l .inv .2) _ (c .before .before .total-of .ensures) (c .before .if1 .left)
-    (one-less _ (c .before .if1 .left))))
+    let here = in-loop (c .before .before) in
+    next-fits (here .before .loop .inv .0) (line-next _ _ _ (here .loop-test .taken) (line (c .before)))
 
 loop-less-2 : tie.Need-loop-less-2 Inv-loop μ-loop
 loop-less-2 c = search needs
 
 loop-again-2 : tie.Need-loop-again-2 Inv-loop μ-loop
 loop-again-2 c =
-    let l = c .before .before .before .before .before .before .before .before .loop in (
-      next (l .inv .0)
-          (line-next _ _ (l .p) (c .before .before .before .before .before .before .before .loop-test .taken)
-          (total-next (c .before .before .before .before .before .before .before .before .before .before .before .before .args .task .predicates)
-          (arities-right (c .before .before .before .before .before .before .before .before .before .before .before .before .args .task)
-          (c .before .before .before .before .before .before .before .before .before .before .before .before .pre .0))
-          (predicates-inside (c .before .before .before .before .before .before .before .before .before .before .before .before .args .task)
-          (c .before .before .before .before .before .before .before .before .before .before .before .before .pre .0)) (l .p) (l .first)
-          (c .before .before .before .before .before .before .before .loop-test .taken) (l .inv .2) _
-          (c .before .before .before .before .before .total-of .ensures) (c .before .before .before .before .if1 .left)
-          (one-less _ (c .before .before .before .before .if1 .left))))
-          (c .before .before .write-total .ensures),
+    let written = c .before .before in
+    let here = in-loop (asked written) in (
+      next (here .before .loop .inv .0) (line-next _ _ _ (here .loop-test .taken) (line (written .before .before))) (written .write-total .ensures),
       search needs,
-      begins-next (c .before .before .before .before .before .before .before .before .before .before .before .before .args .task .predicates)
-          (arities-right (c .before .before .before .before .before .before .before .before .before .before .before .before .args .task)
-          (c .before .before .before .before .before .before .before .before .before .before .before .before .pre .0))
-          (predicates-inside (c .before .before .before .before .before .before .before .before .before .before .before .before .args .task)
-          (c .before .before .before .before .before .before .before .before .before .before .before .before .pre .0)) (l .p) (l .first)
-          (c .before .before .before .before .before .before .before .loop-test .taken) (l .inv .2),
+      begins here,
     )
 
 add-at : tie.Need-add-at Inv-loop μ-loop

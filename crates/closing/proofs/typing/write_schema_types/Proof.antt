@@ -25,13 +25,20 @@ Inv-loop out₀ n schema predicates firsts masks groups objects at₀ k₀ out a
 abbrev μ-loop : tie.MeasureT-loop
 μ-loop out₀ n schema predicates firsts masks groups objects at₀ k₀ out at k = schema .parameters - k
 
+-- what is given, from the loop on; and the loop, from the role's objects
+abbrev entry : tie.At-loop Inv-loop μ-loop → tie.Start Inv-loop μ-loop
+entry c = c .before .before .before .before
+
+abbrev head : tie.After-typed Inv-loop μ-loop → tie.At-loop Inv-loop μ-loop
+head c = c .before .before .before
+
 loop-holds : tie.Need-loop-holds Inv-loop μ-loop
 unfolding typedLines schemaOf
 loop-holds c = (remains-as (each-start _ _) (start (c .before .before .before .pre .1 .1 .1 .1)), omega arith)
 
 typed-requires : tie.Need-typed-requires Inv-loop μ-loop
 typed-requires c κs =
-    let s = c .before .before .before .before .before .before in
+    let s = entry (c .before .before) in
     let few = s .pre .1 .0 .few-parameters in
     (s .pre .0, (s .pre .1 .0 .preconditions-right, (s .pre .1 .1 .0, (s .pre .1 .1 .1 .0, omega arith))))
 
@@ -46,10 +53,10 @@ part-write-types-end c = search needs
 
 write-types-requires : tie.Need-write-types-requires Inv-loop μ-loop
 write-types-requires c κs =
-    let l = c .before .before .before .before .loop in
-    let s = c .before .before .before .before .before .before .before .before in
-    next-fits (l .inv .0) (each-next _ _ (l .k) (c .before .before .if1 .taken)
-    (ap (λ (m : ℕ). types (s .args .n) (l .k) (membersOf m)) (c .before .typed .ensures)))
+    let found = c .before in
+    let l = head found .loop in
+    next-fits (l .inv .0) (each-next _ _ (l .k) (found .before .if1 .taken)
+    (ap (λ (m : ℕ). types (entry (head found) .args .n) (l .k) (membersOf m)) (found .typed .ensures)))
 
 add-k : tie.Need-add-k Inv-loop μ-loop
 add-k c = search needs
@@ -59,11 +66,11 @@ loop-less c = search needs
 
 loop-again : tie.Need-loop-again Inv-loop μ-loop
 loop-again c =
-    let l = c .before .before .before .before .before .before .before .loop in
-    let s = c .before .before .before .before .before .before .before .before .before .before .before in (
+    let found = c .before .before .before .before in
+    let l = head found .loop in (
       next (l .inv .0)
-          (each-next _ _ (l .k) (c .before .before .before .before .before .if1 .taken)
-          (ap (λ (m : ℕ). types (s .args .n) (l .k) (membersOf m)) (c .before .before .before .before .typed .ensures)))
+          (each-next _ _ (l .k) (found .before .if1 .taken)
+          (ap (λ (m : ℕ). types (entry (head found) .args .n) (l .k) (membersOf m)) (found .typed .ensures)))
           (c .before .before .write-types .ensures),
       search needs,
     )

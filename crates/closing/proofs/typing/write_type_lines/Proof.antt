@@ -27,6 +27,16 @@ Inv-loop out₀ task schemas firsts masks groups at₀ i₀ out at i =
 abbrev μ-loop : tie.MeasureT-loop
 μ-loop out₀ task schemas firsts masks groups at₀ i₀ out at i = schemas .count - i
 
+-- what is given, from the members of each group; these, from the loop on; and the loop, from the schema's lines
+abbrev entry : tie.After-by-label Inv-loop μ-loop → tie.Start Inv-loop μ-loop
+entry c = c .before .before .before .before .before
+
+abbrev labelled : tie.At-loop Inv-loop μ-loop → tie.After-by-label Inv-loop μ-loop
+labelled c = c .before .before
+
+abbrev in-loop : tie.After-write-schema-types Inv-loop μ-loop → tie.In-loop Inv-loop μ-loop
+in-loop c = c .before .before .before .before .before
+
 numbered-requires : tie.Need-numbered-requires Inv-loop μ-loop
 numbered-requires c κs = let s = c .before .before in arities-right (s .args .task) (s .pre .0) .few
 
@@ -37,14 +47,13 @@ by-label-requires c κs =
     (spaces-few _ (s .args .spaces) (s .pre .1 .0) narrow, lowest-known _ (s .args .spaces) (s .pre .1 .0) narrow)
 
 loop-holds : tie.Need-loop-holds Inv-loop μ-loop
-loop-holds c = (start (c .before .before .before .before .before .before .pre .1 .1), omega arith)
+loop-holds c = (start (entry (c .before) .pre .1 .1), omega arith)
 
 mul-schema : tie.Need-mul-schema Inv-loop μ-loop
-mul-schema c = let s = c .before .before .before .before .before .before .before .before in let few = schemas-few (s .args .task) (s .pre .0) in omega arith
+mul-schema c = omega (arith, schemas-few _ (entry (labelled (c .before)) .pre .0))
 
 element-copy-out-schema : tie.Need-element-copy-out-schema Inv-loop μ-loop
-element-copy-out-schema c =
-    let s = c .before .before .before .before .before .before .before .before in let few = schemas-few (s .args .task) (s .pre .0) in omega arith
+element-copy-out-schema c = omega (arith, schemas-few _ (entry (labelled (c .before)) .pre .0))
 
 sub-write-schema-types : tie.Need-sub-write-schema-types Inv-loop μ-loop
 sub-write-schema-types c = search needs
@@ -64,29 +73,28 @@ slice-aggregate-write-schema-types-2 c = search needs
 write-schema-types-requires : tie.Need-write-schema-types-requires Inv-loop μ-loop
 unfolding no-schema taskOf
 write-schema-types-requires c κs =
-    let s = c .before .before .before .before .before .before .before .before .before .before .before .before in
-    let task = s .args .task in
-    let l = c .before .before .before .before .before .loop in
-    let masks = c .before .before .before .before .before .before .before .by-label in
-    let here = c .before .before .before .before .loop-test .taken in (
-      arities-right task (s .pre .0),
+    let more = c .before .before .before .before in
+    let l = more .before .loop in
+    let labels = labelled (more .before) in
+    let s = entry labels in
+    let pre = s .pre .0 in
+    let here = more .loop-test .taken in (
+      arities-right _ pre,
       (
-        schema-right task (s .pre .0) (l .i) no-schema here,
+        schema-right _ pre (l .i) no-schema here,
         (
-          c .before .before .before .before .before .before .before .before .before .numbered .ensures .firsts,
+          labels .before .before .numbered .ensures .firsts,
           (
-            subst (λ (m : List ℕ). MembersGiven (s .args .spaces .groups) m (task .objects)) (sym (masks .ensures))
-                (members-given (taskOf task) (s .args .spaces) (s .pre .1 .0) (properties-few (taskOf task) (s .pre .0 .checked)) (objects-few task (s .pre .0))),
-            next-fits (l .inv .0) (schema-next task (s .pre .0) (s .args .spaces) (s .pre .1 .0) (masks .ensures) (l .i) no-schema here),
+            subst (λ (m : List ℕ). MembersGiven (s .args .spaces .groups) m (s .args .task .objects)) (sym (labels .by-label .ensures))
+                (members-given _ _ (s .pre .1 .0) (properties-few _ (pre .checked)) (objects-few _ pre)),
+            next-fits (l .inv .0) (schema-next _ pre _ (s .pre .1 .0) (labels .by-label .ensures) (l .i) no-schema here),
           ),
         ),
       ),
     )
 
 add-i : tie.Need-add-i Inv-loop μ-loop
-add-i c =
-    let s = c .before .before .before .before .before .before .before .before .before .before .before .before .before .before .before in let few =
-    schemas-few (s .args .task) (s .pre .0) in omega arith
+add-i c = omega (arith, schemas-few _ (entry (labelled (in-loop (c .before .before) .before)) .pre .0))
 
 loop-less : tie.Need-loop-less Inv-loop μ-loop
 loop-less c = search needs
@@ -94,12 +102,11 @@ loop-less c = search needs
 loop-again : tie.Need-loop-again Inv-loop μ-loop
 unfolding no-schema
 loop-again c =
-    let s = c .before .before .before .before .before .before .before .before .before .before .before .before .before .before .before in
-    let l = c .before .before .before .before .before .before .before .before .loop in (
+    let more = in-loop (c .before .before) in
+    let l = more .before .loop in
+    let labels = labelled (more .before) in (
       next (l .inv .0)
-          (schema-next (s .args .task) (s .pre .0) (s .args .spaces) (s .pre .1 .0)
-          (c .before .before .before .before .before .before .before .before .before .before .by-label .ensures) (l .i) no-schema
-          (c .before .before .before .before .before .before .before .loop-test .taken))
+          (schema-next _ (entry labels .pre .0) _ (entry labels .pre .1 .0) (labels .by-label .ensures) (l .i) no-schema (more .loop-test .taken))
           (c .before .before .write-schema-types .ensures),
       search needs,
     )
@@ -112,10 +119,9 @@ same-length c = search needs
 
 returns : tie.Need-returns Inv-loop μ-loop
 returns c =
-    let s = c .before .before .before .before .before .before .before .before in
+    let labels = labelled (c .before) in
     finish (c .before .loop .inv .0)
-    (schemas-end (s .args .task) (s .pre .0) (s .args .spaces) (s .pre .1 .0) (c .before .before .before .by-label .ensures) (c .before .loop .i)
-    (c .loop-test .left))
+    (schemas-end _ (entry labels .pre .0) _ (entry labels .pre .1 .0) (labels .by-label .ensures) _ (c .loop-test .left))
 
 pub write-type-lines-spec : {M : Type 1} → statement M
 write-type-lines-spec =
