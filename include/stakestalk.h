@@ -1,10 +1,19 @@
 /* Stakestalk: press-table analyser. C interface of the proved library, target/staticlib/libcapi.a.
  *
- * Every function answers a number of document 01: nothing negative when it is accepted, else minus the refusal's number.
- * A refused call has changed no byte. The lent runs of bytes may be of any content and any length, also 0, where the pointer is
- * not read through but must not be null. They must not overlap, except that runs which are only read may.
- * No function keeps a pointer, and none uses anything but what is lent to it: calls on different bytes may run at once.
- * A section is worked out in tables on the stack, for which 1 MB is enough. */
+ * The library is x86-64 code for Linux, in the calling convention of that system, as the Rattle toolchain writes it
+ * (target x86_64-unknown-linux-gnu). Of the C library it uses memcpy and memset, and no heap, no files, no global data.
+ *
+ * What the bytes of a card mean, what each refusal says and how the listing is read is in docs/CARD.md.
+ *
+ * Answers. Every function that takes a card answers a number: nothing negative when the call is accepted, else minus the
+ * number of the refusal, one of the names STAKESTALK_REFUSED_.. below. A refused call has changed no byte.
+ *
+ * Lent bytes. A run of bytes may have any content and any length, also 0, where the pointer is not read through but must not be
+ * null. Runs must not overlap, except that runs which are only read may. No function keeps a pointer, and none uses anything but
+ * what is lent to it: calls on different bytes may run at once.
+ *
+ * Stack. Tables are kept on the stack. STAKESTALK_STACK_.. is a size that is enough for each call, measured and not proved
+ * (tests/c/stack); STAKESTALK_STACK is enough for any of them. */
 #ifndef STAKESTALK_H
 #define STAKESTALK_H
 
@@ -14,6 +23,57 @@
 #ifdef __cplusplus
 extern "C" {
 #endif
+
+/* The version of this header. CHANGELOG.md says what each version changed; a change of an answer or of the card raises it. */
+#define STAKESTALK_VERSION_MAJOR 0
+#define STAKESTALK_VERSION_MINOR 1
+#define STAKESTALK_VERSION_PATCH 0
+#define STAKESTALK_VERSION (STAKESTALK_VERSION_MAJOR * 10000 + STAKESTALK_VERSION_MINOR * 100 + STAKESTALK_VERSION_PATCH)
+
+/* Sizes of buffers, in bytes. */
+#define STAKESTALK_STATE_BYTES 4096   /* the least buffer for a state */
+#define STAKESTALK_OUTPUT_BYTES 65536 /* the least buffer for a section or a rewritten card */
+#define STAKESTALK_FACT_BYTES 4       /* one fact of a state: predicate, objects, 255 for missing arguments */
+
+/* Stack that is enough for a call, in bytes, and for any of them. `tests/c/stack --write` measures them anew. */
+#define STAKESTALK_STACK_CHECK 28672
+#define STAKESTALK_STACK_INITIAL 28672
+#define STAKESTALK_STACK_PRESS 32768
+#define STAKESTALK_STACK_REWRITE 28672
+#define STAKESTALK_STACK_SECTION 323584
+#define STAKESTALK_STACK STAKESTALK_STACK_SECTION
+
+/* The refusals, by number. An answer is minus one of these. */
+enum stakestalk_refusal {
+    /* of a card, in the order in which they are checked */
+    STAKESTALK_REFUSED_CARD_ENDS = 1,      /* the card ends where a byte is due */
+    STAKESTALK_REFUSED_PREDICATES = 2,     /* the predicate count or an arity is out of range */
+    STAKESTALK_REFUSED_OBJECTS = 3,        /* the object count is 0 or over 64 */
+    STAKESTALK_REFUSED_SCHEMAS = 4,        /* the schema count is over 32 */
+    STAKESTALK_REFUSED_ROLES = 5,          /* a high map bit is set, or a role count is outside 2 to 6 */
+    STAKESTALK_REFUSED_LIST = 6,           /* a list count is outside 1 to 8 */
+    STAKESTALK_REFUSED_ATOM = 7,           /* an atom has an unknown predicate or role */
+    STAKESTALK_REFUSED_ATOM_ORDER = 8,     /* an atom is not above the one before */
+    STAKESTALK_REFUSED_DELETE = 9,         /* a deleted atom is no precondition */
+    STAKESTALK_REFUSED_ADD = 10,           /* an added atom is a precondition */
+    STAKESTALK_REFUSED_FACTS = 11,         /* the fact count is over 512 */
+    STAKESTALK_REFUSED_FACT = 12,          /* a fact has an unknown predicate or object */
+    STAKESTALK_REFUSED_FACT_ORDER = 13,    /* a fact is not above the one before */
+    STAKESTALK_REFUSED_TRAILING = 14,      /* bytes follow the last fact */
+    /* of a state and a press */
+    STAKESTALK_REFUSED_STATE = 15,         /* the state is not well formed, or its buffer is under 4,096 bytes */
+    STAKESTALK_REFUSED_SCHEMA = 16,        /* the press names no schema of the card */
+    STAKESTALK_REFUSED_BINDING = 17,       /* more or fewer objects than roles, or an unknown object */
+    STAKESTALK_REFUSED_SAME_OBJECT = 18,   /* two roles have the same object */
+    STAKESTALK_REFUSED_PRECONDITION = 19,  /* a precondition is not in the state */
+    STAKESTALK_REFUSED_STATE_FULL = 20,    /* the new state would have over 1,024 facts */
+    /* of an output buffer and a section number */
+    STAKESTALK_REFUSED_OUTPUT = 21,        /* the output buffer is under 65,536 bytes */
+    STAKESTALK_REFUSED_SECTION = 22        /* the section number is past the last section */
+};
+
+/* The version of the library that is linked, as STAKESTALK_VERSION has it. */
+int32_t stakestalk_version(void);
 
 /* Reads a card.
  * Answers 0 if it is accepted, else -1 to -14. Writes nothing. */
@@ -26,7 +86,15 @@ int32_t stakestalk_initial(const uint8_t *card, size_t card_len, uint8_t *state,
 
 /* Presses: applies schema number `schema` to the objects, one byte for each role in order, in the state of `count` facts.
  * Takes the deletes out and puts the adds in; after the last fact there is 0 up to byte 4,096, bytes past it stay as they are.
- * Answers the new number of facts, 0 to 1,024, which the next press wants as `count`, else -1 to -20. */
+ * Answers the new number of facts, 0 to 1,024, else -1 to -20.
+ * A refused press leaves the state, so the count before it stays valid. Keep it:
+ *
+ *     int32_t answer = stakestalk_press(card, card_len, state, state_len, count, schema, objects, objects_len);
+ *     if (answer >= 0)
+ *         count = (size_t)answer;
+ *     else
+ *         refused(-answer);
+ */
 int32_t stakestalk_press(const uint8_t *card, size_t card_len, uint8_t *state, size_t state_len, size_t count, size_t schema,
                          const uint8_t *objects, size_t objects_len);
 

@@ -1,4 +1,4 @@
-/* Opens the bench card of document 01, presses schema 0 on object 0, and prints what the calls answer. */
+/* Opens the bench card K1 of docs/CARD.md, presses on it as a program would, and prints what the calls answer. */
 #include <stdio.h>
 #include "stakestalk.h"
 
@@ -7,27 +7,52 @@ static const uint8_t card[] = {
     0x03, 0x01, 0x00, 0x02, 0x00, 0x01, 0x03, 0x02, 0x02, 0x01, 0x00, 0x02, 0x00, 0x01, 0x02, 0x00, 0x00, 0x02, 0x00,
     0x02, 0x00, 0x06, 0x00, 0x00, 0x00, 0x01, 0x02, 0x00, 0x02, 0x02, 0x01, 0x02, 0x03, 0x02, 0x03, 0x03,
 };
+static uint8_t state[STAKESTALK_STATE_BYTES], out[STAKESTALK_OUTPUT_BYTES];
+static size_t count;
+
+/* Presses, and keeps the count that goes with the state: a refused press leaves both as they were. */
+static void press(size_t schema, const uint8_t *objects, size_t objects_len) {
+    int32_t answer = stakestalk_press(card, sizeof card, state, sizeof state, count, schema, objects, objects_len);
+    if (answer >= 0)
+        count = (size_t)answer;
+    printf("press schema %zu: %d, and %zu facts\n", schema, answer, count);
+}
 
 int main(void) {
-    static uint8_t state[4096], out[65536];
-    const uint8_t first[] = {0}, three[] = {0, 2, 3};
+    const uint8_t first[] = {0}, three[] = {0, 2, 3}, twice[] = {0, 2, 2};
 
+    if (stakestalk_version() != STAKESTALK_VERSION) {
+        printf("the header is of version %d, the library of version %d\n", STAKESTALK_VERSION, stakestalk_version());
+        return 1;
+    }
     printf("check %d\n", stakestalk_check(card, sizeof card));
     printf("check of no bytes %d\n", stakestalk_check(card, 0));
-    int32_t count = stakestalk_initial(card, sizeof card, state, sizeof state);
-    printf("initial %d\n", count);
-    printf("schema 1 first %d\n", stakestalk_press(card, sizeof card, state, sizeof state, (size_t)count, 1, three, 3));
-    count = stakestalk_press(card, sizeof card, state, sizeof state, (size_t)count, 0, first, 1);
-    printf("press %d\n", count);
-    for (int32_t i = 0; i < count; i++)
-        printf("%d %d %d %d\n", state[4 * i], state[4 * i + 1], state[4 * i + 2], state[4 * i + 3]);
+
+    int32_t answer = stakestalk_initial(card, sizeof card, state, sizeof state);
+    if (answer < 0)
+        return 1;
+    count = (size_t)answer;
+    printf("initial %zu\n", count);
+    press(1, three, sizeof three); /* refused: object 0 is not armed yet */
+    press(0, first, sizeof first);
+    press(1, twice, sizeof twice); /* refused: one object in two roles */
+    press(1, three, sizeof three);
+    for (size_t i = 0; i < count; i++) {
+        const uint8_t *fact = state + STAKESTALK_FACT_BYTES * i;
+        printf("%d %d %d %d\n", fact[0], fact[1], fact[2], fact[3]);
+    }
 
     int32_t length = stakestalk_rewrite(card, sizeof card, out, sizeof out);
     printf("rewrite %d of %zu\n", length, sizeof card);
     printf("rewrite to a short buffer %d\n", stakestalk_rewrite(card, sizeof card, out, sizeof out - 1));
 
-    length = stakestalk_section(card, sizeof card, 0, out, sizeof out);
-    printf("section 0 %d\n%.*s", length, length, (const char *)out);
-    printf("section 5 %d\n", stakestalk_section(card, sizeof card, 5, out, sizeof out));
+    for (size_t number = 0;; number++) {
+        length = stakestalk_section(card, sizeof card, number, out, sizeof out);
+        if (length == -STAKESTALK_REFUSED_SECTION)
+            break;
+        if (length < 0)
+            return 1;
+        printf("section %zu\n%.*s", number, (int)length, (const char *)out);
+    }
     return 0;
 }

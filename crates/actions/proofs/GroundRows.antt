@@ -13,25 +13,26 @@ use borrow.Author.Tests.{ltb-true}
 use Rattle.laws.specs.Lists.{all}
 use Rattle.laws.proofs.Tests.{and-left, and-right}
 use Rattle.laws.proofs.Lists.{all-at, mem-getD}
+use Rattle.model.specs.Card.{inRange}
 use Rattle.model.specs.Writer.{known}
 use Rattle.model.specs.Strips.{factBytes, ground}
 use Rattle.model.proofs.Order.{known-predicate, known-arguments}
+use Rattle.model.proofs.Checked.{arity-within}
 use Rattle.card.specs.Represents.{atomOf, atomsOf, factsOf, blankAtom}
 use Rattle.card.specs.declared.Atom.{Atom as Kept}
 use Rattle.card.specs.declared.AtomList.{AtomList}
 use Rattle.card.specs.declared.FactList.{FactList}
 use Rattle.sets.specs.Numbers.{filled}
-use Rattle.state.specs.Rows.{rowNumber, factNumber, inRange}
-use Rattle.state.proofs.RightRows.{arity-low, arity-high}
+use Rattle.state.specs.Rows.{rowNumber, factNumber}
 use Rattle.state.proofs.Writing.{store-next}
-use Rattle.actions.specs.Grounds.{upTo, factsKept, Bound, FactsRight}
+use Rattle.actions.specs.Grounds.{placeByte, factsKept, Bound, FactsRight}
 
 -- the row of an atom with one to three arguments
 row-of :
     (arity p x y z : ℕ) → 1 ≤ arity → arity ≤ 3
-    → (p ∷ upTo arity 1 x ∷ upTo arity 2 y ∷ upTo arity 3 z ∷ [])
+    → (p ∷ placeByte arity 1 x ∷ placeByte arity 2 y ∷ placeByte arity 3 z ∷ [])
     ≡ factBytes (record { predicate = p; arguments = take arity (x ∷ y ∷ z ∷ []) })
-unfolding upTo factBytes
+unfolding placeByte factBytes
 row-of zero p x y z low high = absurd (not-suc-le-zero low)
 row-of (suc zero) p x y z low high = refl
 row-of (suc (suc zero)) p x y z low high = refl
@@ -46,14 +47,15 @@ row-by p x y z x₁ y₁ z₁ e f g = λ k. rowNumber (p ∷ e k ∷ f k ∷ g k
 -- the number of a fact's row
 pub fact-row :
     (arities : List ℕ) (f : Kept) → inRange arities ≡ true → f .predicate < length arities → (x y z : ℕ)
-    → x ≡ upTo (getD arities (f .predicate) 0) 1 (f .first) → y ≡ upTo (getD arities (f .predicate) 0) 2 (f .second)
-    → z ≡ upTo (getD arities (f .predicate) 0) 3 (f .third)
+    → x ≡ placeByte (getD arities (f .predicate) 0) 1 (f .first) → y ≡ placeByte (getD arities (f .predicate) 0) 2 (f .second)
+    → z ≡ placeByte (getD arities (f .predicate) 0) 3 (f .third)
     → rowNumber (f .predicate ∷ x ∷ y ∷ z ∷ []) ≡ factNumber (atomOf arities f)
 unfolding factNumber atomOf
 fact-row arities f right h x y z first second third =
+    let within = arity-within arities (f .predicate) right h in
     row-by (f .predicate) x y z _ _ _ first second third
     ∙ ap rowNumber (row-of (getD arities (f .predicate) 0) (f .predicate) (f .first) (f .second) (f .third)
-    (arity-low arities (f .predicate) right h) (arity-high arities (f .predicate) right h))
+    (within .0) (within .1))
 
 -- a function of each argument, up to the arity
 map-take : (g : ℕ → ℕ) (n : ℕ) (xs : List ℕ) → take n (map g xs) ≡ map g (take n xs)
@@ -64,17 +66,18 @@ map-take g (suc n) (x ∷ xs) = ap (λ (l : List ℕ). g x ∷ l) (map-take g n 
 -- the number of the row of a ground atom
 pub ground-row :
     (arities objects : List ℕ) (a : Kept) → inRange arities ≡ true → a .predicate < length arities → (x y z : ℕ)
-    → x ≡ upTo (getD arities (a .predicate) 0) 1 (getD objects (a .first) 0)
-    → y ≡ upTo (getD arities (a .predicate) 0) 2 (getD objects (a .second) 0)
-    → z ≡ upTo (getD arities (a .predicate) 0) 3 (getD objects (a .third) 0)
+    → x ≡ placeByte (getD arities (a .predicate) 0) 1 (getD objects (a .first) 0)
+    → y ≡ placeByte (getD arities (a .predicate) 0) 2 (getD objects (a .second) 0)
+    → z ≡ placeByte (getD arities (a .predicate) 0) 3 (getD objects (a .third) 0)
     → rowNumber (a .predicate ∷ x ∷ y ∷ z ∷ []) ≡ factNumber (ground objects (atomOf arities a))
 unfolding factNumber ground atomOf
 ground-row arities objects a right h x y z first second third =
     let arity : ℕ = getD arities (a .predicate) 0 in
+    let within = arity-within arities (a .predicate) right h in
     row-by (a .predicate) x y z _ _ _ first second third
     ∙ ap rowNumber
     (row-of arity (a .predicate) (getD objects (a .first) 0) (getD objects (a .second) 0) (getD objects (a .third) 0)
-    (arity-low arities (a .predicate) right h) (arity-high arities (a .predicate) right h)
+    (within .0) (within .1)
     ∙ ap (λ (l : List ℕ). factBytes (record { predicate = a .predicate; arguments = l }))
     (map-take (λ k. getD objects k 0) arity (a .first ∷ a .second ∷ a .third ∷ [])))
 
@@ -110,7 +113,7 @@ pub atom-arguments :
 unfolding atomOf
 atom-arguments arities bound a right k =
     arguments-below (getD arities (a .predicate) 0) bound (a .first) (a .second) (a .third)
-    (arity-high arities (a .predicate) right (atom-predicate arities bound a k))
+    (arity-within arities (a .predicate) right (atom-predicate arities bound a k) .1)
     (known-arguments arities bound (atomOf arities a) k)
 
 module _ {A : Type 0} where

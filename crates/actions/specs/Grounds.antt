@@ -6,19 +6,19 @@ use mathlib.Core.List.{List, map}
 use lib.Dec.{leb, ltb}
 use lib.ListN.{length}
 use Rattle.laws.specs.Lists.{all}
-use Rattle.model.specs.Card.{Atom}
+use Rattle.model.specs.Card.{Atom, inRange}
 use Rattle.model.specs.Writer.{known}
 use Rattle.model.specs.Strips.{filler}
 use Rattle.card.specs.Represents.{atomsOf, factsOf}
 use Rattle.card.specs.declared.AtomList.{AtomList}
 use Rattle.card.specs.declared.FactList.{FactList}
 use Rattle.sets.specs.Numbers.{filled}
-use Rattle.state.specs.Rows.{factNumber, inRange}
+use Rattle.state.specs.Rows.{factNumber}
 use Rattle.actions.specs.declared.Facts.{Facts}
 
 -- the byte at place k of a row: what stands there up to the arity, filler after it
-unfoldable pub upTo : ℕ → ℕ → ℕ → ℕ
-upTo arity k byte = cond (leb k arity) byte filler
+unfoldable pub placeByte : ℕ → ℕ → ℕ → ℕ
+placeByte arity k byte = cond (leb k arity) byte filler
 
 unfoldable pub factsKept : List Atom → Facts
 factsKept facts = record { count = length facts; numbers = filled 8 (map factNumber facts) }

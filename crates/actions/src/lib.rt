@@ -5,6 +5,7 @@ use card::FactList;
 use card::Schema;
 use sets::Found;
 use sets::find;
+use state::FILLER;
 use state::row_number;
 ghost use Prim.Native.Nat.{_≤_, _<_};
 ghost use mathlib.Core.Bool.{true};
@@ -13,12 +14,13 @@ ghost use mathlib.Core.List.{map, _++_};
 ghost use lib.Dec.{ltb};
 ghost use lib.ListN.{length, getD, drop};
 ghost use Rattle.laws.specs.Lists.{all, member, distinct};
+ghost use Rattle.model.specs.Card.{inRange};
 ghost use Rattle.model.specs.Strips.{ground, takenOut, putIn};
 ghost use Rattle.model.specs.Writer.{known};
 ghost use Rattle.card.specs.Represents.{atomOf, atomsOf, factsOf, schemaOf};
 ghost use Rattle.sets.specs.Numbers.{rising};
-ghost use Rattle.state.specs.Rows.{factNumber, inRange};
-ghost use Rattle.actions.specs.Grounds.{upTo, factsKept, Bound, FactsRight};
+ghost use Rattle.state.specs.Rows.{factNumber};
+ghost use Rattle.actions.specs.Grounds.{placeByte, factsKept, Bound, FactsRight};
 
 // Facts as the numbers of their rows; entries past the count are 0.
 pub struct Facts {
@@ -27,10 +29,10 @@ pub struct Facts {
 }
 
 // What stands at place k of a row, 1 to 3: the byte up to the arity, filler after it.
-fn up_to(arity: u8, k: u8, byte: u8) -> u8
-    ensures { λ r. ⌜ r ≡ upTo arity k byte ⌝ }
+fn place_byte(arity: u8, k: u8, byte: u8) -> u8
+    ensures { λ r. ⌜ r ≡ placeByte arity k byte ⌝ }
 {
-    if k <= arity { byte } else { 255 }
+    if k <= arity { byte } else { FILLER }
 }
 
 // The number of a fact's row.
@@ -40,21 +42,21 @@ fn fact_number(f: Atom, arities: &[u8]) -> u32
 {
     let predicate = f.predicate;
     let arity = arities[predicate as usize];
-    let first = up_to(arity, 1, f.first);
-    let second = up_to(arity, 2, f.second);
-    let third = up_to(arity, 3, f.third);
+    let first = place_byte(arity, 1, f.first);
+    let second = place_byte(arity, 2, f.second);
+    let third = place_byte(arity, 3, f.third);
     row_number(predicate, first, second, third)
 }
 
 // The object for the parameter at place k of an atom, filler past the arity.
 fn object(objects: &[u8], arity: u8, k: u8, parameter: u8) -> u8
     requires { ⌜ (k ≤ arity → parameter < length (now objects)) ⌝ }
-    ensures { λ r. ⌜ r ≡ upTo arity k (getD (now (objects .entry)) parameter 0) ⌝ }
+    ensures { λ r. ⌜ r ≡ placeByte arity k (getD (now (objects .entry)) parameter 0) ⌝ }
 {
     if k <= arity {
         objects[parameter as usize]
     } else {
-        255
+        FILLER
     }
 }
 

@@ -17,7 +17,7 @@ use Rattle.model.proofs.Checked.{checked}
 use Rattle.model.proofs.RoundTrip.{decode-checks, card-length}
 use Rattle.model.proofs.History.{opened, press-cases}
 use Rattle.card.specs.declared.Task.{Task as Kept}
-use Rattle.strips.specs.Answers.{appliedSays, Does}
+use Rattle.strips.specs.Answers.{appliedSays, Matches}
 use Rattle.strips.specs.declared.Applied.{Applied}
 use Rattle.writer_checks.specs.Tables.{tableOf}
 use Rattle.writer.specs.Answers.{writingSays, Encodes}
@@ -74,7 +74,7 @@ encode-small t out = record { within = λ n e. go n (checkTask t) refl (leb outp
         omega arith
 
 -- so what the functions answer is small
-pub does-small : {call : Call} {after : List ℕ} {r : Applied} → Does call after r → Small (call .answer) → Small (appliedSays r)
+pub does-small : {call : Call} {after : List ℕ} {r : Applied} → Matches call after r → Small (call .answer) → Small (appliedSays r)
 does-small does small = subst Small (sym (does .answer)) small
 
 pub encodes-small : {t : Kept} {out after : List ℕ} {w : Writing} → Encodes t out after w → Small (writingSays w)

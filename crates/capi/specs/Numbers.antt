@@ -1,5 +1,5 @@
 -- What the C interface answers: document 01's value as it is, and a refusal as minus its number.
-use Prim.Native.Nat.{ℕ, _≤_}
+use Prim.Native.Nat.{ℕ, _+_, _*_, _≤_}
 use mathlib.Core.Path.{_≡_}
 use mathlib.Core.List.{List}
 use lib.IntN.{ℤ, pos, negℤ}
@@ -22,6 +22,10 @@ rewritten out (accepted t) = encode t out
 
 unfoldable pub rewrites : List ℕ → List ℕ → Call
 rewrites card out = rewritten out (decode card)
+
+-- the version of the C interface, 0.1.0, with two decimal digits each for minor and patch
+unfoldable pub versionNumber : ℕ
+versionNumber = 0 * 10000 + 1 * 100 + 0
 
 -- a value that is answered is no larger than an output buffer that is asked for
 pub record Small (answer : Answer ℕ) : Type 0 where

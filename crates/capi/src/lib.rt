@@ -1,4 +1,5 @@
 // The C interface of include/stakestalk.h: each call answers a number, document 01's value or minus the refusal's number.
+use card::OUTPUT_BYTES;
 use card::Refusal;
 use card::Verdict;
 use card::refusal_number;
@@ -17,10 +18,11 @@ ghost use Rattle.card.specs.Represents.{refusalNumber};
 ghost use Rattle.listing.specs.Answers.{listedSays};
 ghost use Rattle.strips.specs.Answers.{appliedSays};
 ghost use Rattle.writer.specs.Answers.{writingSays};
-ghost use Rattle.capi.specs.Numbers.{signed, checks, rewrites, Small};
+ghost use Rattle.capi.specs.Numbers.{signed, checks, rewrites, Small, versionNumber};
+ghost use lib.IntN.{pos};
 
-// How many bytes every call asks of its output buffer. Document 01, refusal 21.
-const OUTPUT_BYTES: usize = 65536;
+// The version of these calls, 0.1.0, as include/stakestalk.h has it: two decimal digits each for minor and patch.
+const VERSION: i32 = 100;
 
 fn refusal_code(refusal: Refusal) -> i32
     ensures { λ r. ⌜ r ≡ signed (refused (refusalNumber refusal)) ⌝ }
@@ -66,6 +68,14 @@ fn listed_code(listed: Listed) -> i32
         Listed::OutputShort => -21,
         Listed::SectionUnknown => -22,
     }
+}
+
+// The version of these calls, a larger number for a later one.
+#[no_mangle]
+pub extern "C" fn stakestalk_version() -> i32
+    ensures { λ r. ⌜ r ≡ pos versionNumber ⌝ }
+{
+    VERSION
 }
 
 // Reads a card: 0 if it is accepted.

@@ -3,6 +3,9 @@ ghost use mathlib.Core.List.{[]};
 ghost use mathlib.Core.Path.{_≡_};
 ghost use Rattle.card.specs.Represents.{refusalNumber, blankAtom, atomsFor, aritiesFor, factsFor};
 
+// How many bytes the card writer and the listing call ask of their output buffer. Document 01, refusal 21.
+pub const OUTPUT_BYTES: usize = 65536;
+
 // A predicate with up to three arguments; those past the predicate's arity are no part of it.
 pub struct Atom {
     pub predicate: u8,
@@ -38,6 +41,13 @@ pub struct Schema {
     pub preconditions: AtomList,
     pub deletes: AtomList,
     pub adds: AtomList,
+}
+
+// The three lists of a schema.
+pub enum ListField {
+    Preconditions,
+    Deletes,
+    Adds,
 }
 
 // A task (document 01: a table).

@@ -1,4 +1,4 @@
-// The examples of document 000: each argument names a card's file, which is printed as its name and its listing.
+// The examples of document 000, and well-known domains: each argument names a card's file, which is printed as its name and its listing.
 use libc::STDOUT_FILENO;
 use printer::print_from;
 

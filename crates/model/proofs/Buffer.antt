@@ -26,64 +26,65 @@ unfolding factsIn
 length-factsIn arities zero buffer = refl
 length-factsIn arities (suc n) buffer = ap suc (length-factsIn arities n (drop 4 buffer))
 
--- right rows hold known facts
-pub rows-known :
-    (t : Task) (n : ℕ) (buffer : List ℕ) → rowsRight t n buffer ≡ true
-    → all (known (t .arities) (t .objects)) (factsIn (t .arities) n buffer) ≡ true
-unfolding rowsRight rowRight factsIn all
-rows-known t zero buffer e = refl
-rows-known t (suc n) buffer e =
-    let right : Bool = rowRight t (take 4 buffer) in
-    and-intro (known (t .arities) (t .objects) (factAt (t .arities) (take 4 buffer))) _
-    (and-left (known (t .arities) (t .objects) (factAt (t .arities) (take 4 buffer))) _ (and-left right (rowsRight t n (drop 4 buffer)) e))
-    (rows-known t n (drop 4 buffer) (and-right right (rowsRight t n (drop 4 buffer)) e))
-
 -- What 15 asks of a buffer and a count.
-pub record WellFormed (t : Task) (buffer : List ℕ) (count : ℕ) : Type 0 where
+pub record WellFormed (arities : List ℕ) (objects : ℕ) (buffer : List ℕ) (count : ℕ) : Type 0 where
   pub room : 4096 ≤ length buffer
   pub count-fits : count ≤ 1024
-  pub rows : rowsRight t count buffer ≡ true
-  pub order : ascending none (factsIn (t .arities) count buffer) ≡ true
+  pub rows : rowsRight arities objects count buffer ≡ true
+  pub in-order : ascending none (factsIn arities count buffer) ≡ true
 
-pub well-formed : (t : Task) (buffer : List ℕ) (count : ℕ) → wellFormed t buffer count ≡ true → WellFormed t buffer count
-unfolding wellFormed
-well-formed t buffer count e =
-    let large : Bool = leb 4096 (length buffer) in
-    let few : Bool = leb count 1024 in
-    let right : Bool = rowsRight t count buffer in
-    let three = and-left (large && few && right) _ e in
-    let two = and-left (large && few) right three in
-    record {
-      room = leb-true 4096 (length buffer) (and-left large few two);
-      count-fits = leb-true count 1024 (and-right large few two);
-      rows = and-right (large && few) right three;
-      order = and-right (large && few && right) _ e;
-    }
+module _ (arities : List ℕ) (objects : ℕ) where
+  -- right rows hold known facts
+  pub rows-known : (n : ℕ) (buffer : List ℕ) → rowsRight arities objects n buffer ≡ true
+      → all (known arities objects) (factsIn arities n buffer) ≡ true
+  unfolding rowsRight rowRight factsIn all
+  rows-known zero buffer e = refl
+  rows-known (suc n) buffer e =
+      let right : Bool = rowRight arities objects (take 4 buffer) in
+      and-intro (known arities objects (factAt arities (take 4 buffer))) _
+      (and-left (known arities objects (factAt arities (take 4 buffer))) _ (and-left right (rowsRight arities objects n (drop 4 buffer)) e))
+      (rows-known n (drop 4 buffer) (and-right right (rowsRight arities objects n (drop 4 buffer)) e))
 
-pub well-formed-intro : (t : Task) (buffer : List ℕ) (count : ℕ) → WellFormed t buffer count → wellFormed t buffer count ≡ true
-unfolding wellFormed
-well-formed-intro t buffer count w =
-    let large : Bool = leb 4096 (length buffer) in
-    let few : Bool = leb count 1024 in
-    let right : Bool = rowsRight t count buffer in
-    and-intro (large && few && right) _
-    (and-intro (large && few) right
-    (and-intro large few (le-leb 4096 (length buffer) (w .room)) (le-leb count 1024 (w .count-fits)))
-    (w .rows))
-    (w .order)
+  module _ (buffer : List ℕ) (count : ℕ) where
+    pub well-formed : wellFormed arities objects buffer count ≡ true → WellFormed arities objects buffer count
+    unfolding wellFormed
+    well-formed e =
+        let large : Bool = leb 4096 (length buffer) in
+        let few : Bool = leb count 1024 in
+        let right : Bool = rowsRight arities objects count buffer in
+        let three = and-left (large && few && right) _ e in
+        let two = and-left (large && few) right three in
+        record {
+          room = leb-true 4096 (length buffer) (and-left large few two);
+          count-fits = leb-true count 1024 (and-right large few two);
+          rows = and-right (large && few) right three;
+          in-order = and-right (large && few && right) _ e;
+        }
+
+    pub well-formed-intro : WellFormed arities objects buffer count → wellFormed arities objects buffer count ≡ true
+    unfolding wellFormed
+    well-formed-intro w =
+        let large : Bool = leb 4096 (length buffer) in
+        let few : Bool = leb count 1024 in
+        let right : Bool = rowsRight arities objects count buffer in
+        and-intro (large && few && right) _
+        (and-intro (large && few) right
+        (and-intro large few (le-leb 4096 (length buffer) (w .room)) (le-leb count 1024 (w .count-fits)))
+        (w .rows))
+        (w .in-order)
 
 -- a well-formed buffer holds a state of the task
 pub well-formed-valid :
-    (t : Task) (buffer : List ℕ) (count : ℕ) → wellFormed t buffer count ≡ true → Valid t (factsIn (t .arities) count buffer)
+    (t : Task) (buffer : List ℕ) (count : ℕ) → wellFormed (t .arities) (t .objects) buffer count ≡ true → Valid t (factsIn (t .arities) count buffer)
 well-formed-valid t buffer count e =
-    let w = well-formed t buffer count e in
-    record { facts-known = rows-known t count buffer (w .rows); in-order = w .order }
+    let w = well-formed (t .arities) (t .objects) buffer count e in
+    record { facts-known = rows-known (t .arities) (t .objects) count buffer (w .rows); in-order = w .in-order }
 
 -- it has as many facts as the count says, at most 1,024
 pub well-formed-count :
-    (t : Task) (buffer : List ℕ) (count : ℕ) → wellFormed t buffer count ≡ true
+    (t : Task) (buffer : List ℕ) (count : ℕ) → wellFormed (t .arities) (t .objects) buffer count ≡ true
     → (length (factsIn (t .arities) count buffer) ≡ count) × (count ≤ 1024)
-well-formed-count t buffer count e = (length-factsIn (t .arities) count buffer, well-formed t buffer count e .count-fits)
+well-formed-count t buffer count e = (length-factsIn (t .arities) count buffer, well-formed (t .arities) (t .objects) buffer count e .count-fits)
 
 -- a fact with at most three arguments has four bytes
 pub length-factBytes : (f : Atom) → length (f .arguments) ≤ 3 → length (factBytes f) ≡ 4
@@ -100,7 +101,7 @@ factAt-factBytes arities f n =
     λ i. record { predicate = f .predicate; arguments = take-at (f .arguments) (replicate (3 - length (f .arguments)) filler) _ n i }
 
 -- and they are right
-pub row-written : (t : Task) (f : Atom) → known (t .arities) (t .objects) f ≡ true → rowRight t (factBytes f) ≡ true
+pub row-written : (t : Task) (f : Atom) → known (t .arities) (t .objects) f ≡ true → rowRight (t .arities) (t .objects) (factBytes f) ≡ true
 unfolding rowRight factBytes
 row-written t f k =
     let n = known-arity (t .arities) (t .objects) f k in
@@ -121,7 +122,7 @@ module _ (t : Task) (c : Checked t) where
   pub facts-written :
       (s : State) (rest : List ℕ) → all (known (t .arities) (t .objects)) s ≡ true
       → (factsIn (t .arities) (length s) (flatMap factBytes s ++ rest) ≡ s)
-      × (rowsRight t (length s) (flatMap factBytes s ++ rest) ≡ true)
+      × (rowsRight (t .arities) (t .objects) (length s) (flatMap factBytes s ++ rest) ≡ true)
   unfolding flatMap factsIn rowsRight all
   facts-written [] rest k = (refl, refl)
   facts-written (f ∷ fs) rest k =
@@ -135,7 +136,7 @@ module _ (t : Task) (c : Checked t) where
       let behind : drop 4 (factBytes f ++ flatMap factBytes fs ++ rest) ≡ bytes =
       ap (drop 4) joined ∙ drop-at (factBytes f) bytes 4 (length-known f here) in (
         rw (front, behind) (cc (factAt-factBytes (t .arities) f (known-arity (t .arities) (t .objects) f here), later .0)),
-        rw (front, behind) (and-intro (rowRight t (factBytes f)) _ (row-written t f here) (later .1)),
+        rw (front, behind) (and-intro (rowRight (t .arities) (t .objects) (factBytes f)) _ (row-written t f here) (later .1)),
       )
 
   -- four bytes for each fact
@@ -171,17 +172,17 @@ module _ (t : Task) (c : Checked t) where
   -- and 15 does not refuse them
   pub stored-well-formed :
       (s : State) (buffer : List ℕ) → Valid t s → length s ≤ 1024 → 4096 ≤ length buffer
-      → wellFormed t (written s buffer) (length s) ≡ true
+      → wellFormed (t .arities) (t .objects) (written s buffer) (length s) ≡ true
   stored-well-formed s buffer v few large =
-      well-formed-intro t (written s buffer) (length s)
+      well-formed-intro (t .arities) (t .objects) (written s buffer) (length s)
       (record {
         room = let kept = length-written s buffer v few large in omega arith;
         count-fits = few;
         rows = stored-rows;
-        order = ap (ascending none) (stored-facts s buffer v) ∙ v .in-order;
+        in-order = ap (ascending none) (stored-facts s buffer v) ∙ v .in-order;
       })
     where
-      stored-rows : rowsRight t (length s) (written s buffer) ≡ true
+      stored-rows : rowsRight (t .arities) (t .objects) (length s) (written s buffer) ≡ true
       stored-rows =
           unfold written in
           rw append-assoc (facts-written s (replicate (4096 - 4 * length s) 0 ++ drop 4096 buffer) (v .facts-known) .1)
@@ -189,7 +190,7 @@ module _ (t : Task) (c : Checked t) where
 -- a state of at most 1,024 facts, written to a buffer of at least 4,096 bytes, stands there and is well formed
 pub stored-state :
     (t : Task) → checkTask t ≡ accepted tt → (s : State) (buffer : List ℕ) → Valid t s → length s ≤ 1024 → 4096 ≤ length buffer
-    → (factsIn (t .arities) (length s) (written s buffer) ≡ s) × (wellFormed t (written s buffer) (length s) ≡ true)
+    → (factsIn (t .arities) (length s) (written s buffer) ≡ s) × (wellFormed (t .arities) (t .objects) (written s buffer) (length s) ≡ true)
     × (length (written s buffer) ≡ length buffer)
 stored-state t ok s buffer v few large = (
   stored-facts t (checked t ok) s buffer v,

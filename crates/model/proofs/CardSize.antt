@@ -24,7 +24,7 @@ use Rattle.model.proofs.CheckParts.{between-parts, known-parts, each-at
 abbrev pub areBytes : List ℕ → Bool
 areBytes s = all (λ b. ltb b 256) s
 
--- at most so many bytes
+-- bytes, at most `size` of them
 pub record Bytes (size : ℕ) (s : List ℕ) : Type 0 where
   pub each-byte : areBytes s ≡ true
   pub at-most : length s ≤ size

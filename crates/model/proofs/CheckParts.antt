@@ -11,10 +11,11 @@ use borrow.Author.Tests.{leb-true, le-leb, lt-leb, eqb-true, eq-eqb}
 use Rattle.laws.specs.Lists.{all}
 use Rattle.laws.proofs.Tests.{and-left, and-right, and-intro, and-false-left, and-false-right}
 use Rattle.model.specs.Answer.{Answer, accepted}
-use Rattle.model.specs.Card.{Atom, Schema, Task, between, has}
-use Rattle.model.specs.Writer.{each, known, checkSchemaAtom, checkList, checkSchema, checkFact, checkTask}
+use Rattle.model.specs.Card.{Atom, Schema, Task, between, inRange, has}
+use Rattle.model.specs.Writer.{each, known, checkSchemaAtom, checkList, checkSchema, checkFact}
+use Rattle.model.specs.Writer.{checkPredicates, checkSchemas, checkFacts, checkTask}
 use Rattle.model.proofs.Answers.{RefusedWithin, accepted-not-refused, need-within, both-within, need-both-within, both-inv, both-accepted}
-use Rattle.model.proofs.Answers.{need-both, need-both-inv}
+use Rattle.model.proofs.Answers.{need-inv, need-accepted, need-both, need-both-inv}
 
 -- low ≤ n ≤ high, as a test and as a fact
 pub between-parts : (low high n : ℕ) → between low high n ≡ true → (low ≤ n) × (n ≤ high)
@@ -97,17 +98,17 @@ pub record TaskParts (t : Task) : Type 0 where
   pub facts : each (checkFact (t .arities) (t .objects)) none (t .facts) ≡ accepted tt
 
 pub task-parts : (t : Task) → checkTask t ≡ accepted tt → TaskParts t
-unfolding checkTask
+unfolding checkTask checkPredicates checkSchemas checkFacts inRange
 task-parts t e =
-    need-both-inv (between 1 20 (length (t .arities))) 2 _ e λ h₁ e₁.
-    need-both-inv (all (between 1 3) (t .arities)) 2 _ e₁ λ h₂ e₂.
-    need-both-inv (between 1 64 (t .objects)) 3 _ e₂ λ h₃ e₃.
-    need-both-inv (leb (length (t .schemas)) 32) 4 _ e₃ λ h₄ e₄.
-    both-inv (each (λ previous. checkSchema (t .arities)) none (t .schemas)) _ e₄ λ h₅ e₅.
-    need-both-inv (leb (length (t .facts)) 512) 11 _ e₅ λ h₆ h₇.
+    both-inv (checkPredicates (t .arities)) _ e λ p e₁.
+    need-both-inv (between 1 20 (length (t .arities))) 2 _ p λ h₁ h₂.
+    need-both-inv (between 1 64 (t .objects)) 3 _ e₁ λ h₃ e₂.
+    both-inv (checkSchemas (t .arities) (t .schemas)) _ e₂ λ s f.
+    need-both-inv (leb (length (t .schemas)) 32) 4 _ s λ h₄ h₅.
+    need-both-inv (leb (length (t .facts)) 512) 11 _ f λ h₆ h₇.
     record {
       predicates = h₁;
-      arities = h₂;
+      arities = need-inv (inRange (t .arities)) 2 h₂;
       objects = h₃;
       few-schemas = h₄;
       schemas = h₅;
@@ -116,10 +117,10 @@ task-parts t e =
     }
 
 pub checkTask-intro : (t : Task) → TaskParts t → checkTask t ≡ accepted tt
-unfolding checkTask
+unfolding checkTask checkPredicates checkSchemas checkFacts inRange
 checkTask-intro t c =
-    need-both 2 _ (c .predicates) ∙ need-both 2 _ (c .arities) ∙ need-both 3 _ (c .objects) ∙ need-both 4 _ (c .few-schemas)
-    ∙ both-accepted _ (c .schemas) ∙ need-both 11 _ (c .few-facts) ∙ c .facts
+    both-accepted _ (need-both 2 _ (c .predicates) ∙ need-accepted 2 (c .arities)) ∙ need-both 3 _ (c .objects)
+    ∙ both-accepted _ (need-both 4 _ (c .few-schemas) ∙ c .schemas) ∙ need-both 11 _ (c .few-facts) ∙ c .facts
 
 -- the writer refuses a table by a number from 2 to 13
 each-within : {A : Type 0} (low high : ℕ) (check : Option A → A → Answer (Unit {0}))
@@ -157,8 +158,9 @@ unfolding checkFact
 checkFact-within arities objects previous f = need-both-within 2 13 _ 12 _ refl (need-within 2 13 _ 13 refl)
 
 pub checkTask-within : (t : Task) → RefusedWithin 2 13 (checkTask t)
-unfolding checkTask
+unfolding checkTask checkPredicates checkSchemas checkFacts
 checkTask-within t =
-    need-both-within 2 13 _ 2 _ refl (need-both-within 2 13 _ 2 _ refl (need-both-within 2 13 _ 3 _ refl (need-both-within 2 13 _ 4 _ refl
-    (both-within 2 13 _ _ (each-within 2 13 _ (λ previous. checkSchema-within (t .arities)) none (t .schemas))
-    (need-both-within 2 13 _ 11 _ refl (each-within 2 13 _ (checkFact-within (t .arities) (t .objects)) none (t .facts)))))))
+    both-within 2 13 _ _ (need-both-within 2 13 _ 2 _ refl (need-within 2 13 _ 2 refl))
+    (need-both-within 2 13 _ 3 _ refl
+    (both-within 2 13 _ _ (need-both-within 2 13 _ 4 _ refl (each-within 2 13 _ (λ previous. checkSchema-within (t .arities)) none (t .schemas)))
+    (need-both-within 2 13 _ 11 _ refl (each-within 2 13 _ (checkFact-within (t .arities) (t .objects)) none (t .facts)))))

@@ -13,12 +13,13 @@ use Rattle.laws.specs.Lists.{all, distinct}
 use Rattle.laws.proofs.Tests.{and-left, and-right, and-intro}
 use Rattle.laws.proofs.Lists.{all-at, mem-getD}
 use Rattle.model.specs.Answer.{Answer, accepted}
-use Rattle.model.specs.Card.{Atom, Schema, Task, has, above, between}
+use Rattle.model.specs.Card.{Atom, Schema, Task, has, above, between, inRange}
 use Rattle.model.specs.Writer.{each, known, checkSchemaAtom, checkList, checkSchema, checkFact, checkTask}
 use Rattle.model.specs.Strips.{Action, ascending}
-use Rattle.model.specs.Strips.{schemaAt, checkAction}
+use Rattle.model.specs.Strips.{schemaAt, checkObjects, checkAction}
 use Rattle.model.proofs.Valid.{Valid}
 use Rattle.model.proofs.Order.{ascending-cons}
+use Rattle.model.proofs.CheckParts.{schema-parts, task-parts}
 use Rattle.model.proofs.Answers.{need-inv, first-passed, then-passed, need-passed, need-then}
 
 -- a number between two others
@@ -56,7 +57,7 @@ each-ascending check f previous (x ∷ xs) e =
 pub record CheckedList (arities : List ℕ) (parameters : ℕ) (test : Atom → Bool) (atoms : List Atom) : Type 0 where
   pub few : length atoms ≤ 8
   pub atoms-known : all (known arities parameters) atoms ≡ true
-  pub atoms-ascend : ascending none atoms ≡ true
+  pub in-order : ascending none atoms ≡ true
   pub atoms-pass : all test atoms ≡ true
 
 pub checked-list :
@@ -69,7 +70,7 @@ checked-list arities parameters test number atoms e =
     record {
       few = leb-true (length atoms) 8 (need-passed (leb (length atoms) 8) 6 (each check none atoms) tt e);
       atoms-known = each-all check (known arities parameters) (λ previous a c. need-passed _ _ _ _ c) none atoms rest;
-      atoms-ascend = each-ascending check (λ previous a c. need-passed _ _ _ _ (need-then _ _ _ _ c)) none atoms rest;
+      in-order = each-ascending check (λ previous a c. need-passed _ _ _ _ (need-then _ _ _ _ c)) none atoms rest;
       atoms-pass = each-all check test (λ previous a c. need-inv _ _ (need-then _ _ _ _ (need-then _ _ _ _ c))) none atoms rest;
     }
 
@@ -82,16 +83,14 @@ pub record CheckedSchema (arities : List ℕ) (s : Schema) : Type 0 where
   pub adds-right : CheckedList arities (s .parameters) (λ a. not (has (s .preconditions) a)) (s .adds)
 
 pub checked-schema : (arities : List ℕ) (s : Schema) → checkSchema arities s ≡ accepted tt → CheckedSchema arities s
-unfolding checkSchema
 checked-schema arities s e =
-    let parameters = need-passed (between 1 6 (s .parameters)) 5 _ tt e in
-    let lists = need-then (between 1 6 (s .parameters)) 5 _ tt e in
+    let c = schema-parts arities s e in
     record {
-      some-parameter = between-low 1 6 (s .parameters) parameters;
-      few-parameters = between-high 1 6 (s .parameters) parameters;
-      preconditions-right = checked-list arities (s .parameters) _ 8 (s .preconditions) (first-passed _ _ _ lists);
-      deletes-right = checked-list arities (s .parameters) _ 9 (s .deletes) (first-passed _ _ _ (then-passed _ _ _ lists));
-      adds-right = checked-list arities (s .parameters) _ 10 (s .adds) (then-passed _ _ _ (then-passed _ _ _ lists));
+      some-parameter = between-low 1 6 (s .parameters) (c .parameters);
+      few-parameters = between-high 1 6 (s .parameters) (c .parameters);
+      preconditions-right = checked-list arities (s .parameters) _ 8 (s .preconditions) (c .preconditions);
+      deletes-right = checked-list arities (s .parameters) _ 9 (s .deletes) (c .deletes);
+      adds-right = checked-list arities (s .parameters) _ 10 (s .adds) (c .adds);
     }
 
 -- What the check of a task says of it.
@@ -117,39 +116,39 @@ each-passed check previous (y ∷ ys) e x m =
     (List·Memᴰ·cases-cons m)
 
 pub checked : (t : Task) → checkTask t ≡ accepted tt → Checked t
-unfolding checkTask checkFact
-checked t e₁ =
-    let e₂ = need-then _ 2 _ tt e₁ in
-    let e₃ = need-then _ 2 _ tt e₂ in
-    let e₄ = need-then _ 3 _ tt e₃ in
-    let e₅ = need-then _ 4 _ tt e₄ in
-    let e₆ = then-passed _ _ tt e₅ in
-    let e₇ = need-then _ 11 _ tt e₆ in
+unfolding checkFact
+checked t e =
+    let c = task-parts t e in
     record {
-      some-predicate = between-low 1 20 _ (need-passed _ 2 _ tt e₁);
-      few-predicates = between-high 1 20 _ (need-passed _ 2 _ tt e₁);
-      arities-right = need-passed _ 2 _ tt e₂;
-      some-object = between-low 1 64 _ (need-passed _ 3 _ tt e₃);
-      few-objects = between-high 1 64 _ (need-passed _ 3 _ tt e₃);
-      few-schemas = leb-true _ 32 (need-passed _ 4 _ tt e₄);
-      schemas-right = λ s m. checked-schema (t .arities) s
-          (each-passed (checkSchema (t .arities)) none (t .schemas) (first-passed _ _ tt e₅) s m);
-      few-facts = leb-true _ 512 (need-passed _ 11 _ tt e₆);
+      some-predicate = between-low 1 20 _ (c .predicates);
+      few-predicates = between-high 1 20 _ (c .predicates);
+      arities-right = c .arities;
+      some-object = between-low 1 64 _ (c .objects);
+      few-objects = between-high 1 64 _ (c .objects);
+      few-schemas = leb-true _ 32 (c .few-schemas);
+      schemas-right = λ s m. checked-schema (t .arities) s (each-passed (checkSchema (t .arities)) none (t .schemas) (c .schemas) s m);
+      few-facts = leb-true _ 512 (c .few-facts);
       facts-right = record {
-        facts-known = each-all (checkFact (t .arities) (t .objects)) (known (t .arities) (t .objects)) (λ previous f c. need-passed _ _ _ _ c)
-            none (t .facts) e₇;
-        in-order = each-ascending (checkFact (t .arities) (t .objects)) (λ previous f c. need-inv _ _ (need-then _ _ _ _ c)) none (t .facts) e₇;
+        facts-known = each-all (checkFact (t .arities) (t .objects)) (known (t .arities) (t .objects)) (λ previous f p. need-passed _ _ _ _ p)
+            none (t .facts) (c .facts);
+        in-order = each-ascending (checkFact (t .arities) (t .objects)) (λ previous f p. need-inv _ _ (need-then _ _ _ _ p)) none (t .facts) (c .facts);
       };
     }
 
 -- the arity of a known predicate is 1 to 3
+pub arity-within : (arities : List ℕ) (p : ℕ) → inRange arities ≡ true → p < length arities → (1 ≤ getD arities p 0) × (getD arities p 0 ≤ 3)
+unfolding inRange
+arity-within arities p right h =
+    let e = all-at (between 1 3) arities right (getD arities p 0) (mem-getD arities p 0 h) in
+    (between-low 1 3 _ e, between-high 1 3 _ e)
+
 pub arity-low : (t : Task) → Checked t → (p : ℕ) → p < length (t .arities) → 1 ≤ getD (t .arities) p 0
-arity-low t c p h =
-    between-low 1 3 _ (all-at (between 1 3) (t .arities) (c .arities-right) (getD (t .arities) p 0) (mem-getD (t .arities) p 0 h))
+unfolding inRange
+arity-low t c p h = arity-within (t .arities) p (c .arities-right) h .0
 
 pub arity-high : (t : Task) → Checked t → (p : ℕ) → p < length (t .arities) → getD (t .arities) p 0 ≤ 3
-arity-high t c p h =
-    between-high 1 3 _ (all-at (between 1 3) (t .arities) (c .arities-right) (getD (t .arities) p 0) (mem-getD (t .arities) p 0 h))
+unfolding inRange
+arity-high t c p h = arity-within (t .arities) p (c .arities-right) h .1
 
 -- the schema of a number in range is one of the task's
 pub schemaAt-right : (t : Task) → Checked t → (n : ℕ) → n < length (t .schemas) → CheckedSchema (t .arities) (schemaAt t n)
@@ -164,7 +163,7 @@ pub record CheckedAction (t : Task) (a : Action) : Type 0 where
   pub all-different : distinct (a .objects) ≡ true
 
 pub checked-action : (t : Task) (a : Action) → checkAction t a ≡ accepted tt → CheckedAction t a
-unfolding checkAction
+unfolding checkAction checkObjects
 checked-action t a e =
     let e₂ = need-then _ 16 _ tt e in
     let enough : Bool = eqb (length (a .objects)) (schemaAt t (a .schema) .parameters) in

@@ -2,7 +2,7 @@
 use Prim.Native.Nat.{ℕ, zero, suc}
 use mathlib.Core.Path.{_≡_, refl, sym, ap, _∙_, subst}
 use mathlib.Core.Bool.{Bool, true, false, _&&_}
-use mathlib.Core.List.{List, [], _∷_, _++_, flatMap, append-assoc, append-nil}
+use mathlib.Core.List.{List, [], _∷_, _++_, flatMap, append-assoc}
 use mathlib.Core.Option.{Option, none, some}
 use lib.ListN.{length}
 use Rattle.laws.specs.Lists.{all}
@@ -38,10 +38,6 @@ module _ {A : Type 0} {read : Reader A} {fits : A → Type 0} {bytes : A → Lis
   pub back-then : {B : Type 0} (x : A) (rest : List ℕ) (next : A × List ℕ → Answer B) → fits x
       → (read (bytes x ++ rest) >>= next) ≡ next (x, rest)
   back-then x rest next h = then-accepted next (codec .back x rest h)
-
-  -- nothing follows the item
-  pub back-end : (x : A) → fits x → read (bytes x) ≡ accepted (x, [])
-  back-end x h = ap read (sym (append-nil (bytes x))) ∙ codec .back x [] h
 
   -- the same items under another description
   pub refit : {fits′ : A → Type 0} {bytes′ : A → List ℕ} → ((x : A) → fits x → fits′ x) → ((x : A) → fits′ x → fits x)
@@ -104,6 +100,21 @@ module _ {A : Type 0} {read : Option A → Reader A} {check : Option A → A →
     back = λ xs rest h. rw (← (h .0)) (many-back previous xs rest (h .1));
   }
 
+  -- a count byte that passes a test, and as many items
+  pub counted-codec : (test : ℕ → Bool) (number : ℕ)
+      → Codec (λ s. byteThat test number s >>= (λ (n, s₁). many read none n s₁))
+      (λ xs. (test (length xs) ≡ true) × (each check none xs ≡ accepted tt)) (λ xs. length xs ∷ flatMap bytes xs)
+  counted-codec test number = record {
+    reads = λ s p e.
+        reads-then (byteThat-codec test number) s _ e λ n s₁ h p₁ e₁.
+        let r = many-codec none n .reads s₁ p e₁ in
+        let count = r .0 .0 in
+        ((ap test count ∙ h, r .0 .1), p₁ ∙ rw (← count) (ap (λ (l : List ℕ). length (p .0) ∷ l) (r .1)));
+    back = λ xs rest h.
+        back-then (byteThat-codec test number) (length xs) (flatMap bytes xs ++ rest) _ (h .0)
+        ∙ many-codec none (length xs) .back xs rest (refl, h .1);
+  }
+
 -- a check of one test on each item is the check that all pass it
 pub each-need : {A : Type 0} (test : A → Bool) (number : ℕ) (previous : Option A) (xs : List A)
     → each (λ previous x. need (test x) number) previous xs ≡ need (all test xs) number
@@ -115,15 +126,30 @@ each-need test number previous (x ∷ xs) = go (test x) (each-need test number (
     go true e = e
     go false e = refl
 
--- n bytes that pass a test
-pub bytes-codec : (test : ℕ → Bool) (number n : ℕ)
-    → Codec (many (λ previous. byteThat test number) none n) (λ bs. (length bs ≡ n) × (all test bs ≡ true)) (λ bs. bs)
-bytes-codec test number n =
-    refit (many-codec {check = λ previous b. need (test b) number} item none n)
-    (λ bs h. (h .0, need-inv (all test bs) number (sym (each-need test number none bs) ∙ h .1)))
-    (λ bs h. (h .0, each-need test number none bs ∙ need-accepted number (h .1)))
-    (λ bs h. flatMap-single bs)
-  where
-    item : (previous : Option ℕ) → Codec (byteThat test number) (λ b. need (test b) number ≡ accepted tt) (λ b. b ∷ [])
-    item previous =
-        refit (byteThat-codec test number) (λ b h. need-accepted number h) (λ b h. need-inv (test b) number h) (λ b h. refl)
+module _ (test : ℕ → Bool) (number : ℕ) where
+  -- a byte that passes a test, as an item of a run
+  byte-item : (previous : Option ℕ) → Codec (byteThat test number) (λ b. need (test b) number ≡ accepted tt) (λ b. b ∷ [])
+  byte-item previous =
+      refit (byteThat-codec test number) (λ b h. need-accepted number h) (λ b h. need-inv (test b) number h) (λ b h. refl)
+
+  all-from : (bs : List ℕ) → each (λ previous b. need (test b) number) none bs ≡ accepted tt → all test bs ≡ true
+  all-from bs h = need-inv (all test bs) number (sym (each-need test number none bs) ∙ h)
+
+  all-to : (bs : List ℕ) → all test bs ≡ true → each (λ previous b. need (test b) number) none bs ≡ accepted tt
+  all-to bs h = each-need test number none bs ∙ need-accepted number h
+
+  -- n bytes that pass a test
+  pub bytes-codec : (n : ℕ)
+      → Codec (many (λ previous. byteThat test number) none n) (λ bs. (length bs ≡ n) × (all test bs ≡ true)) (λ bs. bs)
+  bytes-codec n =
+      refit (many-codec {check = λ previous b. need (test b) number} byte-item none n)
+      (λ bs h. (h .0, all-from bs (h .1))) (λ bs h. (h .0, all-to bs (h .1))) (λ bs h. flatMap-single bs)
+
+  -- a count byte that passes a test of its own, and as many bytes
+  pub counted-bytes-codec : (count : ℕ → Bool) (refusal : ℕ)
+      → Codec (λ s. byteThat count refusal s >>= (λ (n, s₁). many (λ previous. byteThat test number) none n s₁))
+      (λ bs. (count (length bs) ≡ true) × (all test bs ≡ true)) (λ bs. length bs ∷ bs)
+  counted-bytes-codec count refusal =
+      refit (counted-codec {check = λ previous b. need (test b) number} byte-item count refusal)
+      (λ bs h. (h .0, all-from bs (h .1))) (λ bs h. (h .0, all-to bs (h .1)))
+      (λ bs h. ap (λ (l : List ℕ). length bs ∷ l) (flatMap-single bs))

@@ -46,7 +46,7 @@ pub record Ready (schema : Schema) (objects : List ℕ) (s : State) : Type 0 whe
 list-grounded : (arities : List ℕ) (parameters : ℕ) (test : Atom → Bool) (objects : List ℕ) (atoms : List Atom)
     → CheckedList arities parameters test atoms → length objects ≡ parameters → distinct objects ≡ true → Grounded objects atoms
 list-grounded arities parameters test objects atoms checked complete different =
-    record { bound = within; once = ground-no-repeat objects different atoms within (ascending-no-repeat none atoms (checked .atoms-ascend)) }
+    record { bound = within; once = ground-no-repeat objects different atoms within (ascending-no-repeat none atoms (checked .in-order)) }
   where
     within : (a : Atom) → List·Memᴰ a atoms → bounded objects (a .arguments) ≡ true
     within a m =

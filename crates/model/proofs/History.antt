@@ -14,8 +14,8 @@ use Rattle.model.specs.Answer.{Answer, refused, accepted, _>>=_, _>>_, n
 use Rattle.model.specs.Card.{Task, decode}
 use Rattle.model.specs.Writer.{checkTask}
 use Rattle.model.specs.Strips.{State, Action, factsIn, ascending, wellFormed, written}
-use Rattle.model.specs.Strips.{successor, schemaAt, apply}
-use Rattle.model.specs.Calls.{Call, Standing, finish, store, initial, press, counted, pressed, history, stateOf}
+use Rattle.model.specs.Strips.{successor, schemaAt, limited, progress, apply}
+use Rattle.model.specs.Calls.{Call, Standing, finish, store, initialOf, initial, pressOf, press, counted, pressed, history, stateOf}
 use Rattle.model.specs.Truth.{Allowed}
 use Rattle.model.proofs.Valid.{Valid}
 use Rattle.model.proofs.Order.{ascending-no-repeat}
@@ -31,7 +31,7 @@ pub record Applied (t : Task) (a : Action) (s next : State) : Type 0 where
   pub few-next : length next ≤ 1024
 
 pub applied : (t : Task) (a : Action) (s next : State) → apply t a s ≡ accepted next → Applied t a s next
-unfolding apply
+unfolding apply progress limited
 applied t a s next e₁ =
     let e₂ = then-passed _ _ next e₁ in
     let e₃ = need-then _ 19 _ next e₂ in
@@ -60,14 +60,14 @@ pub record Refused (buffer : List ℕ) (call : Call) : Type 0 where
 -- What an accepted press call did: the buffer was well formed, the action was applied to its state, and the next state was stored.
 pub record Pressed (t : Task) (buffer : List ℕ) (count : ℕ) (a : Action) (call : Call) : Type 0 where
   pub next : State
-  pub was-well-formed : wellFormed t buffer count ≡ true
+  pub was-well-formed : wellFormed (t .arities) (t .objects) buffer count ≡ true
   pub was-applied : Applied t a (factsIn (t .arities) count buffer) next
   pub next-counted : call .answer ≡ accepted (length next)
   pub next-stored : call .buffer ≡ written next buffer
 
 module _ (card : List ℕ) (t : Task) (decoded : decode card ≡ accepted t) where
   pub opened : (buffer : List ℕ) (n : ℕ) → initial card buffer .answer ≡ accepted n → Opened t buffer n (initial card buffer)
-  unfolding initial _>>=_
+  unfolding initial initialOf _>>=_
   opened buffer n e = rw decoded (go (leb 4096 (length buffer)) refl (rw decoded at e))
     where
       go : (b : Bool) → leb 4096 (length buffer) ≡ b
@@ -80,8 +80,8 @@ module _ (card : List ℕ) (t : Task) (decoded : decode card ≡ accepted t) whe
   pub press-cases :
       (buffer : List ℕ) (count : ℕ) (a : Action)
       → Refused buffer (press card buffer count a) ⊎ Pressed t buffer count a (press card buffer count a)
-  unfolding press _>>=_
-  press-cases buffer count a = rw decoded (go (wellFormed t buffer count) refl)
+  unfolding press pressOf _>>=_
+  press-cases buffer count a = rw decoded (go (wellFormed (t .arities) (t .objects) buffer count) refl)
     where
       s : State
       s = factsIn (t .arities) count buffer
@@ -89,7 +89,7 @@ module _ (card : List ℕ) (t : Task) (decoded : decode card ≡ accepted t) whe
       outcome : Answer State → Call
       outcome answer = finish buffer (answer >>= (λ next. accepted (store next buffer)))
 
-      apply-cases : wellFormed t buffer count ≡ true → (answer : Answer State) → apply t a s ≡ answer
+      apply-cases : wellFormed (t .arities) (t .objects) buffer count ≡ true → (answer : Answer State) → apply t a s ≡ answer
           → Refused buffer (outcome answer) ⊎ Pressed t buffer count a (outcome answer)
       apply-cases h (refused n) k = unfold finish in inl (record { number = n; answered = refl; left = refl })
       apply-cases h (accepted next) k =
@@ -102,7 +102,7 @@ module _ (card : List ℕ) (t : Task) (decoded : decode card ≡ accepted t) whe
             next-stored = refl;
           })
 
-      go : (b : Bool) → wellFormed t buffer count ≡ b
+      go : (b : Bool) → wellFormed (t .arities) (t .objects) buffer count ≡ b
           → Refused buffer (finish buffer (need b 15 >> (apply t a s >>= (λ next. accepted (store next buffer)))))
           ⊎ Pressed t buffer count a (finish buffer (need b 15 >> (apply t a s >>= (λ next. accepted (store next buffer)))))
       go true h = unfold need _>>_ in apply-cases h (apply t a s) refl
@@ -130,7 +130,7 @@ pressed-is card standing a answer buffer p q = λ i. record { buffer = q i; coun
 module _ (t : Task) (ok : checkTask t ≡ accepted tt) (card : List ℕ) (decoded : decode card ≡ accepted t) (Q : State → Type 0) where
   -- what stands after each call: a well-formed buffer, whose state meets the claim
   record Kept (standing : Standing) : Type 0 where
-    well : wellFormed t (standing .buffer) (standing .count) ≡ true
+    well : wellFormed (t .arities) (t .objects) (standing .buffer) (standing .count) ≡ true
     meets : Q (stateOf t standing)
 
   -- a state that was stored stands
@@ -163,7 +163,7 @@ module _ (t : Task) (ok : checkTask t ≡ accepted tt) (card : List ℕ) (decode
           after r =
               let valid = well-formed-valid t (standing .buffer) (standing .count) (k .well) in
               stored-kept (r .next) (standing .buffer) (pressed-valid t ok _ _ a _ r) (r .was-applied .few-next)
-              (well-formed t (standing .buffer) (standing .count) (k .well) .room)
+              (well-formed (t .arities) (t .objects) (standing .buffer) (standing .count) (k .well) .room)
               (subst Q (sym (r .was-applied .is-successor)) (kept s a valid (k .meets) (r .was-applied .was-allowed)))
 
       -- and so does a list of calls

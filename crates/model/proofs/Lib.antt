@@ -28,3 +28,7 @@ pub mod Totals
 pub mod ParameterRules
 pub mod Invariant
 pub mod ListingHolds
+pub mod TextLines
+pub mod SectionCalls
+pub mod Refusals
+pub mod TruthTells

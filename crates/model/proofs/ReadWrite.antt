@@ -14,11 +14,12 @@ use Rattle.laws.proofs.Lists.{all-at, upTo-intro}
 use Rattle.laws.proofs.Tests.{never, not-true, not-false, cond-false}
 use Rattle.model.specs.Answer.{Answer, accepted, _>>=_, _>>_, need}
 use Rattle.model.specs.Card.{Atom, Schema, Reader, above, between, has, byte, byteThat, many, atom, schemaAtom, list, roleCount, bit, schema}
-use Rattle.model.specs.Card.{fact, factCount}
+use Rattle.model.specs.Card.{schemaLists, fact, factCount, predicates, schemas, facts}
 use Rattle.model.specs.Writer.{each, known, checkSchemaAtom, checkList, checkSchema, checkFact, atomBytes, listBytes, roleBytes, bitFor, schemaBytes}
-use Rattle.model.proofs.Answers.{accepted-not-refused, one-value, need-inv, need-accepted, need-both-inv, need-both}
+use Rattle.model.proofs.Answers.{accepted-not-refused, one-value, then-inv, then-accepted, need-inv, need-accepted, need-both-inv, need-both}
 use Rattle.model.proofs.CheckParts.{known-parts, known-intro, between-parts, between-intro, schema-parts, checkSchema-intro}
-use Rattle.model.proofs.Codec.{Codec, answered, absent-codec, reads-then, back-then, refit, byteThat-codec, many-codec, bytes-codec}
+use Rattle.model.proofs.Codec.{Codec, answered, absent-codec, reads-then, back-then, refit, byteThat-codec, many-codec, counted-codec, bytes-codec}
+use Rattle.model.proofs.Codec.{counted-bytes-codec}
 
 -- an atom
 pub atom-codec : (arities : List ℕ) (bound number : ℕ)
@@ -151,23 +152,15 @@ pub list-codec : {read : Option Atom → Reader Atom} {check : Option Atom → A
 unfolding list checkList listBytes need _>>_ each
 list-codec item false =
     refit (absent-codec []) (λ atoms e. rw e (refl, refl)) (λ atoms h. no-atoms atoms (h .0)) (λ atoms e. ap listBytes (sym e))
-list-codec {check} item true = record {
-  reads = λ s p e.
-      reads-then (byteThat-codec (between 1 8) 6) s _ e λ n s₁ h p₁ e₁.
-      let r = many-codec item none n .reads s₁ p e₁ in
-      let k = between-parts 1 8 n h in
-      let bytes = atoms-stand (p .0) (omega (arith, k .0, r .0 .0)) in (
-        (ap stands bytes, need-both 6 _ (le-leb (length (p .0)) 8 (omega (arith, k .1, r .0 .0))) ∙ r .0 .1),
-        p₁ ∙ ap (λ (l : List ℕ). n ∷ l) (r .1) ∙ cc,
-      );
-  back = λ atoms rest h.
-      need-both-inv (leb (length atoms) 8) 6 _ (h .1) λ h₁ h₂.
-      let k = some-atoms atoms (h .0) in
-      rw (atoms-stand atoms k)
-      (back-then (byteThat-codec (between 1 8) 6) (length atoms) (flatMap atomBytes atoms ++ rest) _
-      (between-intro 1 8 (length atoms) k (leb-true (length atoms) 8 h₁))
-      ∙ many-codec item none (length atoms) .back atoms rest (refl, h₂));
-}
+list-codec item true =
+    refit (counted-codec item (between 1 8) 6)
+    (λ atoms h.
+    let k = between-parts 1 8 (length atoms) (h .0) in
+    (ap stands (atoms-stand atoms (k .0)), need-both 6 _ (le-leb (length atoms) 8 (k .1)) ∙ h .1))
+    (λ atoms h.
+    need-both-inv (leb (length atoms) 8) 6 _ (h .1) λ h₁ h₂.
+    (between-intro 1 8 (length atoms) (some-atoms atoms (h .0)) (leb-true (length atoms) 8 h₁), h₂))
+    (λ atoms h. sym (atoms-stand atoms (between-parts 1 8 (length atoms) (h .0) .0)))
 
 -- the map of four fields
 abbrev pub fieldMap : Bool → Bool → Bool → Bool → ℕ
@@ -221,7 +214,7 @@ schema-fields s rest = simp (bitFor-stands, append-assoc)
 
 -- a schema: its map tells which fields follow
 pub schema-codec : (arities : List ℕ) → Codec (schema arities) (λ s. checkSchema arities s ≡ accepted tt) schemaBytes
-unfolding schema schemaMap
+unfolding schema schemaLists schemaMap
 schema-codec arities = record {
   reads = λ s p e.
       reads-then mapByte s _ e λ bits s₁ h₁ p₁ e₁.
@@ -256,6 +249,19 @@ schema-codec arities = record {
         → Codec (list flag (schemaAtom arities n test number)) (Listed (checkSchemaAtom arities n test number) flag) listBytes
     listed n test number flag = list-codec (schemaAtom-codec arities n test number) flag
 
+-- the predicates, by their arities
+pub predicates-codec : Codec predicates
+    (λ arities. (between 1 20 (length arities) ≡ true) × (all (between 1 3) arities ≡ true)) (λ arities. length arities ∷ arities)
+unfolding predicates
+predicates-codec = counted-bytes-codec (between 1 3) 2 (between 1 20) 2
+
+-- the schemas
+pub schemas-codec : (arities : List ℕ)
+    → Codec (schemas arities) (λ ss. (leb (length ss) 32 ≡ true) × (each (λ previous. checkSchema arities) none ss ≡ accepted tt))
+    (λ ss. length ss ∷ flatMap schemaBytes ss)
+unfolding schemas
+schemas-codec arities = counted-codec (λ previous. schema-codec arities) (λ n. leb n 32) 4
+
 -- the fact count: what was read are two bytes of at most 512 together
 pub record Counted (s : List ℕ) (p : ℕ × List ℕ) : Type 0 where
   pub high : ℕ
@@ -277,6 +283,39 @@ factCount-reads (high ∷ low ∷ s) p e =
 pub factCount-back : (n : ℕ) (rest : List ℕ) → n ≤ 512 → factCount (n / 256 ∷ n % 256 ∷ rest) ≡ accepted (n, rest)
 unfolding factCount byte _>>=_
 factCount-back n rest h = rw (div-add-mod' n 256) (need-both 11 _ (le-leb n 512 h))
+
+-- the facts: what was read are the two bytes of their count, at most 512, and their own bytes
+pub record FactsCounted (arities : List ℕ) (objects : ℕ) (s : List ℕ) (p : List Atom × List ℕ) : Type 0 where
+  pub few : leb (length (p .0)) 512 ≡ true
+  pub facts : each (checkFact arities objects) none (p .0) ≡ accepted tt
+  pub high : ℕ
+  pub low : ℕ
+  pub value : length (p .0) ≡ high * 256 + low
+  pub in-front : s ≡ high ∷ low ∷ (flatMap atomBytes (p .0) ++ p .1)
+
+module _ (arities : List ℕ) (objects : ℕ) where
+  pub facts-reads : (s : List ℕ) (p : List Atom × List ℕ) → facts arities objects s ≡ accepted p → FactsCounted arities objects s p
+  unfolding facts
+  facts-reads s p e =
+      then-inv (factCount s) _ e λ q e₁ e₂.
+      let c = factCount-reads s q e₁ in
+      let r = many-codec (fact-codec arities objects) none (q .0) .reads (q .1) p e₂ in
+      record {
+        few = ap (λ (k : ℕ). leb k 512) (r .0 .0) ∙ le-leb (q .0) 512 (c .few);
+        facts = r .0 .1;
+        high = c .high;
+        low = c .low;
+        value = r .0 .0 ∙ c .value;
+        in-front = c .in-front ∙ ap (λ (l : List ℕ). c .high ∷ c .low ∷ l) (r .1);
+      }
+
+  -- and the bytes of facts are read back
+  pub facts-back : (fs : List Atom) (rest : List ℕ) → leb (length fs) 512 ≡ true → each (checkFact arities objects) none fs ≡ accepted tt
+      → facts arities objects (length fs / 256 ∷ length fs % 256 ∷ (flatMap atomBytes fs ++ rest)) ≡ accepted (fs, rest)
+  unfolding facts
+  facts-back fs rest few right =
+      then-accepted _ (factCount-back (length fs) (flatMap atomBytes fs ++ rest) (leb-true (length fs) 512 few))
+      ∙ many-codec (fact-codec arities objects) none (length fs) .back fs rest (refl, right)
 
 -- the two bytes of a count are those that it was read from
 pub high-byte : (high low : ℕ) → low < 256 → (high * 256 + low) / 256 ≡ high

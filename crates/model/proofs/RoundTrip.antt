@@ -14,15 +14,15 @@ use Rattle.laws.specs.Lists.{all}
 use Rattle.laws.proofs.Tests.{never, and-left, and-right, by-test}
 use Rattle.laws.proofs.Reading.{all-after}
 use Rattle.model.specs.Answer.{refused, accepted}
-use Rattle.model.specs.Card.{Task, between, factCount, isEnd, decode}
+use Rattle.model.specs.Card.{Task, between, facts, isEnd, decode}
 use Rattle.model.specs.Writer.{checkTask, atomBytes, schemaBytes, taskBytes}
 use Rattle.model.specs.Calls.{Call, outputBytes, finish, output, encode}
 use Rattle.model.proofs.Answers.{then-inv, then-accepted, both-accepted, need-both-inv, need-both, one-value, one-number, accepted-not-refused}
 use Rattle.model.proofs.Answers.{by-answer, both-refused, need-refused}
 use Rattle.model.proofs.CheckParts.{TaskParts, task-parts, checkTask-intro, checkTask-within}
 use Rattle.model.proofs.CardSize.{areBytes, card-size}
-use Rattle.model.proofs.Codec.{reads-then, back-then, back-end, byteThat-codec, many-codec, bytes-codec}
-use Rattle.model.proofs.ReadWrite.{fact-codec, schema-codec, factCount-reads, factCount-back, high-byte, low-byte}
+use Rattle.model.proofs.Codec.{reads-then, back-then, byteThat-codec}
+use Rattle.model.proofs.ReadWrite.{predicates-codec, schemas-codec, facts-reads, facts-back, high-byte, low-byte}
 
 -- a reader at the end of the card has no byte left
 nothing-left : (s : List ℕ) → isEnd s ≡ true → s ≡ []
@@ -46,29 +46,26 @@ record Decoded (card : List ℕ) (t : Task) : Type 0 where
 decoded : (card : List ℕ) (t : Task) → decode card ≡ accepted t → Decoded card t
 unfolding decode frontBytes
 decoded card t e =
-    reads-then (byteThat-codec (between 1 20) 2) card _ e λ n s₁ h₁ p₁ e₁.
-    reads-then (bytes-codec (between 1 3) 2 n) s₁ _ e₁ λ arities s₂ h₂ p₂ e₂.
-    reads-then (byteThat-codec (between 1 64) 3) s₂ _ e₂ λ objects s₃ h₃ p₃ e₃.
-    reads-then (byteThat-codec (λ m. leb m 32) 4) s₃ _ e₃ λ m s₄ h₄ p₄ e₄.
-    reads-then (many-codec (λ previous. schema-codec arities) none m) s₄ _ e₄ λ schemas s₅ h₅ p₅ e₅.
-    then-inv (factCount s₅) _ e₅ λ q e₆ e₇.
-    let c = factCount-reads s₅ q e₆ in
-    reads-then (many-codec (fact-codec arities objects) none (q .0)) (q .1) _ e₇ λ facts s₇ h₇ p₇ e₈.
-    need-both-inv (isEnd s₇) 14 _ e₈ λ h₈ e₉.
-    subst (Decoded card) (one-value e₉) (record {
+    reads-then predicates-codec card _ e λ arities s₁ h₁ p₁ e₁.
+    reads-then (byteThat-codec (between 1 64) 3) s₁ _ e₁ λ objects s₂ h₂ p₂ e₂.
+    reads-then (schemas-codec arities) s₂ _ e₂ λ schemas s₃ h₃ p₃ e₃.
+    then-inv (facts arities objects s₃) _ e₃ λ q e₄ e₅.
+    let f = facts-reads arities objects s₃ q e₄ in
+    need-both-inv (isEnd (q .1)) 14 _ e₅ λ h₅ e₆.
+    subst (Decoded card) (one-value e₆) (record {
       checks = record {
-        predicates = ap (between 1 20) (h₂ .0) ∙ h₁;
-        arities = h₂ .1;
-        objects = h₃;
-        few-schemas = ap (λ (k : ℕ). leb k 32) (h₅ .0) ∙ h₄;
-        schemas = h₅ .1;
-        few-facts = ap (λ (k : ℕ). leb k 512) (h₇ .0) ∙ le-leb (q .0) 512 (c .few);
-        facts = h₇ .1;
+        predicates = h₁ .0;
+        arities = h₁ .1;
+        objects = h₂;
+        few-schemas = h₃ .0;
+        schemas = h₃ .1;
+        few-facts = f .few;
+        facts = f .facts;
       };
-      high = c .high;
-      low = c .low;
-      value = h₇ .0 ∙ c .value;
-      bytes = rw append-assoc (cc (nothing-left s₇ h₈, append-nil (flatMap atomBytes facts), c .in-front));
+      high = f .high;
+      low = f .low;
+      value = f .value;
+      bytes = rw append-assoc (cc (nothing-left (q .1) h₅, append-nil (flatMap atomBytes (q .0)), f .in-front));
     })
 
 -- a card describes only what the writer accepts
@@ -93,18 +90,13 @@ unfolding decode taskBytes isEnd
 writes-decode t e =
     let c = task-parts t e in
     let counts : List ℕ = length (t .facts) / 256 ∷ length (t .facts) % 256 ∷ flatMap atomBytes (t .facts) in
-    let schemas = many-codec (λ previous. schema-codec (t .arities)) none (length (t .schemas)) in
-    let facts = many-codec (fact-codec (t .arities) (t .objects)) none (length (t .facts)) in
-    let few = leb-true (length (t .facts)) 512 (c .few-facts) in
+    let facts-end = ap (λ (l : List ℕ). length (t .facts) / 256 ∷ length (t .facts) % 256 ∷ l) (append-nil (flatMap atomBytes (t .facts))) in
     ap (λ (l : List ℕ). decode (length (t .arities) ∷ l))
     (append-assoc (t .arities) (t .objects ∷ length (t .schemas) ∷ flatMap schemaBytes (t .schemas)) counts)
-    ∙ back-then (byteThat-codec (between 1 20) 2) (length (t .arities)) _ _ (c .predicates)
-    ∙ back-then (bytes-codec (between 1 3) 2 (length (t .arities))) (t .arities) _ _ (refl, c .arities)
+    ∙ back-then predicates-codec (t .arities) _ _ (c .predicates, c .arities)
     ∙ back-then (byteThat-codec (between 1 64) 3) (t .objects) _ _ (c .objects)
-    ∙ back-then (byteThat-codec (λ m. leb m 32) 4) (length (t .schemas)) _ _ (c .few-schemas)
-    ∙ back-then schemas (t .schemas) counts _ (refl, c .schemas)
-    ∙ then-accepted _ (factCount-back (length (t .facts)) (flatMap atomBytes (t .facts)) few)
-    ∙ then-accepted _ (back-end facts (t .facts) (refl, c .facts))
+    ∙ back-then (schemas-codec (t .arities)) (t .schemas) counts _ (c .few-schemas, c .schemas)
+    ∙ then-accepted _ (ap (facts (t .arities) (t .objects)) (sym facts-end) ∙ facts-back (t .arities) (t .objects) (t .facts) [] (c .few-facts) (c .facts))
     ∙ need-both 14 _ refl
 
 -- what is written are bytes

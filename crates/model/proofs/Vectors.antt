@@ -1,8 +1,7 @@
--- K1 to K11 of document 01 hold of the definitions: the table of specs/Vectors.antt, entry by entry, by computation.
-use mathlib.Core.Path.{_≡_, refl, ap, _∙_, sym}
-use mathlib.Core.List.{List, [], _∷_, map, flatMap, List·Memᴰ, List·Memᴰ·cases-cons, List·Memᴰ·not-nil, head-eq-of-cons-eq, tail-eq-of-cons-eq}
+-- K1 to K11 of document 01 hold of the definitions, and the further vectors: the table of specs/Vectors.antt, entry by entry, by computation.
+use mathlib.Core.Path.{_≡_, refl, sym, ap, _∙_}
+use mathlib.Core.List.{List, [], _∷_, flatMap, List·Memᴰ, List·Memᴰ·cases-cons, List·Memᴰ·not-nil}
 use mathlib.Core.Logic.{⊎-elim}
-use Prim.Native.Nat.{ℕ}
 use Rattle.laws.specs.Lists.{lists-open}
 use Rattle.laws.specs.Bags.{bags-open}
 use Rattle.model.specs.Answer.{answer-opens}
@@ -16,22 +15,186 @@ use Rattle.model.specs.Lines.{lines-open}
 use Rattle.model.specs.Text.{text-opens}
 use Rattle.model.specs.Calls.{calls-open}
 use Rattle.model.specs.Vectors.{Entry, table, answer, vectors-open}
+use Rattle.model.specs.Vectors.{bench-card, presses-refused, presses-made, swallowed-add, mixed-space, conditions-56, wide-space}
+use Rattle.model.specs.Vectors.{no-bytes, byte-more, objects-65, objects-64, roles-1, roles-7}
+use Rattle.model.specs.Vectors.{two-starts, two-rounds, three-arguments, two-digits, empty-lists, conditions-64, condition-65}
+use Rattle.model.specs.Vectors.{section-written, section-past, short-first, card-first, zeros-after, table-written, table-short}
+use Rattle.model.specs.Vectors.{atoms-first, list-of-9}
 
--- the answers to all questions, side by side with the expected ones
-computed : map (λ e. answer (e .question)) table ≡ map (λ e. e .expected) table
+-- opens every definition, for what is proved by computation
+unfoldable pub definitions-open : Unit {0}
 unfolding
     flatMap lists-open bags-open answer-opens card-opens writer-opens strips-opens transitions-open spaces-open extension-opens
     lines-open text-opens calls-open vectors-open
-computed = refl
+definitions-open = tt
 
--- two functions that give one list have one value at each member
-at-each : (f g : Entry → List (List ℕ)) (entries : List Entry) → map f entries ≡ map g entries
-    → (e : Entry) → List·Memᴰ e entries → f e ≡ g e
-at-each f g [] p e m = absurd (List·Memᴰ·not-nil m)
-at-each f g (x ∷ xs) p e m =
-    ⊎-elim (λ q. ap f q ∙ head-eq-of-cons-eq p ∙ sym (ap g q)) (λ k. at-each f g xs (tail-eq-of-cons-eq p) e k)
+-- the definitions answer as expected
+abbrev pub Holds : Entry → Type 0
+Holds e = answer (e .question) ≡ e .expected
+
+bench-card-holds : Holds bench-card
+unfolding definitions-open
+bench-card-holds = refl
+
+presses-refused-holds : Holds presses-refused
+unfolding definitions-open
+presses-refused-holds = refl
+
+presses-made-holds : Holds presses-made
+unfolding definitions-open
+presses-made-holds = refl
+
+swallowed-add-holds : Holds swallowed-add
+unfolding definitions-open
+swallowed-add-holds = refl
+
+mixed-space-holds : Holds mixed-space
+unfolding definitions-open
+mixed-space-holds = refl
+
+conditions-56-holds : Holds conditions-56
+unfolding definitions-open
+conditions-56-holds = refl
+
+wide-space-holds : Holds wide-space
+unfolding definitions-open
+wide-space-holds = refl
+
+no-bytes-holds : Holds no-bytes
+unfolding definitions-open
+no-bytes-holds = refl
+
+byte-more-holds : Holds byte-more
+unfolding definitions-open
+byte-more-holds = refl
+
+objects-65-holds : Holds objects-65
+unfolding definitions-open
+objects-65-holds = refl
+
+objects-64-holds : Holds objects-64
+unfolding definitions-open
+objects-64-holds = refl
+
+roles-1-holds : Holds roles-1
+unfolding definitions-open
+roles-1-holds = refl
+
+roles-7-holds : Holds roles-7
+unfolding definitions-open
+roles-7-holds = refl
+
+two-starts-holds : Holds two-starts
+unfolding definitions-open
+two-starts-holds = refl
+
+two-rounds-holds : Holds two-rounds
+unfolding definitions-open
+two-rounds-holds = refl
+
+three-arguments-holds : Holds three-arguments
+unfolding definitions-open
+three-arguments-holds = refl
+
+two-digits-holds : Holds two-digits
+unfolding definitions-open
+two-digits-holds = refl
+
+empty-lists-holds : Holds empty-lists
+unfolding definitions-open
+empty-lists-holds = refl
+
+conditions-64-holds : Holds conditions-64
+unfolding definitions-open
+conditions-64-holds = refl
+
+condition-65-holds : Holds condition-65
+unfolding definitions-open
+condition-65-holds = refl
+
+section-written-holds : Holds section-written
+unfolding definitions-open
+section-written-holds = refl
+
+section-past-holds : Holds section-past
+unfolding definitions-open
+section-past-holds = refl
+
+short-first-holds : Holds short-first
+unfolding definitions-open
+short-first-holds = refl
+
+card-first-holds : Holds card-first
+unfolding definitions-open
+card-first-holds = refl
+
+zeros-after-holds : Holds zeros-after
+unfolding definitions-open
+zeros-after-holds = refl
+
+table-written-holds : Holds table-written
+unfolding definitions-open
+table-written-holds = refl
+
+table-short-holds : Holds table-short
+unfolding definitions-open
+table-short-holds = refl
+
+atoms-first-holds : Holds atoms-first
+unfolding definitions-open
+atoms-first-holds = refl
+
+list-of-9-holds : Holds list-of-9
+unfolding definitions-open
+list-of-9-holds = refl
+
+-- each entry of a list holds
+infixr 5 _and_
+data AllHold : List Entry → Type 0 where
+  none : AllHold []
+  _and_ : {e : Entry} {entries : List Entry} → Holds e → AllHold entries → AllHold (e ∷ entries)
+
+at-each : {entries : List Entry} → AllHold entries → (e : Entry) → List·Memᴰ e entries → Holds e
+at-each none e m = absurd (List·Memᴰ·not-nil m)
+at-each (first and later) e m =
+    ⊎-elim (λ same. ap (λ (e : Entry). answer (e .question)) same ∙ first ∙ sym (ap (λ (e : Entry). e .expected) same))
+    (λ k. at-each later e k)
     (List·Memᴰ·cases-cons m)
 
+every-entry : AllHold table
+unfolding table
+every-entry =
+    bench-card-holds
+    and presses-refused-holds
+    and presses-made-holds
+    and swallowed-add-holds
+    and mixed-space-holds
+    and conditions-56-holds
+    and wide-space-holds
+    and no-bytes-holds
+    and byte-more-holds
+    and objects-65-holds
+    and objects-64-holds
+    and roles-1-holds
+    and roles-7-holds
+    and two-starts-holds
+    and two-rounds-holds
+    and three-arguments-holds
+    and two-digits-holds
+    and empty-lists-holds
+    and conditions-64-holds
+    and condition-65-holds
+    and section-written-holds
+    and section-past-holds
+    and short-first-holds
+    and card-first-holds
+    and zeros-after-holds
+    and table-written-holds
+    and table-short-holds
+    and atoms-first-holds
+    and list-of-9-holds
+    and none
+
 -- every entry of the table holds
-pub vectors-hold : (e : Entry) → List·Memᴰ e table → answer (e .question) ≡ e .expected
-vectors-hold e m = at-each (λ e. answer (e .question)) (λ e. e .expected) table computed e m
+pub vectors-hold : (e : Entry) → List·Memᴰ e table → Holds e
+vectors-hold e m = at-each every-entry e m

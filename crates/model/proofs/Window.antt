@@ -13,7 +13,7 @@ use Rattle.laws.specs.Lists.{all}
 use Rattle.laws.proofs.Tests.{and-left, and-right, and-intro}
 use Rattle.model.specs.Answer.{Answer, refused, accepted, _>>=_, _>>_, need}
 use Rattle.model.specs.Card.{Atom, Task, Reader, has, above, between, byte, byteThat, many, atom, schemaAtom, list, roleCount, bit, schema}
-use Rattle.model.specs.Card.{fact, factCount, isEnd, decode}
+use Rattle.model.specs.Card.{schemaLists, fact, factCount, predicates, schemas, facts, isEnd, decode}
 use Rattle.model.proofs.Checked.{between-high}
 
 -- The answers of a reader on some bytes and on the first of them: one refusal, or one value, which passes a test, with at least k of the bytes
@@ -146,7 +146,7 @@ module _ (arities : List ℕ) (right : all (between 1 3) arities ≡ true) where
 
   -- a schema: its map, its role count and three lists
   reads-schema : Reads 101 (λ s. true) (schema arities)
-  unfolding schema
+  unfolding schema schemaLists
   reads-schema =
       reads-bind 1 100 101 (omega arith) (λ b. ltb b 16) _ (byteThat (λ b. ltb b 16) 5) _ (reads-byteThat (λ b. ltb b 16) 5)
       (λ bits h. reads-bind 1 99 100 (omega arith) (λ n. true) _ (roleCount (bit 0 bits)) _ (reads-roleCount (bit 0 bits))
@@ -166,6 +166,31 @@ reads-factCount =
     reads-bind 1 1 2 (omega arith) (λ b. true) _ byte _ reads-byte
     (λ high h. reads-bind 1 0 1 (omega arith) (λ b. true) _ byte _ reads-byte
     (λ low h. reads-need 0 _ (leb (high * 256 + low) 512) 11 _ (λ e. reads-none (λ n. leb n 512) (high * 256 + low) e)))
+
+-- the predicates: their count and at most 20 arities
+reads-predicates : Reads 21 (all (between 1 3)) predicates
+unfolding predicates
+reads-predicates =
+    reads-bind 1 20 21 (omega arith) (between 1 20) _ (byteThat (between 1 20) 2) _ (reads-byteThat (between 1 20) 2)
+    (λ n h. reads-more (n * 1) 20 _ _ (let few = between-high 1 20 n h in omega arith)
+    (reads-many 1 (between 1 3) _ (λ previous. reads-byteThat (between 1 3) 2) n none))
+
+module _ (arities : List ℕ) (right : all (between 1 3) arities ≡ true) where
+  -- the schemas: their count and at most 32 of them
+  reads-schemas : Reads 3233 (all (λ s. true)) (schemas arities)
+  unfolding schemas
+  reads-schemas =
+      reads-bind 1 3232 3233 (omega arith) (λ n. leb n 32) _ (byteThat (λ n. leb n 32) 4) _ (reads-byteThat (λ n. leb n 32) 4)
+      (λ n h. reads-more (n * 101) 3232 _ _ (let few = leb-true n 32 h in omega arith)
+      (reads-many 101 (λ s. true) _ (λ previous. reads-schema arities right) n none))
+
+  -- the facts: their count and at most 512 of them
+  reads-facts : (objects : ℕ) → Reads 2050 (all (λ f. true)) (facts arities objects)
+  unfolding facts
+  reads-facts objects =
+      reads-bind 2 2048 2050 (omega arith) (λ n. leb n 512) _ factCount _ reads-factCount
+      (λ n h. reads-more (n * 4) 2048 _ _ (let few = leb-true n 512 h in omega arith)
+      (reads-many 4 (λ f. true) _ (reads-fact arities right objects) n none))
 
 -- what follows a reader is asked of one value, and of the rest or the first bytes of it
 alike-end :
@@ -187,19 +212,10 @@ pub decode-window : (card : List ℕ) → decode (take 5306 card) ≡ decode car
 unfolding decode
 decode-window card =
     sym
-    (alike-end (reads-byteThat (between 1 20) 2 5305 5306 card (omega arith)) _
-    (λ predicates s₁ j₁ few h₁. alike-end
-    (reads-many 1 (between 1 3) _ (λ previous. reads-byteThat (between 1 3) 2) predicates none 5285 j₁ s₁
-    (let most = between-high 1 20 predicates few in omega arith)) _
-    (λ arities s₂ j₂ right h₂. alike-end (reads-byteThat (between 1 64) 3 5284 j₂ s₂ (omega arith)) _
-    (λ objects s₃ j₃ known h₃. alike-end (reads-byteThat (λ n. leb n 32) 4 5283 j₃ s₃ (omega arith)) _
-    (λ schemaCount s₄ j₄ few h₄. alike-end
-    (reads-many 101 (λ s. true) _ (λ previous. reads-schema arities right) schemaCount none 2051 j₄ s₄
-    (let most = leb-true schemaCount 32 few in omega arith)) _
-    (λ schemas s₅ j₅ done h₅. alike-end (reads-factCount 2049 j₅ s₅ (omega arith)) _
-    (λ facts s₆ j₆ few h₆. alike-end
-    (reads-many 4 (λ f. true) _ (reads-fact arities right objects) facts none 1 j₆ s₆
-    (let most = leb-true facts 512 few in omega arith)) _
-    (λ facts s₇ j₇ done h₇.
+    (alike-end (reads-predicates 5285 5306 card (omega arith)) _
+    (λ arities s₁ j₁ right h₁. alike-end (reads-byteThat (between 1 64) 3 5284 j₁ s₁ (omega arith)) _
+    (λ objects s₂ j₂ known h₂. alike-end (reads-schemas arities right 2051 j₂ s₂ (omega arith)) _
+    (λ schemas s₃ j₃ done h₃. alike-end (reads-facts arities right objects 1 j₃ s₃ (omega arith)) _
+    (λ facts s₄ j₄ done h₄.
     let task : Task = record { arities = arities; objects = objects; schemas = schemas; facts = facts } in
-    ap (λ (b : Bool). need b 14 >> accepted task) (isEnd-take s₇ j₇ h₇)))))))))
+    ap (λ (b : Bool). need b 14 >> accepted task) (isEnd-take s₄ j₄ h₄))))))

@@ -39,22 +39,32 @@ encode t out =
 unfoldable pub store : State → List ℕ → Call
 store state buffer = record { answer = accepted (length state); buffer = written state buffer }
 
+-- the opening call on a task: a short buffer by 15
+unfoldable pub initialOf : Task → List ℕ → Answer Call
+initialOf t buffer = do
+  need (leb stateBytes (length buffer)) 15
+  accepted (store (t .facts) buffer)
+
 -- the opening call: 1 to 14, and a short buffer by 15
 unfoldable pub initial : List ℕ → List ℕ → Call
 initial card buffer =
     finish buffer (do
       t ← decode card
-      need (leb stateBytes (length buffer)) 15
-      accepted (store (t .facts) buffer))
+      initialOf t buffer)
+
+-- the press call on a task: the state first (15), then 16 to 20
+unfoldable pub pressOf : Task → List ℕ → ℕ → Action → Answer Call
+pressOf t buffer count action = do
+  need (wellFormed (t .arities) (t .objects) buffer count) 15
+  next ← apply t action (factsIn (t .arities) count buffer)
+  accepted (store next buffer)
 
 -- the press call: 1 to 20
 unfoldable pub press : List ℕ → List ℕ → ℕ → Action → Call
 press card buffer count action =
     finish buffer (do
       t ← decode card
-      need (wellFormed t buffer count) 15
-      next ← apply t action (factsIn (t .arities) count buffer)
-      accepted (store next buffer))
+      pressOf t buffer count action)
 
 -- the listing call: 1 to 14, 21, 22
 unfoldable pub section : List ℕ → ℕ → List ℕ → Call
@@ -99,5 +109,5 @@ stateOf t standing = factsIn (t .arities) (standing .count) (standing .buffer)
 
 -- opens every definition of this module, for what is proved by computation
 unfoldable pub calls-open : Unit {0}
-unfolding finish output encode store initial press section printed program counted pressed history stateOf
+unfolding finish output encode store initialOf initial pressOf press section printed program counted pressed history stateOf
 calls-open = tt

@@ -5,7 +5,7 @@ use mathlib.Core.List.{List, [], _∷_}
 use mathlib.Core.Option.{Option, none, some}
 use lib.Dec.{leb, ltb, eqb}
 use lib.ListN.{length, getD}
-use Rattle.laws.specs.Lists.{any, same, before}
+use Rattle.laws.specs.Lists.{any, all, same, before}
 use Rattle.model.specs.Answer.{Answer, refused, accepted, _>>=_, _>>_, need}
 
 -- A predicate with its arguments: parameters (document 01: roles) in a schema, objects in a fact.
@@ -47,6 +47,10 @@ above (some b) a = below b a
 -- low ≤ n ≤ high
 unfoldable pub between : ℕ → ℕ → ℕ → Bool
 between low high n = leb low n && leb n high
+
+-- every arity is 1 to 3
+unfoldable pub inRange : List ℕ → Bool
+inRange arities = all (between 1 3) arities
 
 -- A reader takes the bytes still to be read; it answers a value with the bytes after it, or a refusal.
 abbrev pub Reader : Type 0 → Type 0
@@ -103,16 +107,21 @@ roleCount true s = byteThat (between 2 6) 5 s
 unfoldable pub bit : ℕ → ℕ → Bool
 bit i b = eqb (b / 2 ^ i % 2) 1
 
--- a bit map whose bits 4 to 7 are 0 (5), then only the fields whose bit stands, in bit order.
+-- the three lists of a schema, each where its bit stands.
 -- 9: a deleted atom is no precondition. 10: an added atom is a precondition
+unfoldable pub schemaLists : List ℕ → ℕ → ℕ → Reader Schema
+schemaLists arities bits parameters s = do
+  (preconditions, s₁) ← list (bit 1 bits) (schemaAtom arities parameters (λ a. true) 8) s
+  (deletes, s₂) ← list (bit 2 bits) (schemaAtom arities parameters (has preconditions) 9) s₁
+  (adds, s₃) ← list (bit 3 bits) (schemaAtom arities parameters (λ a. not (has preconditions a)) 10) s₂
+  accepted (record { parameters = parameters; preconditions = preconditions; deletes = deletes; adds = adds }, s₃)
+
+-- a bit map whose bits 4 to 7 are 0 (5), then only the fields whose bit stands, in bit order
 unfoldable pub schema : List ℕ → Reader Schema
 schema arities s = do
   (bits, s₁) ← byteThat (λ b. ltb b 16) 5 s
   (parameters, s₂) ← roleCount (bit 0 bits) s₁
-  (preconditions, s₃) ← list (bit 1 bits) (schemaAtom arities parameters (λ a. true) 8) s₂
-  (deletes, s₄) ← list (bit 2 bits) (schemaAtom arities parameters (has preconditions) 9) s₃
-  (adds, s₅) ← list (bit 3 bits) (schemaAtom arities parameters (λ a. not (has preconditions a)) 10) s₄
-  accepted (record { parameters = parameters; preconditions = preconditions; deletes = deletes; adds = adds }, s₅)
+  schemaLists arities bits parameters s₂
 
 -- a fact: 12 at each byte, 13 at the whole fact
 unfoldable pub fact : List ℕ → ℕ → Option Atom → Reader Atom
@@ -129,25 +138,41 @@ factCount s = do
   need (leb (high * 256 + low) 512) 11
   accepted (high * 256 + low, s₂)
 
+-- the predicates: their count, 1 to 20, then one arity byte each, 1 to 3 (2)
+unfoldable pub predicates : Reader (List ℕ)
+predicates s = do
+  (count, s₁) ← byteThat (between 1 20) 2 s
+  many (λ previous. byteThat (between 1 3) 2) none count s₁
+
+-- the schemas: their count, 0 to 32 (4), then each of them
+unfoldable pub schemas : List ℕ → Reader (List Schema)
+schemas arities s = do
+  (count, s₁) ← byteThat (λ n. leb n 32) 4 s
+  many (λ previous. schema arities) none count s₁
+
+-- the facts: their count, then each of them
+unfoldable pub facts : List ℕ → ℕ → Reader (List Atom)
+facts arities objects s = do
+  (count, s₁) ← factCount s
+  many (fact arities objects) none count s₁
+
 unfoldable pub isEnd : List ℕ → Bool
 isEnd [] = true
 isEnd (b ∷ rest) = false
 
--- the task that a run of bytes describes, or the refusal that reading meets first
+-- the task that a run of bytes describes, or the refusal that reading meets first: predicates, objects (3), schemas, facts, and no byte more (14)
 unfoldable pub decode : List ℕ → Answer Task
 decode card = do
-  (predicates, s₁) ← byteThat (between 1 20) 2 card
-  (arities, s₂) ← many (λ previous. byteThat (between 1 3) 2) none predicates s₁
-  (objects, s₃) ← byteThat (between 1 64) 3 s₂
-  (schemaCount, s₄) ← byteThat (λ n. leb n 32) 4 s₃
-  (schemas, s₅) ← many (λ previous. schema arities) none schemaCount s₄
-  (facts, s₆) ← factCount s₅
-  (facts, s₇) ← many (fact arities objects) none facts s₆
-  need (isEnd s₇) 14
+  (arities, s₁) ← predicates card
+  (objects, s₂) ← byteThat (between 1 64) 3 s₁
+  (schemas, s₃) ← schemas arities s₂
+  (facts, s₄) ← facts arities objects s₃
+  need (isEnd s₄) 14
   accepted (record { arities = arities; objects = objects; schemas = schemas; facts = facts })
 
 -- opens every definition of this module, for what is proved by computation
 unfoldable pub card-opens : Unit {0}
 unfolding
-    below sameAtom has above between byte byteThat many atom schemaAtom list roleCount bit schema fact factCount isEnd decode
+    below sameAtom has above between inRange byte byteThat many atom schemaAtom list roleCount bit schemaLists schema fact factCount predicates schemas
+    facts isEnd decode
 card-opens = tt

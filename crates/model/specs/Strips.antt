@@ -38,25 +38,24 @@ factsIn arities zero buffer = []
 factsIn arities (suc n) buffer = factAt arities (take 4 buffer) ∷ factsIn arities n (drop 4 buffer)
 
 -- four bytes are right: known predicate and objects, and filler after them
-unfoldable pub rowRight : Task → List ℕ → Bool
-rowRight t row =
-    known (t .arities) (t .objects) (factAt (t .arities) row)
-    && all (eqb filler) (drop (suc (getD (t .arities) (getD row 0 0) 0)) row)
+unfoldable pub rowRight : List ℕ → ℕ → List ℕ → Bool
+rowRight arities objects row =
+    known arities objects (factAt arities row) && all (eqb filler) (drop (suc (getD arities (getD row 0 0) 0)) row)
 
-unfoldable pub rowsRight : Task → ℕ → List ℕ → Bool
-rowsRight t zero buffer = true
-rowsRight t (suc n) buffer = rowRight t (take 4 buffer) && rowsRight t n (drop 4 buffer)
+unfoldable pub rowsRight : List ℕ → ℕ → ℕ → List ℕ → Bool
+rowsRight arities objects zero buffer = true
+rowsRight arities objects (suc n) buffer = rowRight arities objects (take 4 buffer) && rowsRight arities objects n (drop 4 buffer)
 
 -- each fact stands above the one before
 unfoldable pub ascending : Option Atom → State → Bool
 ascending previous [] = true
 ascending previous (f ∷ fs) = above previous f && ascending (some f) fs
 
--- 15: the buffer and the count hold a state of the task
-unfoldable pub wellFormed : Task → List ℕ → ℕ → Bool
-wellFormed t buffer count =
-    leb stateBytes (length buffer) && leb count mostFacts && rowsRight t count buffer
-    && ascending none (factsIn (t .arities) count buffer)
+-- 15: the buffer and the count hold a state of a task with these arities and this number of objects
+unfoldable pub wellFormed : List ℕ → ℕ → List ℕ → ℕ → Bool
+wellFormed arities objects buffer count =
+    leb stateBytes (length buffer) && leb count mostFacts && rowsRight arities objects count buffer
+    && ascending none (factsIn arities count buffer)
 
 -- a buffer with a state written to it: the facts, then 0 up to byte 4,096; the bytes beyond are unchanged
 unfoldable pub written : State → List ℕ → List ℕ
@@ -97,28 +96,39 @@ successor schema objects state =
 unfoldable pub schemaAt : Task → ℕ → Schema
 schemaAt t n = getD (t .schemas) n (record { parameters = 0; preconditions = []; deletes = []; adds = [] })
 
--- 16 to 18: the action names a schema of the task and one known object for each parameter, all different
+-- 17 and 18: an object for each parameter, each of them known, all different
+unfoldable pub checkObjects : ℕ → Schema → List ℕ → Answer (Unit {0})
+checkObjects known schema objects = do
+  need (eqb (length objects) (schema .parameters) && all (λ o. ltb o known) objects) 17
+  need (distinct objects) 18
+
+-- 16 to 18: the action names a schema of the task, and its objects are right
 unfoldable pub checkAction : Task → Action → Answer (Unit {0})
 checkAction t action = do
   need (ltb (action .schema) (length (t .schemas))) 16
-  need
-      (eqb (length (action .objects)) (schemaAt t (action .schema) .parameters)
-      && all (λ o. ltb o (t .objects)) (action .objects))
-      17
-  need (distinct (action .objects)) 18
+  checkObjects (t .objects) (schemaAt t (action .schema)) (action .objects)
 
--- an action on a state: 16 to 20, or the next state
+-- 20: a state has at most 1,024 facts
+unfoldable pub limited : State → Answer State
+limited state = do
+  need (leb (length state) mostFacts) 20
+  accepted state
+
+-- a schema with these objects on a state: 19, then the next state, or 20
+unfoldable pub progress : Schema → List ℕ → State → Answer State
+progress schema objects state = do
+  need (applicable schema objects state) 19
+  limited (successor schema objects state)
+
+-- an action on a state: 16 to 18, then 19 and 20, or the next state
 unfoldable pub apply : Task → Action → State → Answer State
 apply t action state = do
   checkAction t action
-  need (applicable (schemaAt t (action .schema)) (action .objects) state) 19
-  let next = successor (schemaAt t (action .schema)) (action .objects) state in do
-    need (leb (length next) mostFacts) 20
-    accepted next
+  progress (schemaAt t (action .schema)) (action .objects) state
 
 -- opens every definition of this module, for what is proved by computation
 unfoldable pub strips-opens : Unit {0}
 unfolding
     factBytes factAt factsIn rowRight rowsRight ascending wellFormed written ground applicable put takenOut putIn successor
-    schemaAt checkAction apply
+    schemaAt checkObjects checkAction limited progress apply
 strips-opens = tt

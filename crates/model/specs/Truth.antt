@@ -53,43 +53,70 @@ pub record Allowed (t : Task) (s : State) (a : Action) : Type 0 where
   pub named : checkAction t a ≡ accepted tt
   pub holds : applicable (schemaAt t (a .schema)) (a .objects) s ≡ true
 
+-- Each clause of demand 3, of a task t and a state s.
+
+-- each member of a space listed as P has a condition that the listing gives for that space
+abbrev pub StatesListed : Task → State → Type 0
+StatesListed t s =
+    (lines : List Line) (n : ℕ) (properties members : List ℕ) (o : ℕ) → lines isSectionOf t
+    → space n property properties members isOn lines → member o members ≡ true
+    → state (condition t properties s o) isOn lines
+
+-- an object outside a space, of whatever kind, has none of that space's properties
+abbrev pub NoneOutside : Task → State → Type 0
+NoneOutside t s =
+    (lines : List Line) (n : ℕ) (kind : Kind) (properties members : List ℕ) (o c : ℕ) → lines isSectionOf t
+    → space n kind properties members isOn lines → member o members ≡ false → member c properties ≡ true
+    → countIn t s o c ≡ 0
+
+-- no object's count for an M property is above its most
+abbrev pub LimitsTrue : Task → State → Type 0
+LimitsTrue t s = (lines : List Line) (c most o : ℕ) → lines isSectionOf t → limit c most isOn lines → countIn t s o c ≤ most
+
+-- the condition of each member of a P space contains one of that space's D conditions
+abbrev pub MembershipsTrue : Task → State → Type 0
+MembershipsTrue t s =
+    (lines : List Line) (n : ℕ) (properties members : List ℕ) (o : ℕ) → lines isSectionOf t
+    → space n property properties members isOn lines → member o members ≡ true
+    → (i : ℕ) × (membership i isOn lines) × (contains (condition t properties s o) (getD (statesOf lines) i []) ≡ true)
+
+-- no member's condition contains both of an X
+abbrev pub ExclusionsTrue : Task → State → Type 0
+ExclusionsTrue t s =
+    (lines : List Line) (n : ℕ) (kind : Kind) (properties members : List ℕ) (o i j : ℕ) → lines isSectionOf t
+    → space n kind properties members isOn lines → member o members ≡ true → exclusion i j isOn lines
+    → (contains (condition t properties s o) (getD (statesOf lines) i [])
+    && contains (condition t properties s o) (getD (statesOf lines) j []))
+    ≡ false
+
+-- an F total is the predicate's number of facts
+abbrev pub TotalsTrue : Task → State → Type 0
+TotalsTrue t s = (lines : List Line) (p n : ℕ) → lines isSectionOf t → total p n isOn lines → ofPredicate p s ≡ n
+
+-- a C number is at least that
+abbrev pub CeilingsTrue : Task → State → Type 0
+CeilingsTrue t s = (lines : List Line) (p n : ℕ) → lines isSectionOf t → ceiling p n isOn lines → ofPredicate p s ≤ n
+
+-- an allowed action has in each role an object on that role's R line
+abbrev pub TypesTrue : Task → State → Type 0
+TypesTrue t s =
+    (lines : List Line) (n k : ℕ) (objects : List ℕ) (a : Action) → lines isSectionOf t → types n k objects isOn lines
+    → Allowed t s a → a .schema ≡ n → member (getD (a .objects) k 0) objects ≡ true
+
+-- and each role has an R line
+abbrev pub TypesListed : Task → State → Type 0
+TypesListed t s =
+    (a : Action) (k : ℕ) → Allowed t s a → k < length (a .objects)
+    → (lines : List Line) × (objects : List ℕ) × (lines isSectionOf t) × (types (a .schema) k objects isOn lines)
+
+-- all of them
 pub record Holds (t : Task) (s : State) : Type 0 where
-  -- each member of a space listed as P has a condition that the listing gives for that space
-  pub state-listed :
-      (lines : List Line) (n : ℕ) (properties members : List ℕ) (o : ℕ) → lines isSectionOf t
-      → space n property properties members isOn lines → member o members ≡ true
-      → state (condition t properties s o) isOn lines
-  -- an object outside a space, of whatever kind, has none of that space's properties
-  pub outside :
-      (lines : List Line) (n : ℕ) (kind : Kind) (properties members : List ℕ) (o c : ℕ) → lines isSectionOf t
-      → space n kind properties members isOn lines → member o members ≡ false → member c properties ≡ true
-      → countIn t s o c ≡ 0
-  -- no object's count for an M property is above its most
-  pub limit-true :
-      (lines : List Line) (c most o : ℕ) → lines isSectionOf t → limit c most isOn lines → countIn t s o c ≤ most
-  -- the condition of each member of a P space contains one of that space's D conditions
-  pub membership-true :
-      (lines : List Line) (n : ℕ) (properties members : List ℕ) (o : ℕ) → lines isSectionOf t
-      → space n property properties members isOn lines → member o members ≡ true
-      → (i : ℕ) × (membership i isOn lines)
-      × (contains (condition t properties s o) (getD (statesOf lines) i []) ≡ true)
-  -- no member's condition contains both of an X
-  pub exclusion-true :
-      (lines : List Line) (n : ℕ) (kind : Kind) (properties members : List ℕ) (o i j : ℕ) → lines isSectionOf t
-      → space n kind properties members isOn lines → member o members ≡ true → exclusion i j isOn lines
-      → (contains (condition t properties s o) (getD (statesOf lines) i [])
-      && contains (condition t properties s o) (getD (statesOf lines) j []))
-      ≡ false
-  -- an F total is the predicate's number of facts
-  pub total-true : (lines : List Line) (p n : ℕ) → lines isSectionOf t → total p n isOn lines → ofPredicate p s ≡ n
-  -- a C number is at least that
-  pub ceiling-true :
-      (lines : List Line) (p n : ℕ) → lines isSectionOf t → ceiling p n isOn lines → ofPredicate p s ≤ n
-  -- an allowed action has in each role an object on that role's R line
-  pub types-true :
-      (lines : List Line) (n k : ℕ) (objects : List ℕ) (a : Action) → lines isSectionOf t → types n k objects isOn lines
-      → Allowed t s a → a .schema ≡ n → member (getD (a .objects) k 0) objects ≡ true
-  -- and each role has an R line
-  pub types-listed :
-      (a : Action) (k : ℕ) → Allowed t s a → k < length (a .objects)
-      → (lines : List Line) × (objects : List ℕ) × (lines isSectionOf t) × (types (a .schema) k objects isOn lines)
+  pub state-listed : StatesListed t s
+  pub outside : NoneOutside t s
+  pub limit-true : LimitsTrue t s
+  pub membership-true : MembershipsTrue t s
+  pub exclusion-true : ExclusionsTrue t s
+  pub total-true : TotalsTrue t s
+  pub ceiling-true : CeilingsTrue t s
+  pub types-true : TypesTrue t s
+  pub types-listed : TypesListed t s

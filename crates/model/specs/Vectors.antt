@@ -1,17 +1,18 @@
--- Document 01, "The bench card": K1 to K11 as questions with their answers. That every entry holds is `vectors-hold` of proofs/Vectors.antt.
-use Prim.Native.Nat.{ℕ, zero, suc}
+-- Document 01, "The bench card": K1 to K11 as questions with their answers, and further ones where K1 to K11 leave a trap open. That every
+-- entry holds is `vectors-hold` of proofs/Vectors.antt, where each entry has a theorem of its own besides.
+use Prim.Native.Nat.{ℕ, zero, suc, _+_, _*_}
 use Prim.Native.Char.{code}
 use Prim.Native.String as text
 use Prim.Native.String.{String}
 use mathlib.Core.List.{List, [], _∷_, _++_, map, flatMap}
-use lib.ListN.{length, replicate, set}
-use Rattle.laws.specs.Lists.{upTo}
+use lib.ListN.{length, take, drop, replicate, set}
+use Rattle.laws.specs.Lists.{from, upTo}
 use Rattle.model.specs.Answer.{Answer, refused, accepted}
-use Rattle.model.specs.Card.{Task, decode}
+use Rattle.model.specs.Card.{Atom, Schema, Task, decode}
 use Rattle.model.specs.Strips.{Action, stateBytes, factBytes}
 use Rattle.model.specs.Lines.{Analysis, analysis}
 use Rattle.model.specs.Text.{kindLetter}
-use Rattle.model.specs.Calls.{Standing, initial, press, pressed, program, stateOf, counted}
+use Rattle.model.specs.Calls.{Call, Standing, encode, initial, press, pressed, section, program, history, stateOf, counted}
 
 -- the bytes of a text in ASCII
 unfoldable pub ascii : String → List ℕ
@@ -22,30 +23,46 @@ ascii (text._∷_ c rest) = code c ∷ ascii rest
 unfoldable pub lines : List String → List ℕ
 lines texts = flatMap (λ line. ascii line ++ (10 ∷ [])) texts
 
--- A question about the definitions.
+-- A question about the definitions. A buffer that is lent to a call has 7 in every byte.
 pub data Question : Type 0 where
   prints : List ℕ → Question  -- what the program prints on a card
   plays : List ℕ → List Action → Question  -- the answers of presses from the initial state, and the facts that then stand
+  clears : List ℕ → List Action → Question  -- four bytes past the last fact after such presses, and those around byte 4,096
   extends : List ℕ → ℕ → Question  -- a space's kind letter and the number of its conditions
   reads : List ℕ → Question  -- whether a card is accepted
+  lists : List ℕ → ℕ → ℕ → Question  -- the listing call: a card, a section's number, the size of the buffer lent
+  writes : Task → ℕ → Question  -- the card writer: a table, the size of the buffer lent
 
 -- 1 and a value, or 0 and the number of a refusal
 unfoldable pub said : Answer ℕ → List ℕ
 said (accepted value) = 1 ∷ value ∷ []
 said (refused number) = 0 ∷ number ∷ []
 
+-- what a call on a buffer answers, and the first bytes of the buffer: those written and two more, or four after a refusal
+unfoldable pub shown : Answer ℕ → List ℕ → List ℕ
+shown (accepted length) buffer = take (length + 2) buffer
+shown (refused number) buffer = take 4 buffer
+
+unfoldable pub told : Call → List (List ℕ)
+told call = said (call .answer) ∷ shown (call .answer) (call .buffer) ∷ []
+
 unfoldable pub playing : List ℕ → Task → List Action → Standing → List (List ℕ)
 playing card t [] standing = map factBytes (stateOf t standing)
 playing card t (a ∷ actions) standing =
     said (press card (standing .buffer) (standing .count) a .answer) ∷ playing card t actions (pressed card standing a)
 
--- the state's buffer before the opening call writes it
-unfoldable pub fresh : List ℕ
-fresh = replicate stateBytes 7
+-- a buffer of this size before a call writes it
+unfoldable pub fresh : ℕ → List ℕ
+fresh size = replicate size 7
 
+-- the opening call, on a buffer with four bytes more than are asked for
 unfoldable pub opened : List ℕ → Standing
 opened card =
-    let call = initial card fresh in record { buffer = call .buffer; count = counted 0 (call .answer) }
+    let call = initial card (fresh (stateBytes + 4)) in
+    record { buffer = call .buffer; count = counted 0 (call .answer) }
+
+unfoldable pub cleared : Standing → List (List ℕ)
+cleared standing = take 4 (drop (4 * (standing .count)) (standing .buffer)) ∷ drop 4092 (standing .buffer) ∷ []
 
 unfoldable pub extension : List Analysis → ℕ → List ℕ
 extension [] n = []
@@ -56,16 +73,22 @@ unfoldable pub reply : Question → Answer Task → List (List ℕ)
 reply (prints card) answer = program card ∷ []
 reply (plays card actions) (accepted t) = playing card t actions (opened card)
 reply (plays card actions) (refused n) = (0 ∷ n ∷ []) ∷ []
+reply (clears card actions) answer = cleared (history card actions (opened card))
 reply (extends card n) (accepted t) = extension (analysis t) n ∷ []
 reply (extends card n) (refused number) = (0 ∷ number ∷ []) ∷ []
 reply (reads card) (accepted t) = (1 ∷ []) ∷ []
 reply (reads card) (refused number) = (0 ∷ number ∷ []) ∷ []
+reply (lists card number size) answer = told (section card number (fresh size))
+reply (writes t size) answer = told (encode t (fresh size))
 
 unfoldable pub cardOf : Question → List ℕ
 cardOf (prints card) = card
 cardOf (plays card actions) = card
+cardOf (clears card actions) = card
 cardOf (extends card n) = card
 cardOf (reads card) = card
+cardOf (lists card number size) = card
+cardOf (writes t size) = []
 
 -- what the definitions answer
 unfoldable pub answer : Question → List (List ℕ)
@@ -89,23 +112,64 @@ k5 =
     3 ∷ 1 ∷ 1 ∷ 1 ∷ 1 ∷ 2 ∷ 0x0E ∷ 1 ∷ 1 ∷ 0 ∷ 1 ∷ 1 ∷ 0 ∷ 2 ∷ 0 ∷ 0 ∷ 2 ∷ 0 ∷ 0x0E ∷ 1 ∷ 0 ∷ 0 ∷ 1 ∷ 0 ∷ 0 ∷ 2 ∷ 1 ∷ 0
     ∷ 2 ∷ 0 ∷ 0 ∷ 1 ∷ 1 ∷ 0 ∷ []
 
--- p/2, q/2; a rule takes p(X,Y) and adds q(X,Y); p(0,1) to p(0,n)
+-- p/2, q/2; a rule takes p(X,Y) and adds q(X,Y); so many objects, and these facts
+unfoldable pub moving : ℕ → List (List ℕ) → List ℕ
+moving objects facts =
+    2 ∷ 2 ∷ 2 ∷ objects ∷ 1 ∷ 0x0F ∷ 2 ∷ 1 ∷ 0 ∷ 0 ∷ 1 ∷ 1 ∷ 0 ∷ 0 ∷ 1 ∷ 1 ∷ 1 ∷ 0 ∷ 1 ∷ 0 ∷ length facts
+    ∷ flatMap (λ fact. fact) facts
+
+-- p(0,1) to p(0,n)
 unfoldable pub k6 : ℕ → List ℕ
-k6 n =
-    2 ∷ 2 ∷ 2 ∷ suc n ∷ 1 ∷ 0x0F ∷ 2 ∷ 1 ∷ 0 ∷ 0 ∷ 1 ∷ 1 ∷ 0 ∷ 0 ∷ 1 ∷ 1 ∷ 1 ∷ 0 ∷ 1 ∷ 0 ∷ n
-    ∷ flatMap (λ i. 0 ∷ 0 ∷ suc i ∷ []) (upTo n)
+k6 n = moving (suc n) (map (λ i. 0 ∷ 0 ∷ suc i ∷ []) (upTo n))
+
+-- two objects that start apart: ten facts p(0,_), and m facts p(1,_) with n facts q(1,_)
+unfoldable pub starts : ℕ → ℕ → List ℕ
+starts m n =
+    moving
+    12
+    (map (λ i. 0 ∷ 0 ∷ i ∷ []) (from 2 10) ++ map (λ i. 0 ∷ 1 ∷ i ∷ []) (from 2 m) ++ map (λ i. 1 ∷ 1 ∷ i ∷ []) (from 2 n))
+
+-- p/3; a rule takes p(X,Y,Z) and adds p(X,Z,Y); p(0,1,2)
+unfoldable pub turning : List ℕ
+turning =
+    1 ∷ 3 ∷ 3 ∷ 1 ∷ 0x0F ∷ 3 ∷ 1 ∷ 0 ∷ 0 ∷ 1 ∷ 2 ∷ 1 ∷ 0 ∷ 0 ∷ 1 ∷ 2 ∷ 1 ∷ 0 ∷ 0 ∷ 2 ∷ 1 ∷ 0 ∷ 1 ∷ 0 ∷ 0 ∷ 1 ∷ 2 ∷ []
+
+-- p/1, no rule; p(0) to p(10)
+unfoldable pub eleven : List ℕ
+eleven = 1 ∷ 1 ∷ 11 ∷ 0 ∷ 0 ∷ 11 ∷ flatMap (λ i. 0 ∷ i ∷ []) (upTo 11)
+
+-- K4's rule, one object, no fact
+unfoldable pub bare : List ℕ
+bare = 2 ∷ 1 ∷ 1 ∷ 1 ∷ 1 ∷ 0x0E ∷ 1 ∷ 0 ∷ 0 ∷ 1 ∷ 0 ∷ 0 ∷ 1 ∷ 1 ∷ 0 ∷ 0 ∷ 0 ∷ []
+
+-- p/1, q/1, r/1; a rule adds q(X) where p(X) stands, and one r(X) where q(X) stands; p(0)
+unfoldable pub growing : List ℕ
+growing = 3 ∷ 1 ∷ 1 ∷ 1 ∷ 1 ∷ 2 ∷ 0x0A ∷ 1 ∷ 0 ∷ 0 ∷ 1 ∷ 1 ∷ 0 ∷ 0x0A ∷ 1 ∷ 1 ∷ 0 ∷ 1 ∷ 2 ∷ 0 ∷ 0 ∷ 1 ∷ 0 ∷ 0 ∷ []
 
 unfoldable pub act : ℕ → List ℕ → Action
 act schema objects = record { schema = schema; objects = objects }
+
+unfoldable pub unary : ℕ → ℕ → Atom
+unary predicate argument = record { predicate = predicate; arguments = argument ∷ [] }
+
+-- the table of K4 with these lists in its schema
+unfoldable pub tableWith : List Atom → List Atom → List Atom → Task
+tableWith preconditions deletes adds =
+    record {
+      arities = 1 ∷ 1 ∷ [];
+      objects = 1;
+      schemas = record { parameters = 1; preconditions = preconditions; deletes = deletes; adds = adds } ∷ [];
+      facts = unary 0 0 ∷ unary 1 0 ∷ [];
+    }
 
 -- A question and the answer that document 01 gives.
 pub record Entry : Type 0 where
   pub question : Question
   pub expected : List (List ℕ)
 
-unfoldable pub table : List Entry
-table =
-    -- K1: the whole listing
+-- K1: the whole listing
+unfoldable pub bench-card : Entry
+bench-card =
     record {
       question = prints k1;
       expected =
@@ -132,24 +196,33 @@ table =
           ∷ [])
           ∷ [];
     }
-    -- K2: schema 1 on 0 2 3 first, and on 0 2 2
-    ∷ record {
+
+-- K2: schema 1 on 0 2 3 first, and on 0 2 2
+unfoldable pub presses-refused : Entry
+presses-refused =
+    record {
       question = plays k1 (act 1 (0 ∷ 2 ∷ 3 ∷ []) ∷ act 1 (0 ∷ 2 ∷ 2 ∷ []) ∷ []);
       expected =
           (0 ∷ 19 ∷ []) ∷ (0 ∷ 18 ∷ [])
           ∷ (0 ∷ 0 ∷ 255 ∷ 255 ∷ []) ∷ (0 ∷ 1 ∷ 255 ∷ 255 ∷ []) ∷ (2 ∷ 0 ∷ 2 ∷ 255 ∷ []) ∷ (2 ∷ 1 ∷ 2 ∷ 255 ∷ [])
           ∷ (3 ∷ 2 ∷ 255 ∷ 255 ∷ []) ∷ (3 ∷ 3 ∷ 255 ∷ 255 ∷ []) ∷ [];
     }
-    -- K3: schema 0 on 0, then 1 on 0 2 3: idle(0), holds(0,3) stand
-    ∷ record {
+
+-- K3: schema 0 on 0, then 1 on 0 2 3: idle(0), holds(0,3) stand
+unfoldable pub presses-made : Entry
+presses-made =
+    record {
       question = plays k1 (act 0 (0 ∷ []) ∷ act 1 (0 ∷ 2 ∷ 3 ∷ []) ∷ []);
       expected =
           (1 ∷ 6 ∷ []) ∷ (1 ∷ 6 ∷ [])
           ∷ (0 ∷ 0 ∷ 255 ∷ 255 ∷ []) ∷ (0 ∷ 1 ∷ 255 ∷ 255 ∷ []) ∷ (2 ∷ 0 ∷ 3 ∷ 255 ∷ []) ∷ (2 ∷ 1 ∷ 2 ∷ 255 ∷ [])
           ∷ (3 ∷ 2 ∷ 255 ∷ 255 ∷ []) ∷ (3 ∷ 3 ∷ 255 ∷ 255 ∷ []) ∷ [];
     }
-    -- K4: conditions 1 1, 0 2, 0 1; D 2
-    ∷ record {
+
+-- K4: conditions 1 1, 0 2, 0 1; D 2
+unfoldable pub swallowed-add : Entry
+swallowed-add =
+    record {
       question = prints k4;
       expected =
           lines
@@ -160,26 +233,208 @@ table =
           ∷ "D 2"
           ∷ "C 0 1"
           ∷ "R 0 0 : 0"
-          ∷ []) ∷ [];
+          ∷ [])
+          ∷ [];
     }
-    -- K5: M
-    ∷ record { question = extends k5 0; expected = (77 ∷ 0 ∷ []) ∷ [] }
-    -- K6: the space of property 0 is P with 56 conditions. K7: W
-    ∷ record { question = extends (k6 10) 0; expected = (80 ∷ 56 ∷ []) ∷ [] }
-    ∷ record { question = extends (k6 11) 0; expected = (87 ∷ 0 ∷ []) ∷ [] }
-    -- K8: no bytes
-    ∷ record { question = reads []; expected = (0 ∷ 1 ∷ []) ∷ [] }
-    -- K9: K1 and a byte
-    ∷ record { question = reads (k1 ++ (0 ∷ [])); expected = (0 ∷ 14 ∷ []) ∷ [] }
-    -- K10: 65 objects; 64 is in range
-    ∷ record { question = reads (set k1 5 65); expected = (0 ∷ 3 ∷ []) ∷ [] }
-    ∷ record { question = reads (set k1 5 64); expected = (1 ∷ []) ∷ [] }
-    -- K11: schema 1's role count byte 1 or 7
-    ∷ record { question = reads (set k1 18 1); expected = (0 ∷ 5 ∷ []) ∷ [] }
-    ∷ record { question = reads (set k1 18 7); expected = (0 ∷ 5 ∷ []) ∷ [] }
-    ∷ []
 
--- opens every definition of this module, for what is proved by computation
+-- K5: M
+unfoldable pub mixed-space : Entry
+mixed-space = record { question = extends k5 0; expected = (77 ∷ 0 ∷ []) ∷ [] }
+
+-- K6: the space of property 0 is P with 56 conditions
+unfoldable pub conditions-56 : Entry
+conditions-56 = record { question = extends (k6 10) 0; expected = (80 ∷ 56 ∷ []) ∷ [] }
+
+-- K7: W
+unfoldable pub wide-space : Entry
+wide-space = record { question = extends (k6 11) 0; expected = (87 ∷ 0 ∷ []) ∷ [] }
+
+-- K8: no bytes
+unfoldable pub no-bytes : Entry
+no-bytes = record { question = reads []; expected = (0 ∷ 1 ∷ []) ∷ [] }
+
+-- K9: K1 and a byte
+unfoldable pub byte-more : Entry
+byte-more = record { question = reads (k1 ++ (0 ∷ [])); expected = (0 ∷ 14 ∷ []) ∷ [] }
+
+-- K10: 65 objects; 64 is in range
+unfoldable pub objects-65 : Entry
+objects-65 = record { question = reads (set k1 5 65); expected = (0 ∷ 3 ∷ []) ∷ [] }
+
+unfoldable pub objects-64 : Entry
+objects-64 = record { question = reads (set k1 5 64); expected = (1 ∷ []) ∷ [] }
+
+-- K11: schema 1's role count byte 1 or 7
+unfoldable pub roles-1 : Entry
+roles-1 = record { question = reads (set k1 18 1); expected = (0 ∷ 5 ∷ []) ∷ [] }
+
+unfoldable pub roles-7 : Entry
+roles-7 = record { question = reads (set k1 18 7); expected = (0 ∷ 5 ∷ []) ∷ [] }
+
+-- p(0,1), p(0,2), p(3,1): the condition 1 1 of the first start strictly contains the second start 1 0, and the space is P all the same
+unfoldable pub two-starts : Entry
+two-starts =
+    record {
+      question = prints (moving 4 ((0 ∷ 0 ∷ 1 ∷ []) ∷ (0 ∷ 0 ∷ 2 ∷ []) ∷ (0 ∷ 3 ∷ 1 ∷ []) ∷ []));
+      expected =
+          lines
+          ("S 0 P : 0 2 : 0 3"
+          ∷ "T : 2 0"
+          ∷ "T : 1 1"
+          ∷ "T : 0 2"
+          ∷ "T : 0 1"
+          ∷ "T : 1 0"
+          ∷ "M 0 2"
+          ∷ "M 2 2"
+          ∷ "D 3"
+          ∷ "D 4"
+          ∷ "S 1 P : 1 3 : 1 2"
+          ∷ "T : 2 0"
+          ∷ "T : 1 1"
+          ∷ "T : 0 2"
+          ∷ "T : 0 1"
+          ∷ "T : 1 0"
+          ∷ "M 1 2"
+          ∷ "M 3 2"
+          ∷ "D 3"
+          ∷ "D 4"
+          ∷ "C 0 3"
+          ∷ "R 0 0 : 0 3"
+          ∷ "R 0 1 : 1 2"
+          ∷ [])
+          ∷ [];
+    }
+
+-- an attribute space whose member comes in with the second round
+unfoldable pub two-rounds : Entry
+two-rounds =
+    record {
+      question = prints growing;
+      expected =
+          lines
+          ("S 0 S : 0 : 0"
+          ∷ "S 1 A : 1 : 0"
+          ∷ "S 2 A : 2 : 0"
+          ∷ "C 0 1"
+          ∷ "R 0 0 : 0"
+          ∷ "R 1 0 : 0"
+          ∷ [])
+          ∷ [];
+    }
+
+-- an M line of arity 3; property 0 is taken and given back
+unfoldable pub three-arguments : Entry
+three-arguments =
+    record {
+      question = prints turning;
+      expected =
+          lines
+          ("S 0 P : 0 : 0"
+          ∷ "T : 1"
+          ∷ "M 0 1"
+          ∷ "D 0"
+          ∷ "S 1 P : 1 2 : 1 2"
+          ∷ "T : 1 0"
+          ∷ "T : 0 1"
+          ∷ "M 1 1"
+          ∷ "M 2 1"
+          ∷ "D 0"
+          ∷ "D 1"
+          ∷ "X 0 1"
+          ∷ "F 0 1"
+          ∷ "C 0 1"
+          ∷ "R 0 0 : 0"
+          ∷ "R 0 1 : 1 2"
+          ∷ "R 0 2 : 1 2"
+          ∷ [])
+          ∷ [];
+    }
+
+-- numbers of two digits
+unfoldable pub two-digits : Entry
+two-digits =
+    record { question = prints eleven; expected = lines ("S 0 S : 0 : 0 1 2 3 4 5 6 7 8 9 10" ∷ "C 0 11" ∷ []) ∷ [] }
+
+-- an empty list leaves nothing after its colon
+unfoldable pub empty-lists : Entry
+empty-lists = record { question = prints bare; expected = lines ("S 0 P : 0 1 :" ∷ "C 0 0" ∷ "R 0 0 :" ∷ []) ∷ [] }
+
+-- 64 conditions from two starts; one more makes the space wide
+unfoldable pub conditions-64 : Entry
+conditions-64 = record { question = extends (starts 7 4) 0; expected = (80 ∷ 64 ∷ []) ∷ [] }
+
+unfoldable pub condition-65 : Entry
+condition-65 = record { question = extends (starts 8 3) 0; expected = (87 ∷ 0 ∷ []) ∷ [] }
+
+-- the listing call on K1: section 1, written from byte 0
+unfoldable pub section-written : Entry
+section-written =
+    record {
+      question = lists k1 1 65536;
+      expected = (1 ∷ 32 ∷ []) ∷ (lines ("S 1 P : 2 : 0 1" ∷ "T : 1" ∷ "M 2 1" ∷ "D 0" ∷ []) ++ (7 ∷ 7 ∷ [])) ∷ [];
+    }
+
+-- sections 0 to 3 are the spaces, 4 is the closing one, and 5 is past the last; a refusal changes no byte
+unfoldable pub section-past : Entry
+section-past = record { question = lists k1 5 65536; expected = (0 ∷ 22 ∷ []) ∷ (7 ∷ 7 ∷ 7 ∷ 7 ∷ []) ∷ [] }
+
+-- 21 before 22, and the card's refusal before both
+unfoldable pub short-first : Entry
+short-first = record { question = lists k1 5 65535; expected = (0 ∷ 21 ∷ []) ∷ (7 ∷ 7 ∷ 7 ∷ 7 ∷ []) ∷ [] }
+
+unfoldable pub card-first : Entry
+card-first = record { question = lists (set k1 5 65) 5 4; expected = (0 ∷ 3 ∷ []) ∷ (7 ∷ 7 ∷ 7 ∷ 7 ∷ []) ∷ [] }
+
+-- after schema 0 on 0 there is 0 from the last fact to byte 4,096, and what is beyond stays
+unfoldable pub zeros-after : Entry
+zeros-after =
+    record {
+      question = clears k1 (act 0 (0 ∷ []) ∷ []);
+      expected = (0 ∷ 0 ∷ 0 ∷ 0 ∷ []) ∷ (0 ∷ 0 ∷ 0 ∷ 0 ∷ 7 ∷ 7 ∷ 7 ∷ 7 ∷ []) ∷ [];
+    }
+
+-- the table of K4 is written as K4, and with a short buffer refused by 21
+unfoldable pub table-written : Entry
+table-written =
+    record {
+      question = writes (tableWith (unary 0 0 ∷ []) (unary 0 0 ∷ []) (unary 1 0 ∷ [])) 65536;
+      expected = (1 ∷ 21 ∷ []) ∷ (k4 ++ (7 ∷ 7 ∷ [])) ∷ [];
+    }
+
+unfoldable pub table-short : Entry
+table-short =
+    record {
+      question = writes (tableWith (unary 0 0 ∷ []) (unary 0 0 ∷ []) (unary 1 0 ∷ [])) 65535;
+      expected = (0 ∷ 21 ∷ []) ∷ (7 ∷ 7 ∷ 7 ∷ 7 ∷ []) ∷ [];
+    }
+
+-- the writer checks in card order: an unknown precondition (7) before the nine deletes (6), and both before the buffer (21)
+unfoldable pub atoms-first : Entry
+atoms-first =
+    record {
+      question = writes (tableWith (unary 2 0 ∷ []) (replicate 9 (unary 0 0)) []) 4;
+      expected = (0 ∷ 7 ∷ []) ∷ (7 ∷ 7 ∷ 7 ∷ 7 ∷ []) ∷ [];
+    }
+
+-- a list of nine (6) before its atoms
+unfoldable pub list-of-9 : Entry
+list-of-9 =
+    record {
+      question = writes (tableWith (replicate 9 (unary 2 0)) [] []) 4;
+      expected = (0 ∷ 6 ∷ []) ∷ (7 ∷ 7 ∷ 7 ∷ 7 ∷ []) ∷ [];
+    }
+
+unfoldable pub table : List Entry
+table =
+    bench-card ∷ presses-refused ∷ presses-made ∷ swallowed-add ∷ mixed-space ∷ conditions-56 ∷ wide-space ∷ no-bytes ∷ byte-more
+    ∷ objects-65 ∷ objects-64 ∷ roles-1 ∷ roles-7 ∷ two-starts ∷ two-rounds ∷ three-arguments ∷ two-digits ∷ empty-lists ∷ conditions-64 ∷ condition-65
+    ∷ section-written ∷ section-past ∷ short-first ∷ card-first ∷ zeros-after ∷ table-written ∷ table-short ∷ atoms-first ∷ list-of-9 ∷ []
+
+-- opens every definition of this module but the table, for what is proved by computation
 unfoldable pub vectors-open : Unit {0}
-unfolding ascii lines said playing fresh opened extension reply cardOf answer k1 k4 k5 k6 act table
+unfolding
+    ascii lines said shown told playing fresh opened cleared extension reply cardOf answer k1 k4 k5 moving k6 starts turning eleven bare growing
+    act unary tableWith bench-card presses-refused presses-made swallowed-add mixed-space conditions-56 wide-space no-bytes byte-more
+    objects-65 objects-64 roles-1 roles-7 two-starts two-rounds three-arguments two-digits empty-lists conditions-64 condition-65 section-written
+    section-past short-first card-first zeros-after table-written table-short atoms-first list-of-9
 vectors-open = tt

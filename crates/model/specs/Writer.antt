@@ -7,7 +7,7 @@ use lib.Dec.{leb, ltb, eqb}
 use lib.ListN.{length, getD}
 use Rattle.laws.specs.Lists.{all}
 use Rattle.model.specs.Answer.{Answer, accepted, _>>_, need}
-use Rattle.model.specs.Card.{Atom, Schema, Task, above, between, has}
+use Rattle.model.specs.Card.{Atom, Schema, Task, above, between, inRange, has}
 
 -- every item passes its check; each check is told the item before it
 unfoldable pub each : {A : Type 0} → (Option A → A → Answer (Unit {0})) → Option A → List A → Answer (Unit {0})
@@ -47,16 +47,31 @@ checkFact arities objects previous f = do
   need (known arities objects f) 12
   need (above previous f) 13
 
--- a table that a card can carry, or the refusal that card order meets first
+-- 2: 1 to 20 predicates, each of an arity of 1 to 3
+unfoldable pub checkPredicates : List ℕ → Answer (Unit {0})
+checkPredicates arities = do
+  need (between 1 20 (length arities)) 2
+  need (inRange arities) 2
+
+-- 4: at most 32 schemas; then each of them
+unfoldable pub checkSchemas : List ℕ → List Schema → Answer (Unit {0})
+checkSchemas arities schemas = do
+  need (leb (length schemas) 32) 4
+  each (λ previous. checkSchema arities) none schemas
+
+-- 11: at most 512 facts; then each of them
+unfoldable pub checkFacts : List ℕ → ℕ → List Atom → Answer (Unit {0})
+checkFacts arities objects facts = do
+  need (leb (length facts) 512) 11
+  each (checkFact arities objects) none facts
+
+-- a table that a card can carry, or the refusal that card order meets first: predicates, objects (3), schemas, facts
 unfoldable pub checkTask : Task → Answer (Unit {0})
 checkTask t = do
-  need (between 1 20 (length (t .arities))) 2
-  need (all (between 1 3) (t .arities)) 2
+  checkPredicates (t .arities)
   need (between 1 64 (t .objects)) 3
-  need (leb (length (t .schemas)) 32) 4
-  each (λ previous. checkSchema (t .arities)) none (t .schemas)
-  need (leb (length (t .facts)) 512) 11
-  each (checkFact (t .arities) (t .objects)) none (t .facts)
+  checkSchemas (t .arities) (t .schemas)
+  checkFacts (t .arities) (t .objects) (t .facts)
 
 unfoldable pub atomBytes : Atom → List ℕ
 atomBytes a = a .predicate ∷ a .arguments
@@ -95,5 +110,6 @@ taskBytes t =
 -- opens every definition of this module, for what is proved by computation
 unfoldable pub writer-opens : Unit {0}
 unfolding
-    each known checkSchemaAtom checkList checkSchema checkFact checkTask atomBytes listBytes roleBytes bitFor schemaBytes taskBytes
+    each known checkSchemaAtom checkList checkSchema checkFact checkPredicates checkSchemas checkFacts checkTask atomBytes listBytes roleBytes
+    bitFor schemaBytes taskBytes
 writer-opens = tt

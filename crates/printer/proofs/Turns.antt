@@ -1,11 +1,19 @@
 -- Sections written in turn from byte 0 of a buffer: none, one, one more, all.
-use Prim.Native.Nat.{ℕ, _+_, _≤_}
+use Prim.Native.Nat.{ℕ, _+_, _-_, _≤_, _<_}
 use native.Mathlib.Numerals.{add-one}
 use native.Mathlib.Omega.{arith}
 use mathlib.Core.Path.{_≡_, refl, sym, ap, _∙_, subst}
 use mathlib.Core.List.{List, [], _∷_, _++_, foldl-append}
 use lib.ListN.{length, getD, take}
-use lib.Seq.{take-suc, take-all}
+use lib.Seq.{take-suc}
+use mathlib.Core.Bool.{true, false}
+use lib.Dec.{ltb}
+use borrow.Author.Tests.{ltb-true, ltb-false}
+use Rattle.laws.proofs.Tests.{never, by-test}
+use Rattle.model.specs.Answer.{accepted}
+use Rattle.model.specs.Writer.{checkTask}
+use Rattle.model.specs.Spaces.{spaces}
+use Rattle.analysis.proofs.Places.{place-few}
 use Rattle.model.specs.Card.{Task}
 use Rattle.model.specs.Lines.{Line, sections}
 use Rattle.model.specs.Text.{text}
@@ -14,8 +22,9 @@ use Rattle.spaces.specs.declared.Spaces.{Spaces}
 use Rattle.spaces.specs.SpaceTable.{SpacesOf}
 use Rattle.text.specs.Written.{Writes}
 use Rattle.prepared.proofs.SectionsOf.{section-count}
+use Rattle.printer.specs.declared.printing.Printing.{Printing}
 use Rattle.printer.specs.Ready.{Lent}
-use Rattle.printer.specs.Leaves.{over, inTurn, Leaves}
+use Rattle.printer.specs.Leaves.{over, inTurn, Leaves, Reaches}
 
 -- before the first
 pub none-left : (out origins targets : List ℕ) → Leaves [] out out origins origins targets targets
@@ -54,16 +63,21 @@ module _ (t : Task) (spaces : Spaces) (are : SpacesOf t spaces) (number : ℕ) {
       ∙ take-suc (sections t) number [] (omega (arith, h, are .count, section-count t))))
       (then-left (take number (sections t)) (getD (sections t) number [] ∷ []) l m)
 
-  -- the closing section behind those of all spaces
-  pub closing-left : {out' out'' origins' origins'' targets' targets'' : List ℕ} → number ≤ spaces .count → spaces .count ≤ number
-      → Leaves (take number (sections t)) out out' origins origins' targets targets'
-      → Leaves (getD (sections t) (spaces .count) [] ∷ []) out' out'' origins' origins'' targets' targets''
-      → Leaves (sections t) out out'' origins origins'' targets targets''
-  closing-left {out'} {out''} {origins'} {origins''} {targets'} {targets''} h k l m =
-      let last : spaces .count ≡ number = omega arith in
-      subst (λ (s : List (List Line)). Leaves s out out'' origins origins'' targets targets'')
-      (take-all (number + 1) (sections t) (omega (arith, k, are .count, section-count t)))
-      (next-left h l (subst (λ (n : ℕ). Leaves (getD (sections t) n [] ∷ []) out' out'' origins' origins'' targets' targets'') last m))
+-- a task has at most 60 spaces
+pub spaces-few : (t : Task) → checkTask t ≡ accepted tt → length (spaces t) ≤ 60
+spaces-few t ok =
+    by-test (ltb 0 (length (spaces t)))
+    (λ e. let some = ltb-true 0 (length (spaces t)) e in omega (arith, place-few t (length (spaces t) - 1) (omega arith) ok))
+    (λ e. omega (arith, ltb-false 0 (length (spaces t)) e))
+
+-- a listing that a write cut off
+pub cut-off : {sections : List (List Line)} {r : Printing} → r .written ≡ false → Reaches sections r
+cut-off e = record { whole = λ w. never (sym w ∙ e) }
+
+-- a listing of which the closing section was made, behind those of all spaces
+pub to-the-end : {t : Task} {spaces : Spaces} {r : Printing} → SpacesOf t spaces → r .sections ≤ spaces .count + 1 → spaces .count < r .sections
+    → Reaches (sections t) r
+to-the-end {t} are h k = record { whole = λ w. omega (arith, are .count, section-count t) }
 
 -- what was lent is lent again
 pub lent-again : {sections : List (List Line)} {out out' origins origins' targets targets' : List ℕ} → Lent origins targets out

@@ -1,6 +1,7 @@
 -- What printing leaves in the buffer and in the tables lent to it.
 use Prim.Native.Nat.{ℕ, _≤_}
 use mathlib.Core.Path.{_≡_}
+use mathlib.Core.Bool.{true}
 use mathlib.Core.List.{List, map, foldl}
 use lib.ListN.{length, take}
 use Rattle.model.specs.Answer.{Answer, refused, accepted}
@@ -10,6 +11,9 @@ use Rattle.model.specs.Lines.{Line, sections}
 use Rattle.model.specs.Text.{text}
 use Rattle.model.specs.Calls.{output}
 use Rattle.analysis.specs.Analysed.{Begins, initialBags}
+use Rattle.printer.specs.declared.Printed.{Printed}
+use Rattle.printer.specs.declared.Printed.the-variants.{Unread, Whole, CutOff}
+use Rattle.printer.specs.declared.printing.Printing.{Printing}
 
 -- a section's text, written to a buffer from byte 0 on; the bytes after it are left
 unfoldable pub over : List ℕ → List Line → List ℕ
@@ -24,10 +28,25 @@ unfoldable pub shown : Answer Task → List ℕ → List ℕ
 shown (refused n) buffer = buffer
 shown (accepted t) buffer = inTurn (sections t) buffer
 
--- The card is the n bytes that were read to the front of the window.
-pub record PrintsFrom (n : ℕ) (window out out' : List ℕ) : Type 0 where
-  pub read : n ≤ length window
-  pub buffer : out' ≡ shown (decode (take n window)) out
+-- and what it leaves after so many sections
+unfoldable pub shownTo : ℕ → Answer Task → List ℕ → List ℕ
+shownTo n (refused k) buffer = buffer
+shownTo n (accepted t) buffer = inTurn (take n (sections t)) buffer
+
+-- How far a listing of these sections was printed: to its end if all of it was written.
+pub record Reaches (sections : List (List Line)) (r : Printing) : Type 0 where
+  pub whole : r .written ≡ true → r .sections ≡ length sections
+
+-- A card was printed, whole or up to a write that failed.
+pub record Prints (answer : Answer Task) (r : Printing) (out out' : List ℕ) : Type 0 where
+  pub buffer : out' ≡ shownTo (r .sections) answer out
+  pub whole : r .written ≡ true → out' ≡ shown answer out
+
+-- What became of an input. The card is the n bytes that were read to the front of the window.
+abbrev pub PrintsFrom : Printed → List ℕ → List ℕ → List ℕ → Type 0
+PrintsFrom Unread window out out' = out' ≡ out
+PrintsFrom (Whole n) window out out' = (n ≤ length window) × (out' ≡ shown (decode (take n window)) out)
+PrintsFrom (CutOff n k) window out out' = (n ≤ length window) × (out' ≡ shownTo k (decode (take n window)) out)
 
 -- The buffer, after these sections, and the two tables that take the moves of a space, of which only the lengths are known.
 pub record Leaves (sections : List (List Line)) (out out' origins origins' targets targets' : List ℕ) : Type 0 where

@@ -1,34 +1,32 @@
-// One card from an open input, of any length, and its listing on standard output, or the line that refuses it.
+// One card from an open input, of any length, and its listing on standard output, or the line that refuses it. What fails is said on
+// standard error: a read that fails is not a card that ends, and a listing that is cut off is not to pass for a listing.
 mod printing;
 mod refusals;
 
 use card::Verdict;
+use input::Reading;
+use input::read_front;
+use libc::STDERR_FILENO;
 use libc::STDOUT_FILENO;
+use printing::Printing;
 use printing::print_listing;
 use reader::decode;
 use refusals::refused_line;
 ghost use mathlib.Core.Path.{_≡_};
 ghost use Rattle.model.specs.Card.{decode};
-ghost use Rattle.io.specs.Counts.{Counts};
-ghost use Rattle.printer.specs.Leaves.{shown, PrintsFrom};
+ghost use Rattle.printer.specs.Leaves.{shown, Prints, PrintsFrom};
 
-// Reads an input to its end and keeps its first 5,306 bytes, which decide (theorem `decode-window`).
-// A proved loop has to end, and nothing says that the input does: the turns are counted down from a number that no run uses up.
-fn read_card(input: i32, window: &mut [u8; 5306]) -> usize
-    ensures { λ r. ⌜ Counts r (now (window .exit)) ⌝ }
-{
-    let kept = io::read_full(input, window);
-    let mut rest = io::large_buffer();
-    let mut turns = u64::MAX;
-    while turns > 0 && libc::read(input, &mut rest) > 0 {
-        turns -= 1;
-    }
-    kept
+// What became of an input: it could not be read; or the card at the front of the window, of so many bytes, was printed whole, or cut
+// off after so many of its sections were made.
+pub enum Printed {
+    Unread,
+    Whole(usize),
+    CutOff(usize, usize),
 }
 
-// Prints a card's listing, section by section from `out`, or the line that refuses it.
-fn print_card(card: &[u8], out: &mut [u8; 65536])
-    ensures { λ _. ⌜ now (out .exit) ≡ shown (decode (now (card .entry))) (now (out .entry)) ⌝ }
+// Prints a card's listing, section by section from `out`, or the line that refuses it. A refused card has no section.
+fn print_card(card: &[u8], out: &mut [u8; 65536]) -> Printing
+    ensures { λ r. ⌜ Prints (decode (now (card .entry))) r (now (out .entry)) (now (out .exit)) ⌝ }
 {
     let decoded = decode(card);
     let verdict = decoded.verdict;
@@ -38,18 +36,33 @@ fn print_card(card: &[u8], out: &mut [u8; 65536])
             let line = refused_line(refusal);
             let length = line.length;
             let bytes = line.bytes;
-            io::write_all(STDOUT_FILENO, &bytes[0..length]);
+            let written = io::write_all(STDOUT_FILENO, &bytes[0..length]);
+            Printing {
+                sections: 0,
+                written,
+            }
         }
         Verdict::Accepted => print_listing(task, out),
     }
 }
 
-// Prints the card that is read from an input to the front of `window`, and answers how many of the window's bytes it is.
-pub fn print_from(input: i32, window: &mut [u8; 5306], out: &mut [u8; 65536]) -> usize
-    ensures { λ n. ⌜ PrintsFrom n (now (window .exit)) (now (out .entry)) (now (out .exit)) ⌝ }
+// Prints the card that an input brings to the front of `window`. The first 5,306 bytes decide (theorem `decode-window`).
+pub fn print_from(input: i32, window: &mut [u8; 5306], out: &mut [u8; 65536]) -> Printed
+    ensures { λ r. ⌜ PrintsFrom r (now (window .exit)) (now (out .entry)) (now (out .exit)) ⌝ }
 {
-    let n = read_card(input, window);
+    let reading = read_front(input, window);
+    let Reading::Front(n) = reading else {
+        io::write_all(STDERR_FILENO, b"stakestalk: the card cannot be read\n");
+        return Printed::Unread;
+    };
     let bytes = &window[..];
-    print_card(&bytes[..n], out);
-    n
+    let printing = print_card(&bytes[0..n], out);
+    if printing.written {
+        return Printed::Whole(n);
+    }
+    io::write_all(
+        STDERR_FILENO,
+        b"stakestalk: the listing cannot be written\n",
+    );
+    Printed::CutOff(n, printing.sections)
 }

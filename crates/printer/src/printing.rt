@@ -1,4 +1,5 @@
-// An accepted card's listing, section after section, from tables that are filled once.
+// An accepted card's listing, section after section, from tables that are filled once. Printing ends at the first write that fails, so
+// that a listing with a hole in it is never printed.
 use card::Task;
 use libc::STDOUT_FILENO;
 use prepared::Prepared;
@@ -7,15 +8,21 @@ use prepared::write_section;
 ghost use mathlib.Core.Path.{_≡_};
 ghost use mathlib.Core.List.{[], _∷_};
 ghost use Prim.Native.Nat.{_≤_};
-ghost use lib.ListN.{length, getD};
+ghost use lib.ListN.{length, getD, take};
 ghost use Rattle.model.specs.Lines.{sections};
 ghost use Rattle.card.specs.Represents.{taskOf, Represented};
 ghost use Rattle.rules.specs.Tables.{rulesAtMost};
 ghost use Rattle.rules.specs.Appended.{Room};
 ghost use Rattle.printer.specs.Ready.{Ready, Lent};
-ghost use Rattle.printer.specs.Leaves.{inTurn, Leaves, Filled};
+ghost use Rattle.printer.specs.Leaves.{inTurn, Leaves, Reaches, Filled};
 
-// Writes a section from byte 0 of `out`, and prints it from there.
+// How far a listing was printed: how many of its sections were made, and whether all of it was written.
+pub struct Printing {
+    pub sections: usize,
+    pub written: bool,
+}
+
+// Writes a section from byte 0 of `out`, prints it from there, and answers whether it was written whole.
 fn print_section(
     number: usize,
     task: Task,
@@ -26,7 +33,7 @@ fn print_section(
     origins: &mut [u8],
     targets: &mut [u8],
     out: &mut [u8],
-)
+) -> bool
     requires { ⌜ Ready task prepared (now starts) (now finishes) (now counts) ⌝ }
     requires { ⌜ Lent (now origins) (now targets) (now out) ⌝ }
     requires { ⌜ number ≤ prepared .spaces .count ⌝ }
@@ -52,10 +59,10 @@ fn print_section(
         origins,
         targets,
     );
-    io::write_all(STDOUT_FILENO, &out[0..length]);
+    io::write_all(STDOUT_FILENO, &out[0..length])
 }
 
-// The sections of the spaces, and the closing one behind them, each written over the one before.
+// The sections of the spaces, and the closing one behind them, each written over the one before, until a write fails.
 fn print_sections(
     task: Task,
     prepared: Prepared,
@@ -65,12 +72,13 @@ fn print_sections(
     origins: &mut [u8],
     targets: &mut [u8],
     out: &mut [u8],
-)
+) -> Printing
     requires { ⌜ Ready task prepared (now starts) (now finishes) (now counts) ⌝ }
     requires { ⌜ Lent (now origins) (now targets) (now out) ⌝ }
-    ensures { λ _. ⌜
+    ensures { λ r. ⌜ Reaches (sections (taskOf task)) r ⌝ }
+    ensures { λ r. ⌜
         Leaves
-        (sections (taskOf task))
+        (take (r .sections) (sections (taskOf task)))
         (now (out .entry))
         (now (out .exit))
         (now (origins .entry))
@@ -82,8 +90,8 @@ fn print_sections(
     let spaces = prepared.spaces;
     let last = spaces.count;
     let mut number = 0;
-    while number < last {
-        print_section(
+    while number <= last {
+        let written = print_section(
             number,
             task,
             prepared,
@@ -95,18 +103,17 @@ fn print_sections(
             out,
         );
         number = number + 1;
+        if !written {
+            return Printing {
+                sections: number,
+                written: false,
+            };
+        }
     }
-    print_section(
-        last,
-        task,
-        prepared,
-        starts,
-        finishes,
-        counts,
-        origins,
-        targets,
-        out,
-    );
+    Printing {
+        sections: number,
+        written: true,
+    }
 }
 
 // With tables lent to it.
@@ -119,15 +126,16 @@ fn print_with(
     origins: &mut [u8],
     targets: &mut [u8],
     out: &mut [u8],
-)
+) -> Printing
     requires { ⌜ Represented task (taskOf task) ⌝ }
     requires { ⌜ Room (rulesAtMost (taskOf task)) (now enablers) (now starts) (now finishes) ⌝ }
     requires { ⌜ 3840 ≤ length (now counts) ⌝ }
     requires { ⌜ Lent (now origins) (now targets) (now out) ⌝ }
     ensures { λ _. ⌜ Filled (taskOf task) (now (starts .exit)) (now (finishes .exit)) (now (counts .exit)) ⌝ }
-    ensures { λ _. ⌜
+    ensures { λ r. ⌜ Reaches (sections (taskOf task)) r ⌝ }
+    ensures { λ r. ⌜
         Leaves
-        (sections (taskOf task))
+        (take (r .sections) (sections (taskOf task)))
         (now (out .entry))
         (now (out .exit))
         (now (origins .entry))
@@ -146,13 +154,14 @@ fn print_with(
         origins,
         targets,
         out,
-    );
+    )
 }
 
 // Each section is written to `out` from byte 0 on and printed from there. The tables are of the sizes that the largest task asks for.
-pub fn print_listing(task: Task, out: &mut [u8; 65536])
+pub fn print_listing(task: Task, out: &mut [u8; 65536]) -> Printing
     requires { ⌜ Represented task (taskOf task) ⌝ }
-    ensures { λ _. ⌜ now (out .exit) ≡ inTurn (sections (taskOf task)) (now (out .entry)) ⌝ }
+    ensures { λ r. ⌜ Reaches (sections (taskOf task)) r ⌝ }
+    ensures { λ r. ⌜ now (out .exit) ≡ inTurn (take (r .sections) (sections (taskOf task))) (now (out .entry)) ⌝ }
 {
     let mut enablers = [0u8; 57600];
     let mut starts = [0u8; 57600];
@@ -169,5 +178,5 @@ pub fn print_listing(task: Task, out: &mut [u8; 65536])
         &mut origins,
         &mut targets,
         out,
-    );
+    )
 }

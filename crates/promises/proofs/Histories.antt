@@ -11,13 +11,13 @@ use Rattle.model.specs.Strips.{Action}
 use Rattle.model.specs.Calls.{initial, press, Standing, pressed, counted, history, stateOf}
 use Rattle.model.specs.Truth.{Holds}
 use Rattle.model.proofs.ListingHolds.{listing-holds}
-use Rattle.strips.specs.Answers.{appliedSays, Does}
+use Rattle.strips.specs.Answers.{appliedSays, Matches}
 use Rattle.strips.specs.declared.Applied.{Applied}
 
 pub data Calls (card : List ℕ) : Standing → List Action → Standing → Type 0 where
   none : {s : Standing} → Calls card s [] s
   then : {s after : Standing} {actions : List Action} (a : Action) (buffer : List ℕ) (answer : Applied)
-      → Does (press card (s .buffer) (s .count) a) buffer answer
+      → Matches (press card (s .buffer) (s .count) a) buffer answer
       → Calls card (record { buffer = buffer; count = counted (s .count) (appliedSays answer) }) actions after
       → Calls card s (a ∷ actions) after
 
@@ -33,7 +33,7 @@ calls-are-history card (then {s = s} {actions = actions} a buffer answer applies
 
 -- after the opening call and any list of press calls, everything that the card's listing says is true of the state in the buffer
 pub calls-keep-the-listing : (card before opened : List ℕ) (t : model.Task) (n : ℕ) (r : Applied) (actions : List Action) (after : Standing)
-    → model.decode card ≡ accepted t → Does (initial card before) opened r → appliedSays r ≡ accepted n
+    → model.decode card ≡ accepted t → Matches (initial card before) opened r → appliedSays r ≡ accepted n
     → Calls card (record { buffer = opened; count = n }) actions after → Holds t (stateOf t after)
 calls-keep-the-listing card before opened t n r actions after decoded opens e calls =
     subst (λ (s : Standing). Holds t (stateOf t s))

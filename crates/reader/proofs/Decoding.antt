@@ -7,7 +7,7 @@ use mathlib.Core.Option.{none}
 use mathlib.Core.Path.{_≡_, refl, ap, _∙_, sym, subst, subst⁻¹}
 use lib.ListN.{length, take, drop, length-append, drop-of-length-le}
 use lib.Seq.{drop-cons}
-use Rattle.model.specs.Answer.{Answer, refused, accepted, _>>=_, _>>_, need}
+use Rattle.model.specs.Answer.{Answer, refused, accepted}
 use Rattle.model.specs.Card as model
 use Rattle.card.specs.declared.ArityList.{ArityList}
 use Rattle.card.specs.declared.SchemaList.{SchemaList}
@@ -18,75 +18,49 @@ use Rattle.card.specs.declared.Decoded.{Decoded}
 use Rattle.card.specs.declared.Verdict.the-variants.{Accepted}
 use Rattle.card.specs.Represents.{refusalNumber, aritiesOf, aritiesFor, schemasOf, schemasFor, factsOf, factsFor, padded}
 use Rattle.card.specs.Represents.{taskOf, taskFor, answerOf, taskBeside, Decodes}
-use Rattle.reader_atoms.specs.Atoms.{inRange}
 use Rattle.model.proofs.Answers.{need-both}
-use Rattle.reader_bytes.proofs.Answers.{goes, halts, fails, regroup, differ, byteThat-held}
+use Rattle.reader_bytes.proofs.Answers.{goes, halts, fails, differ, byteThat-held}
 use Rattle.reader_atoms.proofs.Many.{many-all}
 use Rattle.reader_lists.specs.declared.FactsRead.{FactsRead}
 use Rattle.reader_lists.specs.ListReads.{FactsReads}
 use Rattle.reader.specs.declared.SchemasRead.{SchemasRead}
-use Rattle.reader.specs.Parts.{predicates, schemas, facts, decodedRefused, SchemasReads}
-
--- What is read after the predicates, the objects, the schemas and the facts.
-afterFacts : List ℕ → ℕ → List model.Schema → List model.Atom → List ℕ → Answer model.Task
-afterFacts arities objects ss fs s = do
-  need (model.isEnd s) 14
-  accepted (record { arities = arities; objects = objects; schemas = ss; facts = fs })
-
-afterSchemas : List ℕ → ℕ → List model.Schema → List ℕ → Answer model.Task
-afterSchemas arities objects ss s = do
-  (fs, s₁) ← facts arities objects s
-  afterFacts arities objects ss fs s₁
-
-afterObjects : List ℕ → ℕ → List ℕ → Answer model.Task
-afterObjects arities objects s = do
-  (ss, s₁) ← schemas arities s
-  afterSchemas arities objects ss s₁
-
-afterPredicates : List ℕ → List ℕ → Answer model.Task
-afterPredicates arities s = do
-  (objects, s₁) ← model.byteThat (model.between 1 64) 3 s
-  afterObjects arities objects s₁
-
--- the definition reads these parts
-in-parts : (card : List ℕ) → model.decode card ≡ (predicates card >>= λ (arities, s). afterPredicates arities s)
-unfolding model.decode predicates afterPredicates afterObjects afterSchemas afterFacts schemas facts
-in-parts card = simp regroup
+use Rattle.reader.specs.TaskReads.{decodedRefused, SchemasReads}
 
 module _ (card : List ℕ) where
   -- the predicates are refused
-  pub no-predicates : {k : ℕ} → predicates card ≡ refused k → model.decode card ≡ refused k
-  no-predicates e = in-parts card ∙ halts _ e
+  pub no-predicates : {k : ℕ} → model.predicates card ≡ refused k → model.decode card ≡ refused k
+  unfolding model.decode
+  no-predicates e = halts _ e
 
-  module _ {arities : List ℕ} (s₁ : List ℕ) (p : predicates card ≡ accepted (arities, s₁)) where
+  module _ {arities : List ℕ} {s₁ : List ℕ} (p : model.predicates card ≡ accepted (arities, s₁)) where
     -- the number of objects is refused
     pub no-objects : {k : ℕ} → model.byteThat (model.between 1 64) 3 s₁ ≡ refused k → model.decode card ≡ refused k
-    unfolding afterPredicates
-    no-objects e = in-parts card ∙ goes _ p ∙ halts _ e
+    unfolding model.decode
+    no-objects e = goes _ p ∙ halts _ e
 
-    module _ {objects : ℕ} (s₂ : List ℕ) (o : model.byteThat (model.between 1 64) 3 s₁ ≡ accepted (objects, s₂)) where
+    module _ {objects : ℕ} {s₂ : List ℕ} (o : model.byteThat (model.between 1 64) 3 s₁ ≡ accepted (objects, s₂)) where
       -- the schemas are refused
-      pub no-schemas : {k : ℕ} → schemas arities s₂ ≡ refused k → model.decode card ≡ refused k
-      unfolding afterPredicates afterObjects
-      no-schemas e = in-parts card ∙ goes _ p ∙ goes _ o ∙ halts _ e
+      pub no-schemas : {k : ℕ} → model.schemas arities s₂ ≡ refused k → model.decode card ≡ refused k
+      unfolding model.decode
+      no-schemas e = goes _ p ∙ goes _ o ∙ halts _ e
 
-      module _ {ss : List model.Schema} (s₃ : List ℕ) (q : schemas arities s₂ ≡ accepted (ss, s₃)) where
+      module _ {ss : List model.Schema} {s₃ : List ℕ} (q : model.schemas arities s₂ ≡ accepted (ss, s₃)) where
         -- the facts are refused
-        pub no-facts : {k : ℕ} → facts arities objects s₃ ≡ refused k → model.decode card ≡ refused k
-        unfolding afterPredicates afterObjects afterSchemas
-        no-facts e = in-parts card ∙ goes _ p ∙ goes _ o ∙ goes _ q ∙ halts _ e
+        pub no-facts : {k : ℕ} → model.facts arities objects s₃ ≡ refused k → model.decode card ≡ refused k
+        unfolding model.decode
+        no-facts e = goes _ p ∙ goes _ o ∙ goes _ q ∙ halts _ e
 
-        module _ {fs : List model.Atom} (s₄ : List ℕ) (f : facts arities objects s₃ ≡ accepted (fs, s₄)) where
+        module _ {fs : List model.Atom} {s₄ : List ℕ} (f : model.facts arities objects s₃ ≡ accepted (fs, s₄)) where
           -- 14: bytes follow
           pub more-bytes : model.isEnd s₄ ≡ false → model.decode card ≡ refused 14
-          unfolding afterPredicates afterObjects afterSchemas afterFacts
-          more-bytes e = in-parts card ∙ goes _ p ∙ goes _ o ∙ goes _ q ∙ goes _ f ∙ fails _ _ e
+          unfolding model.decode
+          more-bytes e = goes _ p ∙ goes _ o ∙ goes _ q ∙ goes _ f ∙ fails _ _ e
 
           -- all is read
           pub whole-card : model.isEnd s₄ ≡ true
               → model.decode card ≡ accepted (record { arities = arities; objects = objects; schemas = ss; facts = fs })
-          unfolding afterPredicates afterObjects afterSchemas afterFacts
-          whole-card e = in-parts card ∙ goes _ p ∙ goes _ o ∙ goes _ q ∙ goes _ f ∙ need-both _ _ e
+          unfolding model.decode
+          whole-card e = goes _ p ∙ goes _ o ∙ goes _ q ∙ goes _ f ∙ need-both _ _ e
 
 -- the card goes on at a place, or ends there
 pub goes-on : (card : List ℕ) (at : ℕ) → at < length card → model.isEnd (drop at card) ≡ false
@@ -98,11 +72,11 @@ unfolding model.isEnd
 is-over card at h = rw (drop-of-length-le card h)
 
 -- arities that were read are in range
-pub arities-in-range : (s : List ℕ) {arities : List ℕ} {rest : List ℕ} → predicates s ≡ accepted (arities, rest) → inRange arities ≡ true
-unfolding predicates inRange
+pub arities-in-range : (s : List ℕ) {arities : List ℕ} {rest : List ℕ} → model.predicates s ≡ accepted (arities, rest) → model.inRange arities ≡ true
+unfolding model.predicates model.inRange
 arities-in-range s {arities} {rest} e = counted (model.byteThat (model.between 1 20) 2 s) refl
   where
-    counted : (r : Answer (ℕ × List ℕ)) → model.byteThat (model.between 1 20) 2 s ≡ r → inRange arities ≡ true
+    counted : (r : Answer (ℕ × List ℕ)) → model.byteThat (model.between 1 20) 2 s ≡ r → model.inRange arities ≡ true
     counted (refused k) f = absurd (differ (sym (halts _ f) ∙ e))
     counted (accepted (n, s₁)) f =
         many-all (model.between 1 3) (λ previous. model.byteThat (model.between 1 3) 2) (λ previous s x rest. byteThat-held (model.between 1 3) 2 s)
@@ -137,14 +111,14 @@ decodes-accepted a k = record { answer = sym a; kept = k ∙ sym (ap taskBeside 
 -- reads with the part of the array are reads with the arities
 module _ (l : ArityList) {card : List ℕ} (s : List ℕ) where
   pub schemas-with : {r : SchemasRead}
-      → SchemasReads (take (l .count - 0) (l .arities)) card (schemas (take (l .count - 0) (l .arities)) s) r
-      → SchemasReads (aritiesOf l) card (schemas (aritiesOf l) s) r
-  schemas-with {r} w = subst (λ a. SchemasReads a card (schemas a s) r) (arities-part l) w
+      → SchemasReads (take (l .count - 0) (l .arities)) card (model.schemas (take (l .count - 0) (l .arities)) s) r
+      → SchemasReads (aritiesOf l) card (model.schemas (aritiesOf l) s) r
+  schemas-with {r} w = subst (λ a. SchemasReads a card (model.schemas a s) r) (arities-part l) w
 
   pub facts-with : (objects : ℕ) {r : FactsRead}
-      → FactsReads (take (l .count - 0) (l .arities)) card (facts (take (l .count - 0) (l .arities)) objects s) r
-      → FactsReads (aritiesOf l) card (facts (aritiesOf l) objects s) r
-  facts-with objects {r} w = subst (λ a. FactsReads a card (facts a objects s) r) (arities-part l) w
+      → FactsReads (take (l .count - 0) (l .arities)) card (model.facts (take (l .count - 0) (l .arities)) objects s) r
+      → FactsReads (aritiesOf l) card (model.facts (aritiesOf l) objects s) r
+  facts-with objects {r} w = subst (λ a. FactsReads a card (model.facts a objects s) r) (arities-part l) w
 
 -- a task is kept as its parts are
 pub task-kept : {l : ArityList} (objects : ℕ) {sl : SchemaList} {fl : FactList} → l ≡ aritiesFor (aritiesOf l)

@@ -6,9 +6,8 @@ use mathlib.Core.List.{List}
 use mathlib.Core.Path.{_≡_, ap, sym, _∙_, fun-ext}
 use lib.Dec.{leb, ltb, eqb, leb·zero}
 use Rattle.model.specs.Answer.{refused, accepted}
-use Rattle.model.specs.Card.{roleCount, byteThat, between, bit, schema}
+use Rattle.model.specs.Card.{roleCount, byteThat, between, bit, schemaLists, schema}
 use Rattle.reader_bytes.proofs.Answers.{goes, halts}
-use Rattle.reader.specs.Parts.{schemaLists}
 
 module _ (present : Bool) (s : List ℕ) where
   -- no role count means 1
@@ -40,7 +39,7 @@ module _ (arities : List ℕ) (s : List ℕ) where
     -- the head is read, and the lists follow
     pub head-read : {parameters : ℕ} (s₂ : List ℕ) → roleCount present s₁ ≡ accepted (parameters, s₂)
         → schema arities s ≡ schemaLists arities bits parameters s₂
-    unfolding schema schemaLists
+    unfolding schema
     head-read s₂ f = goes _ e ∙ goes _ (ap (λ t. roleCount t s₁) (sym p) ∙ f)
 
 -- the number of schemas: 0 to 32

@@ -25,5 +25,5 @@ pub schemas-filled : (arities : List ℕ) {card start : List ℕ} {n i at : ℕ}
     (record { count = n; schemas = array })
 unfolding schemasOf schemasFor
 schemas-filled arities read within done f =
-    accepts (filling-ends _ _ _ _ _ _ _ f done) within
-    (ap₂ {C = SchemaList} (λ n a. record { count = n; schemas = a }) (filled-count _ _ _ _ _ _ _ f done) (filled _ _ _ _ _ _ _ f done))
+    accepts (filling-ends f done) within
+    (ap₂ {C = SchemaList} (λ n a. record { count = n; schemas = a }) (filled-count f done) (filled f done))

@@ -15,16 +15,17 @@ use Rattle.card.specs.Represents.{refusalNumber, atomsOf, atomsFor, schemaOf, s
 use Rattle.reader_bytes.specs.declared.Cursor.{Cursor}
 use Rattle.reader_bytes.specs.declared.Step.{Step}
 use Rattle.reader_bytes.specs.declared.Step.the-variants.{At}
-use Rattle.reader_atoms.specs.declared.Section.the-variants.{Preconditions, Deletes, Adds}
+use Rattle.card.specs.declared.ListField.the-variants.{Preconditions, Deletes, Adds}
+use Rattle.card.specs.Fields.{fieldTest}
 use Rattle.reader_bytes.specs.Reads.{Reads}
-use Rattle.reader_atoms.specs.Atoms.{sectionAtom, sectionTest, AtomsKept}
+use Rattle.reader_atoms.specs.Atoms.{fieldAtom, AtomsKept}
 use Rattle.model.proofs.Answers.{one-value}
 use Rattle.reader_bytes.proofs.Answers.{goes, halts, differ, between-held}
 use Rattle.reader_atoms.proofs.Many.{many-count}
 use Rattle.reader_bytes.proofs.Reading.{refuses, accepted-by, kept-as}
 use Rattle.reader_lists.proofs.AtomLists.{list-absent, list-uncounted, list-counted}
 use Rattle.reader.specs.declared.SchemaRead.{SchemaRead}
-use Rattle.reader.specs.Parts.{schemaLists, schemaRefused, SchemaReads}
+use Rattle.reader.specs.TaskReads.{schemaRefused, SchemaReads}
 
 -- a list of a schema has at most 8 atoms
 list-few : (present : Bool) (read : Option model.Atom → model.Reader model.Atom) (s : List ℕ) {xs : List model.Atom} {rest : List ℕ}
@@ -58,33 +59,33 @@ no-list-kept arities e = subst⁻¹ (λ l. AtomsKept arities l) e (record { few 
 
 module _ (arities : List ℕ) (bits parameters : ℕ) (none-yet : List model.Atom) (s : List ℕ) where
   -- the preconditions are refused
-  pub preconditions-refused : {k : ℕ} → model.list (model.bit 1 bits) (sectionAtom arities parameters Preconditions none-yet) s ≡ refused k
-      → schemaLists arities bits parameters s ≡ refused k
-  unfolding schemaLists sectionAtom sectionTest refusalNumber
+  pub preconditions-refused : {k : ℕ} → model.list (model.bit 1 bits) (fieldAtom arities parameters Preconditions none-yet) s ≡ refused k
+      → model.schemaLists arities bits parameters s ≡ refused k
+  unfolding model.schemaLists fieldAtom fieldTest refusalNumber
   preconditions-refused e = halts _ e
 
   module _ {preconditions : List model.Atom} (s₁ : List ℕ)
-      (e : model.list (model.bit 1 bits) (sectionAtom arities parameters Preconditions none-yet) s ≡ accepted (preconditions, s₁)) where
+      (e : model.list (model.bit 1 bits) (fieldAtom arities parameters Preconditions none-yet) s ≡ accepted (preconditions, s₁)) where
     -- the deletes are refused
-    pub deletes-refused : {k : ℕ} → model.list (model.bit 2 bits) (sectionAtom arities parameters Deletes preconditions) s₁ ≡ refused k
-        → schemaLists arities bits parameters s ≡ refused k
-    unfolding schemaLists sectionAtom sectionTest refusalNumber
+    pub deletes-refused : {k : ℕ} → model.list (model.bit 2 bits) (fieldAtom arities parameters Deletes preconditions) s₁ ≡ refused k
+        → model.schemaLists arities bits parameters s ≡ refused k
+    unfolding model.schemaLists fieldAtom fieldTest refusalNumber
     deletes-refused f = goes _ e ∙ halts _ f
 
     module _ {deletes : List model.Atom} (s₂ : List ℕ)
-        (f : model.list (model.bit 2 bits) (sectionAtom arities parameters Deletes preconditions) s₁ ≡ accepted (deletes, s₂)) where
+        (f : model.list (model.bit 2 bits) (fieldAtom arities parameters Deletes preconditions) s₁ ≡ accepted (deletes, s₂)) where
       -- the adds are refused
-      pub adds-refused : {k : ℕ} → model.list (model.bit 3 bits) (sectionAtom arities parameters Adds preconditions) s₂ ≡ refused k
-          → schemaLists arities bits parameters s ≡ refused k
-      unfolding schemaLists sectionAtom sectionTest refusalNumber
+      pub adds-refused : {k : ℕ} → model.list (model.bit 3 bits) (fieldAtom arities parameters Adds preconditions) s₂ ≡ refused k
+          → model.schemaLists arities bits parameters s ≡ refused k
+      unfolding model.schemaLists fieldAtom fieldTest refusalNumber
       adds-refused g = goes _ e ∙ goes _ f ∙ halts _ g
 
       -- all three are read
       pub lists-read : {adds : List model.Atom} {s₃ : List ℕ}
-          → model.list (model.bit 3 bits) (sectionAtom arities parameters Adds preconditions) s₂ ≡ accepted (adds, s₃)
-          → schemaLists arities bits parameters s
+          → model.list (model.bit 3 bits) (fieldAtom arities parameters Adds preconditions) s₂ ≡ accepted (adds, s₃)
+          → model.schemaLists arities bits parameters s
           ≡ accepted (record { parameters = parameters; preconditions = preconditions; deletes = deletes; adds = adds }, s₃)
-      unfolding schemaLists sectionAtom sectionTest refusalNumber
+      unfolding model.schemaLists fieldAtom fieldTest refusalNumber
       lists-read g = goes _ e ∙ goes _ f ∙ goes _ g
 
 -- a schema is kept as its lists are

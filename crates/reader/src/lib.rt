@@ -1,11 +1,11 @@
 // A card read as a planning task, front to back: the task, or the refusal that reading meets first.
 use card::Decoded;
+use card::ListField;
 use card::Refusal;
 use card::Schema;
 use card::SchemaList;
 use card::Task;
 use card::Verdict;
-use reader_atoms::Section;
 use reader_bytes::ByteRead;
 use reader_bytes::CountRead;
 use reader_bytes::Cursor;
@@ -19,11 +19,10 @@ ghost use mathlib.Core.Path.{_≡_};
 ghost use lib.Dec.{ltb};
 ghost use lib.ListN.{length, drop};
 ghost use Rattle.card.specs.Represents.{blankSchema, schemasFor, Decodes};
-ghost use Rattle.model.specs.Card.{byteThat, roleCount, schema};
+ghost use Rattle.model.specs.Card.{inRange, byteThat, roleCount, schemaLists, schema, predicates};
 ghost use Rattle.reader_bytes.specs.Reads.{ByteReads};
-ghost use Rattle.reader_atoms.specs.Atoms.{inRange};
 ghost use Rattle.reader_lists.specs.ListReads.{AritiesReads};
-ghost use Rattle.reader.specs.Parts.{SchemaReadAt, SchemasReadAt, FactsPartAt, schemaRefused, schemaLists, predicates, decodedRefused};
+ghost use Rattle.reader.specs.TaskReads.{SchemaReadAt, SchemasReadAt, FactsListReadAt, schemaRefused, decodedRefused};
 
 // The bit map of a schema: its high bits are 0.
 fn map_byte(card: &[u8], c: Cursor) -> ByteRead
@@ -94,7 +93,7 @@ fn lists(card: &[u8], c: Cursor, arities: &[u8], map: u8, parameters: usize) -> 
         map / 2 % 2 == 1,
         arities,
         parameters,
-        Section::Preconditions,
+        ListField::Preconditions,
         card::no_atoms(),
     );
     let step = read.step;
@@ -108,7 +107,7 @@ fn lists(card: &[u8], c: Cursor, arities: &[u8], map: u8, parameters: usize) -> 
         map / 4 % 2 == 1,
         arities,
         parameters,
-        Section::Deletes,
+        ListField::Deletes,
         preconditions,
     );
     let step = read.step;
@@ -122,7 +121,7 @@ fn lists(card: &[u8], c: Cursor, arities: &[u8], map: u8, parameters: usize) -> 
         map / 8 % 2 == 1,
         arities,
         parameters,
-        Section::Adds,
+        ListField::Adds,
         preconditions,
     );
     let step = read.step;
@@ -171,7 +170,7 @@ fn no_schemas() -> SchemaList
     }
 }
 
-// The schema count and so many schemas.
+// The schema count, then each schema.
 fn schemas(card: &[u8], c: Cursor, arities: &[u8]) -> SchemasRead
     requires { ⌜ inRange (now arities) ≡ true ⌝ }
     ensures { λ r. ⌜ SchemasReadAt (now (arities .entry)) (now (card .entry)) (c .at) r ⌝ }
@@ -208,7 +207,7 @@ fn schemas(card: &[u8], c: Cursor, arities: &[u8]) -> SchemasRead
     }
 }
 
-// The predicate count and so many arities.
+// The predicate count, then each arity.
 fn predicates(card: &[u8]) -> AritiesRead
     ensures { λ r. ⌜ AritiesReads (now (card .entry)) (predicates (now (card .entry))) r ⌝ }
 {
@@ -228,10 +227,10 @@ fn predicates(card: &[u8]) -> AritiesRead
     reader_lists::arities(card, c, count as usize)
 }
 
-// The fact count and so many facts.
+// The fact count, then each fact.
 fn facts(card: &[u8], c: Cursor, arities: &[u8], objects: usize) -> FactsRead
     requires { ⌜ inRange (now arities) ≡ true ⌝ }
-    ensures { λ r. ⌜ FactsPartAt (now (arities .entry)) objects (now (card .entry)) (c .at) r ⌝ }
+    ensures { λ r. ⌜ FactsListReadAt (now (arities .entry)) objects (now (card .entry)) (c .at) r ⌝ }
 {
     let counted = reader_bytes::fact_count(card, c);
     let CountRead::Count(count, c) = counted else {

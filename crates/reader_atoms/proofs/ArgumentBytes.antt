@@ -1,23 +1,20 @@
 -- An atom's arguments read one by one, and the atom that they make.
-use Prim.Native.Nat.{ℕ, zero, suc, _-_, _≤_, _<_}
+use Prim.Native.Nat.{ℕ, suc, _-_, _≤_}
 use native.Mathlib.Omega.{arith}
-use mathlib.Core.Bool.{Bool, true, false, _&&_, false≢true}
 use mathlib.Core.List.{List, [], _∷_}
 use mathlib.Core.Path.{_≡_, refl, ap, _∙_, sym, subst⁻¹}
-use lib.Dec.{ltb, leb}
-use borrow.Author.Tests.{leb-true}
+use lib.Dec.{ltb}
 use lib.ListN.{length, drop, take, getD}
 use Rattle.model.specs.Answer.{refused, accepted}
 use Rattle.model.specs.Card as model
-use Rattle.model.specs.Card.{Reader, byteThat, atom, between}
-use Rattle.laws.specs.Lists.{all}
+use Rattle.model.specs.Card.{Reader, byteThat, atom}
 use Rattle.card.specs.declared.Atom.{Atom}
 use Rattle.card.specs.Represents.{atomOf, atomFor, blankAtom}
 use Rattle.reader_bytes.specs.declared.Cursor.{Cursor}
 use Rattle.reader_bytes.specs.declared.Step.{Step}
 use Rattle.reader_bytes.specs.declared.Step.the-variants.{At, Refused}
 use Rattle.reader_bytes.specs.Reads.{Reads}
-use Rattle.reader_atoms.specs.Atoms.{argumentBytes, argumentsOf, withArguments, placesOf, inRange}
+use Rattle.reader_atoms.specs.Atoms.{argumentBytes, argumentsOf, withArguments, placesOf}
 use Rattle.reader_bytes.proofs.Answers.{goes, halts}
 use Rattle.reader_atoms.proofs.Many.{many-stops, many-stops-later, many-more, many-none}
 use Rattle.reader_bytes.proofs.Reading.{accepts, refuses, accepted-by, within-card, kept-as, refused-by, blank-by}
@@ -75,19 +72,6 @@ module _ (bound number arity : ℕ) (s : List ℕ) where
     unfolding argumentBytes argumentsOf withArguments atomFor
     three-arguments s₁ s₂ three e f g =
         rw three (accepts (many-more _ _ _ _ e (many-more _ _ _ _ f (many-more _ _ _ _ g (many-none _ _ _)))) within refl)
-
--- an arity in range
-pub in-range : (arities : List ℕ) (i : ℕ) → inRange arities ≡ true → i < length arities → (1 ≤ getD arities i 0) × (getD arities i 0 ≤ 3)
-unfolding inRange all between
-in-range [] i r l = absurd (omega arith)
-in-range (x ∷ xs) i r l = first (leb 1 x) (leb x 3) refl refl (in-range xs) r i l
-  where
-    first : (t u : Bool) → leb 1 x ≡ t → leb x 3 ≡ u → ((i : ℕ) → all (between 1 3) xs ≡ true → i < length xs → (1 ≤ getD xs i 0) × (getD xs i 0 ≤ 3))
-        → ((t && u) && all (between 1 3) xs) ≡ true → (i : ℕ) → i < length (x ∷ xs) → (1 ≤ getD (x ∷ xs) i 0) × (getD (x ∷ xs) i 0 ≤ 3)
-    first true true a b ih r zero l = (leb-true 1 x a, leb-true x 3 b)
-    first true true a b ih r (suc i) l = ih i r (omega arith)
-    first true false a b ih r i l = absurd (false≢true r)
-    first false u a b ih r i l = absurd (false≢true r)
 
 module _ (arities : List ℕ) (bound number : ℕ) (s : List ℕ) where
   -- the predicate byte is refused

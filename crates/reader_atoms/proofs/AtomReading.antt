@@ -11,7 +11,7 @@ use Rattle.reader_bytes.specs.declared.Cursor.{Cursor}
 use Rattle.reader_atoms.specs.declared.AtomRead.{AtomRead}
 use Rattle.reader_atoms.specs.declared.AtomRead.the-variants.{Found, Refused as NoAtom}
 use Rattle.reader_bytes.specs.Reads.{Reads}
-use Rattle.reader_atoms.specs.Atoms.{atomStep, atomIn, refusalOfAtom}
+use Rattle.reader_atoms.specs.Atoms.{atomStep, atomValue, refusalOfAtom}
 use Rattle.reader_bytes.proofs.Reading.{refuses, accepted-by, within-card, kept-as, refused-by}
 
 module _
@@ -21,17 +21,17 @@ module _
     {card : List ℕ}
     {answer : Answer (A × List ℕ)}
     {r : AtomRead}
-    (w : Reads value keep blankAtom card answer (atomStep r) (atomIn r)) where
+    (w : Reads value keep blankAtom card answer (atomStep r) (atomValue r)) where
   -- an atom was read: what that tells
   module _ {a : Atom} {c : Cursor} (e : r ≡ Found a c) where
     pub atom-read : answer ≡ accepted (value a, drop (c .at) card)
-    atom-read = accepted-by w (ap atomStep e) ∙ ap (λ r. accepted (value (atomIn r), drop (c .at) card)) e
+    atom-read = accepted-by w (ap atomStep e) ∙ ap (λ r. accepted (value (atomValue r), drop (c .at) card)) e
 
     pub atom-within : c .at ≤ length card
     atom-within = within-card w (ap atomStep e)
 
     pub atom-kept : a ≡ keep (value a)
-    atom-kept = subst (λ b. b ≡ keep (value b)) (ap atomIn e) (kept-as w (ap atomStep e))
+    atom-kept = subst (λ b. b ≡ keep (value b)) (ap atomValue e) (kept-as w (ap atomStep e))
 
   -- no atom was read
   pub atom-refused : {k : Refusal} → r ≡ NoAtom k → answer ≡ refused (refusalNumber k)
@@ -43,6 +43,6 @@ module _
 
 -- a refused atom is the whole answer
 pub atom-passed-on : {A : Type 0} {value : Atom → A} {keep : A → Atom} {card : List ℕ} {answer : Answer (A × List ℕ)} {r : AtomRead} {k : Refusal}
-    → r ≡ NoAtom k → answer ≡ refused (refusalNumber k) → Reads value keep blankAtom card answer (atomStep r) (atomIn r)
+    → r ≡ NoAtom k → answer ≡ refused (refusalNumber k) → Reads value keep blankAtom card answer (atomStep r) (atomValue r)
 atom-passed-on {value = value} {keep} {card} {answer} e a =
-    subst (λ r. Reads value keep blankAtom card answer (atomStep r) (atomIn r)) (sym e) (refuses a)
+    subst (λ r. Reads value keep blankAtom card answer (atomStep r) (atomValue r)) (sym e) (refuses a)

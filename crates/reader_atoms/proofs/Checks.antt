@@ -14,10 +14,11 @@ use Rattle.card.specs.declared.AtomList.{AtomList}
 use Rattle.card.specs.Represents.{refusalNumber, atomOf, atomFor, atomsOf, atomsFor, padded, blankAtom}
 use Rattle.reader_atoms.specs.declared.Previous.{Previous}
 use Rattle.reader_atoms.specs.declared.Previous.the-variants.{Nothing, Atom as After}
-use Rattle.reader_atoms.specs.declared.Section.{Section}
-use Rattle.reader_atoms.specs.declared.Section.the-variants.{Preconditions, Deletes, Adds}
+use Rattle.card.specs.declared.ListField.{ListField}
+use Rattle.card.specs.declared.ListField.the-variants.{Preconditions, Deletes, Adds}
+use Rattle.card.specs.Fields.{fieldTest, fieldRefusal}
 use Rattle.reader_atoms.specs.Atoms.{previousOf, previousFor, aboveBytes, hasBytes, AtomsKept, PreviousKept}
-use Rattle.reader_atoms.specs.Atoms.{sectionTest, belongsBytes, sectionRefusal, sectionAtom}
+use Rattle.reader_atoms.specs.Atoms.{belongsBytes, fieldAtom}
 use Rattle.model.proofs.Answers.{need-both}
 use Rattle.reader_bytes.proofs.Answers.{goes, halts, fails}
 use Rattle.reader_atoms.proofs.Orders.{Kept, below-bytes, has-bytes}
@@ -53,36 +54,36 @@ module _ {arities : List ℕ} {l : AtomList} (k : AtomsKept arities l) where
       ap length listed-first ∙ length-append listed _ ∙ ap (λ m. length listed + m) (length-replicate _ blankAtom) ∙ sum
 
 -- the check of its own list, by the bytes
-pub belongs-bytes : (arities : List ℕ) (a : Atom) (section : Section) (l : AtomList) → Kept arities a → AtomsKept arities l
-    → sectionTest section (atomsOf arities l) (atomOf arities a) ≡ belongsBytes section l a
-unfolding sectionTest atomsOf hasBytes
+pub belongs-bytes : (arities : List ℕ) (a : Atom) (field : ListField) (l : AtomList) → Kept arities a → AtomsKept arities l
+    → fieldTest field (atomsOf arities l) (atomOf arities a) ≡ belongsBytes field l a
+unfolding fieldTest atomsOf hasBytes
 belongs-bytes arities a Preconditions l ka k = refl
 belongs-bytes arities a Deletes l ka k = has-bytes arities a _ ka (list-exact k)
 belongs-bytes arities a Adds l ka k = ap not (has-bytes arities a _ ka (list-exact k))
 
-module _ (arities : List ℕ) (parameters : ℕ) (section : Section) (preconditions : List model.Atom) (previous : Option model.Atom) (s : List ℕ) where
+module _ (arities : List ℕ) (parameters : ℕ) (field : ListField) (preconditions : List model.Atom) (previous : Option model.Atom) (s : List ℕ) where
   -- the atom is refused
-  pub section-ends : {k : ℕ} → model.atom arities parameters 7 s ≡ refused k
-      → sectionAtom arities parameters section preconditions previous s ≡ refused k
-  unfolding sectionAtom model.schemaAtom
-  section-ends e = halts _ e
+  pub field-ends : {k : ℕ} → model.atom arities parameters 7 s ≡ refused k
+      → fieldAtom arities parameters field preconditions previous s ≡ refused k
+  unfolding fieldAtom model.schemaAtom
+  field-ends e = halts _ e
 
   module _ {a : model.Atom} {s₁ : List ℕ} (e : model.atom arities parameters 7 s ≡ accepted (a, s₁)) where
     -- 8: it is not above the one before
-    pub section-unordered : model.above previous a ≡ false → sectionAtom arities parameters section preconditions previous s ≡ refused 8
-    unfolding sectionAtom model.schemaAtom
-    section-unordered o = goes _ e ∙ fails _ _ o
+    pub field-unordered : model.above previous a ≡ false → fieldAtom arities parameters field preconditions previous s ≡ refused 8
+    unfolding fieldAtom model.schemaAtom
+    field-unordered o = goes _ e ∙ fails _ _ o
 
     -- 9, 10: its own list's check fails
-    pub section-strange : model.above previous a ≡ true → sectionTest section preconditions a ≡ false
-        → sectionAtom arities parameters section preconditions previous s ≡ refused (refusalNumber (sectionRefusal section))
-    unfolding sectionAtom model.schemaAtom
-    section-strange o t = goes _ e ∙ need-both _ _ o ∙ fails _ _ t
+    pub field-strange : model.above previous a ≡ true → fieldTest field preconditions a ≡ false
+        → fieldAtom arities parameters field preconditions previous s ≡ refused (refusalNumber (fieldRefusal field))
+    unfolding fieldAtom model.schemaAtom
+    field-strange o t = goes _ e ∙ need-both _ _ o ∙ fails _ _ t
 
-    pub section-passes : model.above previous a ≡ true → sectionTest section preconditions a ≡ true
-        → sectionAtom arities parameters section preconditions previous s ≡ accepted (a, s₁)
-    unfolding sectionAtom model.schemaAtom
-    section-passes o t = goes _ e ∙ need-both _ _ o ∙ need-both _ _ t
+    pub field-passes : model.above previous a ≡ true → fieldTest field preconditions a ≡ true
+        → fieldAtom arities parameters field preconditions previous s ≡ accepted (a, s₁)
+    unfolding fieldAtom model.schemaAtom
+    field-passes o t = goes _ e ∙ need-both _ _ o ∙ need-both _ _ t
 
 module _ (arities : List ℕ) (objects : ℕ) (previous : Option model.Atom) (s : List ℕ) where
   -- the fact is refused

@@ -67,84 +67,85 @@ module _ {A B : Type 0} (value : B → A) (keep : A → B) (blank : B) (size : �
         blanks = ap (λ m. replicate m blank) (sym none-full);
       }
 
-  module _ {array : List B} {i : ℕ} {s : List ℕ} (f : Filling array i s) where
-    -- an item is refused: so is the whole
-    pub filling-stops : {k : ℕ} → i < n → read (lastOf none (map value (take i array))) s ≡ refused k → many read none n start ≡ refused k
-    unfolding prepend
-    filling-stops more e =
-        let one : n - i ≡ suc (n - suc i) = omega arith in
-        sym (f .left) ∙ ap (λ m. prepend (map value (take i array)) (many read (lastOf none (map value (take i array))) m s)) one
-        ∙ ap (prepend (map value (take i array))) (many-stops _ _ _ _ e)
+module _ {A B : Type 0} {value : B → A} {keep : A → B} {blank : B} {size : ℕ} {read : Option A → Reader A} {n : ℕ} {start : List ℕ}
+    {array : List B} {i : ℕ} {s : List ℕ} (f : Filling value keep blank size read n start array i s) where
+  -- an item is refused: so is the whole
+  pub filling-stops : {k : ℕ} → i < n → read (lastOf none (map value (take i array))) s ≡ refused k → many read none n start ≡ refused k
+  unfolding prepend
+  filling-stops more e =
+      let one : n - i ≡ suc (n - suc i) = omega arith in
+      sym (f .left) ∙ ap (λ m. prepend (map value (take i array)) (many read (lastOf none (map value (take i array))) m s)) one
+      ∙ ap (prepend (map value (take i array))) (many-stops _ _ _ _ e)
 
-    -- the item that is stored is then the last
-    pub filling-last : (b : B) → i < n → lastOf none (map value (take (i + 1) (set array i b))) ≡ some (value b)
-    filling-last b more =
-        let there : i < length array = omega (arith, f .long, f .room) in
-        let taken : take (i + 1) (set array i b) ≡ take i array ++ b ∷ [] = rw (add-one i) (take-suc-set array i b there) in
-        ap (λ xs. lastOf none (map value xs)) taken
-        ∙ ap (lastOf none) (map-append value (take i array) (b ∷ []))
-        ∙ lastOf-snoc none (map value (take i array)) (value b)
+  -- the item that is stored is then the last
+  pub filling-last : (b : B) → i < n → lastOf none (map value (take (i + 1) (set array i b))) ≡ some (value b)
+  filling-last b more =
+      let there : i < length array = omega (arith, f .long, f .room) in
+      let taken : take (i + 1) (set array i b) ≡ take i array ++ b ∷ [] = rw (add-one i) (take-suc-set array i b there) in
+      ap (λ xs. lastOf none (map value xs)) taken
+      ∙ ap (lastOf none) (map-append value (take i array) (b ∷ []))
+      ∙ lastOf-snoc none (map value (take i array)) (value b)
 
-    -- an item is read and stored
-    pub filling-goes-on : {b : B} {s₁ : List ℕ} → i < n → read (lastOf none (map value (take i array))) s ≡ accepted (value b, s₁)
-        → b ≡ keep (value b) → Filling (set array i b) (i + 1) s₁
-    unfolding many
-    filling-goes-on {b} {s₁} more e k =
-        let there : i < length array = omega (arith, f .long, f .room) in
-        let taken : take (i + 1) (set array i b) ≡ take i array ++ b ∷ [] = rw (add-one i) (take-suc-set array i b there) in
-        let valued : map value (take (i + 1) (set array i b)) ≡ map value (take i array) ++ value b ∷ [] =
-        ap (map value) taken ∙ map-append value (take i array) (b ∷ []) in
-        let one : n - i ≡ suc (n - (i + 1)) = omega arith in
-        let gap : size - i ≡ suc (size - (i + 1)) = omega (arith, f .room) in
-        let rest : ℕ → Answer (List A × List ℕ) = λ m. prepend (map value (take i array)) (many read (lastOf none (map value (take i array))) m s) in
-        let next : List A → Answer (List A × List ℕ) = λ ys. prepend ys (many read (lastOf none ys) (n - (i + 1)) s₁) in
-        record {
-          far = omega arith;
-          room = f .room;
-          long = length-set array i b ∙ f .long;
-          left =
-              ap next valued
-              ∙ ap (λ p. prepend (map value (take i array) ++ value b ∷ []) (many read p (n - (i + 1)) s₁))
-              (lastOf-snoc none (map value (take i array)) (value b))
-              ∙ sym (prepend-next (map value (take i array)) (value b) (many read (some (value b)) (n - (i + 1)) s₁))
-              ∙ ap (prepend (map value (take i array))) (sym (goes _ e))
-              ∙ ap rest (sym one)
-              ∙ f .left;
-          exact =
-              ap (map keep) valued
-              ∙ map-append keep (map value (take i array)) (value b ∷ [])
-              ∙ ap₂ (λ xs x. xs ++ x ∷ []) (f .exact) (sym k)
-              ∙ sym taken;
-          blanks =
-              drop-set-lt (i + 1) array i b (omega arith)
-              ∙ sym (drop-drop 1 i array)
-              ∙ ap (drop 1) (f .blanks ∙ ap (λ m. replicate m blank) gap);
-        }
+  -- an item is read and stored
+  pub filling-goes-on : {b : B} {s₁ : List ℕ} → i < n → read (lastOf none (map value (take i array))) s ≡ accepted (value b, s₁)
+      → b ≡ keep (value b) → Filling value keep blank size read n start (set array i b) (i + 1) s₁
+  unfolding many
+  filling-goes-on {b} {s₁} more e k =
+      let there : i < length array = omega (arith, f .long, f .room) in
+      let taken : take (i + 1) (set array i b) ≡ take i array ++ b ∷ [] = rw (add-one i) (take-suc-set array i b there) in
+      let valued : map value (take (i + 1) (set array i b)) ≡ map value (take i array) ++ value b ∷ [] =
+      ap (map value) taken ∙ map-append value (take i array) (b ∷ []) in
+      let one : n - i ≡ suc (n - (i + 1)) = omega arith in
+      let gap : size - i ≡ suc (size - (i + 1)) = omega (arith, f .room) in
+      let rest : ℕ → Answer (List A × List ℕ) = λ m. prepend (map value (take i array)) (many read (lastOf none (map value (take i array))) m s) in
+      let next : List A → Answer (List A × List ℕ) = λ ys. prepend ys (many read (lastOf none ys) (n - (i + 1)) s₁) in
+      record {
+        far = omega arith;
+        room = f .room;
+        long = length-set array i b ∙ f .long;
+        left =
+            ap next valued
+            ∙ ap (λ p. prepend (map value (take i array) ++ value b ∷ []) (many read p (n - (i + 1)) s₁))
+            (lastOf-snoc none (map value (take i array)) (value b))
+            ∙ sym (prepend-next (map value (take i array)) (value b) (many read (some (value b)) (n - (i + 1)) s₁))
+            ∙ ap (prepend (map value (take i array))) (sym (goes _ e))
+            ∙ ap rest (sym one)
+            ∙ f .left;
+        exact =
+            ap (map keep) valued
+            ∙ map-append keep (map value (take i array)) (value b ∷ [])
+            ∙ ap₂ (λ xs x. xs ++ x ∷ []) (f .exact) (sym k)
+            ∙ sym taken;
+        blanks =
+            drop-set-lt (i + 1) array i b (omega arith)
+            ∙ sym (drop-drop 1 i array)
+            ∙ ap (drop 1) (f .blanks ∙ ap (λ m. replicate m blank) gap);
+      }
 
-    module _ (done : n ≤ i) where
-      -- all is read
-      pub filling-ends : many read none n start ≡ accepted (map value (take n array), s)
-      unfolding many prepend
-      filling-ends =
-          let all : i ≡ n = omega (arith, f .far) in
-          let none-left : n - i ≡ 0 = omega arith in
-          sym (f .left)
-          ∙ ap (λ m. prepend (map value (take i array)) (many read (lastOf none (map value (take i array))) m s)) none-left
-          ∙ ap (λ xs. accepted (xs, s)) (append-nil (map value (take i array)) ∙ ap (λ m. map value (take m array)) all)
+  module _ (done : n ≤ i) where
+    -- all is read
+    pub filling-ends : many read none n start ≡ accepted (map value (take n array), s)
+    unfolding many prepend
+    filling-ends =
+        let all : i ≡ n = omega (arith, f .far) in
+        let none-left : n - i ≡ 0 = omega arith in
+        sym (f .left)
+        ∙ ap (λ m. prepend (map value (take i array)) (many read (lastOf none (map value (take i array))) m s)) none-left
+        ∙ ap (λ xs. accepted (xs, s)) (append-nil (map value (take i array)) ∙ ap (λ m. map value (take m array)) all)
 
-      -- there are as many items as were asked for
-      pub filled-count : n ≡ length (map value (take n array))
-      filled-count =
-          let counted : length (take n array) ≡ n = length-take n array ∙ rw (f .long) (omega (arith, f .room)) in
-          sym (length-map (take n array) value ∙ counted)
+    -- there are as many items as were asked for
+    pub filled-count : n ≡ length (map value (take n array))
+    filled-count =
+        let counted : length (take n array) ≡ n = length-take n array ∙ rw (f .long) (omega (arith, f .room)) in
+        sym (length-map (take n array) value ∙ counted)
 
-      -- the array holds them, and blanks after them
-      pub filled : array ≡ padded size blank (map keep (map value (take n array)))
-      unfolding padded
-      filled =
-          let all : i ≡ n = omega (arith, f .far) in
-          let exact : map keep (map value (take n array)) ≡ take n array =
-          subst (λ m. map keep (map value (take m array)) ≡ take m array) all (f .exact) in
-          let blanks : drop n array ≡ replicate (size - n) blank = subst (λ m. drop m array ≡ replicate (size - m) blank) all (f .blanks) in
-          let counted : length (map keep (map value (take n array))) ≡ n = length-map (map value (take n array)) keep ∙ sym filled-count in
-          sym (take-append-drop n array) ∙ ap₂ _++_ (sym exact) (blanks ∙ ap (λ m. replicate (size - m) blank) (sym counted))
+    -- the array holds them, and blanks after them
+    pub filled : array ≡ padded size blank (map keep (map value (take n array)))
+    unfolding padded
+    filled =
+        let all : i ≡ n = omega (arith, f .far) in
+        let exact : map keep (map value (take n array)) ≡ take n array =
+        subst (λ m. map keep (map value (take m array)) ≡ take m array) all (f .exact) in
+        let blanks : drop n array ≡ replicate (size - n) blank = subst (λ m. drop m array ≡ replicate (size - m) blank) all (f .blanks) in
+        let counted : length (map keep (map value (take n array))) ≡ n = length-map (map value (take n array)) keep ∙ sym filled-count in
+        sym (take-append-drop n array) ∙ ap₂ _++_ (sym exact) (blanks ∙ ap (λ m. replicate (size - m) blank) (sym counted))

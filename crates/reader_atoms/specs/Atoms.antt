@@ -6,13 +6,16 @@ use mathlib.Core.Option.{Option, none, some}
 use mathlib.Core.Path.{_≡_}
 use lib.Dec.{ltb}
 use lib.ListN.{take, drop}
-use Rattle.laws.specs.Lists.{any, all, same, before}
+use Rattle.laws.specs.Lists.{any, same, before}
 use Rattle.model.specs.Answer.{Answer}
 use Rattle.model.specs.Card as model
 use Rattle.card.specs.declared.Atom.{Atom}
 use Rattle.card.specs.declared.AtomList.{AtomList}
+use Rattle.card.specs.declared.ListField.{ListField}
+use Rattle.card.specs.declared.ListField.the-variants.{Preconditions, Deletes, Adds}
 use Rattle.card.specs.declared.Refusal.{Refusal}
-use Rattle.card.specs.declared.Refusal.the-variants.{CardEnds, AtomOrder, DeleteNotPrecondition, AddIsPrecondition}
+use Rattle.card.specs.declared.Refusal.the-variants.{CardEnds}
+use Rattle.card.specs.Fields.{fieldTest, fieldRefusal}
 use Rattle.card.specs.Represents.{atomOf, atomFor, atomsOf, atomsFor, blankAtom, refusalNumber}
 use Rattle.reader_bytes.specs.declared.Step.{Step}
 use Rattle.reader_bytes.specs.declared.Step.the-variants.{At, Refused}
@@ -20,30 +23,24 @@ use Rattle.reader_atoms.specs.declared.AtomRead.{AtomRead}
 use Rattle.reader_atoms.specs.declared.AtomRead.the-variants.{Found, Refused as NoAtom}
 use Rattle.reader_atoms.specs.declared.Previous.{Previous}
 use Rattle.reader_atoms.specs.declared.Previous.the-variants.{Nothing, Atom as After}
-use Rattle.reader_atoms.specs.declared.Section.{Section}
-use Rattle.reader_atoms.specs.declared.Section.the-variants.{Preconditions, Deletes, Adds}
 use Rattle.reader_bytes.specs.Reads.{Reads}
 
 abbrev pub atomStep : AtomRead → Step
 atomStep (Found a c) = At c
 atomStep (NoAtom r) = Refused r
 
-abbrev pub atomIn : AtomRead → Atom
-atomIn (Found a c) = a
-atomIn (NoAtom r) = blankAtom
+abbrev pub atomValue : AtomRead → Atom
+atomValue (Found a c) = a
+atomValue (NoAtom r) = blankAtom
 
 -- the code's whole answer where an atom is due
 abbrev pub AtomReads : List ℕ → List ℕ → Answer (model.Atom × List ℕ) → AtomRead → Type 0
-AtomReads arities card answer r = Reads (atomOf arities) atomFor blankAtom card answer (atomStep r) (atomIn r)
+AtomReads arities card answer r = Reads (atomOf arities) atomFor blankAtom card answer (atomStep r) (atomValue r)
 
 -- the refusal that a refused read carries
 abbrev pub refusalOfAtom : AtomRead → Refusal
 refusalOfAtom (Found a c) = CardEnds
 refusalOfAtom (NoAtom r) = r
-
--- every arity is 1 to 3
-unfoldable pub inRange : List ℕ → Bool
-inRange arities = all (model.between 1 3) arities
 
 -- the arguments' bytes of an atom of that arity
 unfoldable pub argumentBytes : ℕ → ℕ → ℕ → model.Reader (List ℕ)
@@ -60,7 +57,7 @@ withArguments predicate arguments = atomFor (record { predicate = predicate; arg
 
 -- the code's whole answer where the arguments of an atom are due
 abbrev pub ArgumentsRead : ℕ → ℕ → List ℕ → Answer (List ℕ × List ℕ) → AtomRead → Type 0
-ArgumentsRead predicate arity card answer r = Reads (argumentsOf arity) (withArguments predicate) blankAtom card answer (atomStep r) (atomIn r)
+ArgumentsRead predicate arity card answer r = Reads (argumentsOf arity) (withArguments predicate) blankAtom card answer (atomStep r) (atomValue r)
 
 -- the four bytes of an atom
 abbrev pub bytesOf : Atom → List ℕ
@@ -84,26 +81,16 @@ abbrev pub aboveBytes : Previous → Atom → Bool
 aboveBytes Nothing a = true
 aboveBytes (After b) a = before (bytesOf b) (bytesOf a)
 
--- the check of each list: preconditions none, deletes 9, adds 10
-unfoldable pub sectionTest : Section → List model.Atom → model.Atom → Bool
-sectionTest Preconditions preconditions = λ a. true
-sectionTest Deletes preconditions = model.has preconditions
-sectionTest Adds preconditions = λ a. not (model.has preconditions a)
-
-abbrev pub belongsBytes : Section → AtomList → Atom → Bool
+-- the test of each list, by bytes
+abbrev pub belongsBytes : ListField → AtomList → Atom → Bool
 belongsBytes Preconditions preconditions a = true
 belongsBytes Deletes preconditions a = hasBytes preconditions a
 belongsBytes Adds preconditions a = not (hasBytes preconditions a)
 
-abbrev pub sectionRefusal : Section → Refusal
-sectionRefusal Preconditions = AtomOrder
-sectionRefusal Deletes = DeleteNotPrecondition
-sectionRefusal Adds = AddIsPrecondition
-
 -- an atom of that list
-unfoldable pub sectionAtom : List ℕ → ℕ → Section → List model.Atom → Option model.Atom → model.Reader model.Atom
-sectionAtom arities parameters section preconditions previous =
-    model.schemaAtom arities parameters (sectionTest section preconditions) (refusalNumber (sectionRefusal section)) previous
+unfoldable pub fieldAtom : List ℕ → ℕ → ListField → List model.Atom → Option model.Atom → model.Reader model.Atom
+fieldAtom arities parameters field preconditions previous =
+    model.schemaAtom arities parameters (fieldTest field preconditions) (refusalNumber (fieldRefusal field)) previous
 
 -- a list and a previous atom as the reader keeps them: places past an arity or a count hold blanks
 pub record AtomsKept (arities : List ℕ) (l : AtomList) : Type 0 where
@@ -121,9 +108,9 @@ ArgumentsReadAt predicate arity bound refusal card at r =
 abbrev pub AtomReadAt : List ℕ → ℕ → Refusal → List ℕ → ℕ → AtomRead → Type 0
 AtomReadAt arities bound refusal card at r = AtomReads arities card (model.atom arities bound (refusalNumber refusal) (drop at card)) r
 
-abbrev pub SectionAtomReadAt : List ℕ → ℕ → Section → AtomList → Previous → List ℕ → ℕ → AtomRead → Type 0
-SectionAtomReadAt arities parameters section preconditions previous card at r =
-    let read = sectionAtom arities parameters section (atomsOf arities preconditions) (previousOf arities previous) in
+abbrev pub SchemaAtomReadAt : List ℕ → ℕ → ListField → AtomList → Previous → List ℕ → ℕ → AtomRead → Type 0
+SchemaAtomReadAt arities parameters field preconditions previous card at r =
+    let read = fieldAtom arities parameters field (atomsOf arities preconditions) (previousOf arities previous) in
     AtomReads arities card (read (drop at card)) r
 
 abbrev pub FactReadAt : List ℕ → ℕ → Previous → List ℕ → ℕ → AtomRead → Type 0

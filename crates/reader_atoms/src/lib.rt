@@ -1,6 +1,7 @@
 // An atom of a schema and a fact, read from a card. Each read answers an enum: a value with the cursor after it, or the refusal.
 use card::Atom;
 use card::AtomList;
+use card::ListField;
 use card::Refusal;
 use reader_bytes::ByteRead;
 use reader_bytes::Cursor;
@@ -9,8 +10,10 @@ ghost use mathlib.Core.Bool.{true};
 ghost use mathlib.Core.Path.{_≡_};
 ghost use lib.ListN.{length};
 ghost use Rattle.laws.specs.Lists.{same, before};
-ghost use Rattle.reader_atoms.specs.Atoms.{ArgumentsReadAt, AtomReadAt, SectionAtomReadAt, FactReadAt, AtomsKept, PreviousKept};
-ghost use Rattle.reader_atoms.specs.Atoms.{inRange, bytesOf, hasBytes, aboveBytes, belongsBytes, refusalOfAtom, sectionRefusal};
+ghost use Rattle.model.specs.Card.{inRange};
+ghost use Rattle.card.specs.Fields.{fieldRefusal};
+ghost use Rattle.reader_atoms.specs.Atoms.{ArgumentsReadAt, AtomReadAt, SchemaAtomReadAt, FactReadAt, AtomsKept, PreviousKept};
+ghost use Rattle.reader_atoms.specs.Atoms.{bytesOf, hasBytes, aboveBytes, belongsBytes, refusalOfAtom};
 
 pub enum AtomRead {
     Found(Atom, Cursor),
@@ -163,33 +166,26 @@ fn is_above(previous: Previous, a: Atom) -> bool
     }
 }
 
-// The three lists of a schema.
-pub enum Section {
-    Preconditions,
-    Deletes,
-    Adds,
-}
-
 // The atom passes the check of its own list: a deleted atom is a precondition, an added one is none.
-fn belongs(section: Section, preconditions: AtomList, a: Atom) -> bool
+fn belongs(field: ListField, preconditions: AtomList, a: Atom) -> bool
     requires { ⌜ (preconditions .count ≤ 8) × (length (preconditions .atoms) ≡ 8) ⌝ }
-    ensures { λ r. ⌜ r ≡ belongsBytes section preconditions a ⌝ }
+    ensures { λ r. ⌜ r ≡ belongsBytes field preconditions a ⌝ }
 {
-    match section {
-        Section::Preconditions => true,
-        Section::Deletes => has(preconditions, a),
-        Section::Adds => !has(preconditions, a),
+    match field {
+        ListField::Preconditions => true,
+        ListField::Deletes => has(preconditions, a),
+        ListField::Adds => !has(preconditions, a),
     }
 }
 
 // The refusal of an atom that does not pass it.
-fn refusal_of(section: Section) -> Refusal
-    ensures { λ r. ⌜ r ≡ sectionRefusal section ⌝ }
+fn refusal_of(field: ListField) -> Refusal
+    ensures { λ r. ⌜ r ≡ fieldRefusal field ⌝ }
 {
-    match section {
-        Section::Preconditions => Refusal::AtomOrder,
-        Section::Deletes => Refusal::DeleteNotPrecondition,
-        Section::Adds => Refusal::AddIsPrecondition,
+    match field {
+        ListField::Preconditions => Refusal::AtomOrder,
+        ListField::Deletes => Refusal::DeleteNotPrecondition,
+        ListField::Adds => Refusal::AddIsPrecondition,
     }
 }
 
@@ -199,12 +195,12 @@ pub fn schema_atom(
     c: Cursor,
     arities: &[u8],
     parameters: usize,
-    section: Section,
+    field: ListField,
     preconditions: AtomList,
     previous: Previous,
 ) -> AtomRead
     requires { ⌜ (inRange (now arities) ≡ true) × AtomsKept (now arities) preconditions × PreviousKept (now arities) previous ⌝ }
-    ensures { λ r. ⌜ SectionAtomReadAt (now (arities .entry)) parameters section preconditions previous (now (card .entry)) (c .at) r ⌝ }
+    ensures { λ r. ⌜ SchemaAtomReadAt (now (arities .entry)) parameters field preconditions previous (now (card .entry)) (c .at) r ⌝ }
 {
     let read = atom(card, c, arities, parameters, Refusal::AtomUnknown);
     let AtomRead::Found(a, _) = read else {
@@ -213,8 +209,8 @@ pub fn schema_atom(
     if !is_above(previous, a) {
         return AtomRead::Refused(Refusal::AtomOrder);
     }
-    if !belongs(section, preconditions, a) {
-        return AtomRead::Refused(refusal_of(section));
+    if !belongs(field, preconditions, a) {
+        return AtomRead::Refused(refusal_of(field));
     }
     read
 }

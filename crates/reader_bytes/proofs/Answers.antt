@@ -25,12 +25,6 @@ pub fails : {A : Type 0} {t : Bool} (n : ℕ) (y : Answer A) → t ≡ false →
 unfolding _>>_ need
 fails n y e = ap (λ t. need t n >> y) e
 
--- what follows in two parts follows whole
-pub regroup : {A B C : Type 0} (x : Answer A) (f : A → Answer B) (g : B → Answer C) → ((x >>= f) >>= g) ≡ (x >>= λ a. f a >>= g)
-unfolding _>>=_
-regroup (refused n) f g = refl
-regroup (accepted a) f g = refl
-
 -- a byte that has to pass a test: the card ends, the byte passes, or it fails
 module _ (test : ℕ → Bool) (number : ℕ) (s : List ℕ) where
   pub byteThat-ends : {n : ℕ} → byte s ≡ refused n → byteThat test number s ≡ refused n

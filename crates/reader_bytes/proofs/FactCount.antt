@@ -16,7 +16,7 @@ use Rattle.reader_bytes.proofs.Answers.{goes, halts, fails, differ}
 use Rattle.reader_bytes.proofs.Reading.{accepted-by, within-card, refused-by}
 use Rattle.reader_bytes.specs.declared.CountRead.{CountRead}
 use Rattle.reader_bytes.specs.declared.CountRead.the-variants.{Count, Refused as NoCount}
-use Rattle.reader_bytes.specs.Reads.{CountReads, countStep, countIn, refusalOfCount}
+use Rattle.reader_bytes.specs.Reads.{CountReads, countStep, countValue, refusalOfCount}
 
 module _ (s : List ℕ) where
   -- the card ends at the high byte
@@ -57,7 +57,7 @@ count-held (high ∷ low ∷ s) {n} {rest} e = tested (leb (high * 256 + low) 51
 -- what a read of the count answers
 module _ {card : List ℕ} {answer : Answer (ℕ × List ℕ)} {r : CountRead} (w : CountReads card answer r) where
   pub count-found : {n : ℕ} {c : Cursor} → r ≡ Count n c → answer ≡ accepted (n, drop (c .at) card)
-  count-found {c = c} e = accepted-by w (ap countStep e) ∙ ap (λ r. accepted (countIn r, drop (c .at) card)) e
+  count-found {c = c} e = accepted-by w (ap countStep e) ∙ ap (λ r. accepted (countValue r, drop (c .at) card)) e
 
   pub count-within : {n : ℕ} {c : Cursor} → r ≡ Count n c → c .at ≤ length card
   count-within e = within-card w (ap countStep e)

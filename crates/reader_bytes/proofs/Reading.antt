@@ -15,18 +15,18 @@ use Rattle.reader_bytes.specs.declared.Step.{Step}
 use Rattle.reader_bytes.specs.declared.Step.the-variants.{At, Refused}
 use Rattle.reader_bytes.specs.declared.ByteRead.{ByteRead}
 use Rattle.reader_bytes.specs.declared.ByteRead.the-variants.{Byte, Refused as NoByte}
-use Rattle.reader_bytes.specs.Reads.{Reads, told, place, beside, ByteReads, byteStep, byteIn, refusalOfByte, refusalOfStep}
+use Rattle.reader_bytes.specs.Reads.{Reads, told, endOf, beside, ByteReads, byteStep, byteValue, refusalOfByte, refusalOfStep}
 
 module _ {A B : Type 0} {value : B → A} {keep : A → B} {blank : B} {card : List ℕ} {answer : Answer (A × List ℕ)} where
   -- a value read: its place is on the card, and it is kept as values are
   pub accepts : {c : Cursor} {kept : B} → answer ≡ accepted (value kept, drop (c .at) card) → c .at ≤ length card
       → kept ≡ keep (value kept) → Reads value keep blank card answer (At c) kept
-  unfolding told place beside
+  unfolding told endOf beside
   accepts {c} {kept} e w k = record { says = e; within = w; keeps = k ∙ ap (beside keep blank) (sym e) }
 
   -- a refusal, with the blank beside it
   pub refuses : {r : Refusal} → answer ≡ refused (refusalNumber r) → Reads value keep blank card answer (Refused r) blank
-  unfolding told place beside
+  unfolding told endOf beside
   refuses e = record { says = e; within = omega arith; keeps = ap (beside keep blank) (sym e) }
 
   -- a refusal, with a value beside it that is the blank
@@ -54,8 +54,8 @@ module _ {A B : Type 0} {value : B → A} {keep : A → B} {blank : B} {card : L
   accepted-by {kept = kept} r e = r .says ∙ ap (λ s. told card s (value kept)) e
 
   pub within-card : {step : Step} {kept : B} {c : Cursor} → Reads value keep blank card answer step kept → step ≡ At c → c .at ≤ length card
-  unfolding place
-  within-card r e = subst (λ s. place s ≤ length card) e (r .within)
+  unfolding endOf
+  within-card r e = subst (λ s. endOf s ≤ length card) e (r .within)
 
   -- what was read is kept as values are
   pub kept-as : {step : Step} {kept : B} {c : Cursor} → Reads value keep blank card answer step kept → step ≡ At c → kept ≡ keep (value kept)
@@ -76,7 +76,7 @@ module _ {A B : Type 0} {value : B → A} {keep : A → B} {blank : B} {card : L
 -- a byte was read: what that tells
 module _ {card : List ℕ} {answer : Answer (ℕ × List ℕ)} {r : ByteRead} {b : ℕ} {c : Cursor} (w : ByteReads card answer r) (e : r ≡ Byte b c) where
   pub byte-read : answer ≡ accepted (b, drop (c .at) card)
-  byte-read = accepted-by w (ap byteStep e) ∙ ap (λ r. accepted (byteIn r, drop (c .at) card)) e
+  byte-read = accepted-by w (ap byteStep e) ∙ ap (λ r. accepted (byteValue r, drop (c .at) card)) e
 
   pub byte-within : c .at ≤ length card
   byte-within = within-card w (ap byteStep e)

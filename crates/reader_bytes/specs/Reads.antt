@@ -20,9 +20,9 @@ told card (At c) a = accepted (a, drop (c .at) card)
 told card (Refused r) a = refused (refusalNumber r)
 
 -- the place that a read ends at
-unfoldable pub place : Step → ℕ
-place (At c) = c .at
-place (Refused r) = 0
+unfoldable pub endOf : Step → ℕ
+endOf (At c) = c .at
+endOf (Refused r) = 0
 
 -- what the code keeps of an answer: its value, or the blank beside a refusal
 unfoldable pub beside : {A B : Type 0} → (A → B) → B → Answer (A × List ℕ) → B
@@ -40,7 +40,7 @@ pub record Reads
     (step : Step)
     (kept : B) : Type 0 where
   pub says : answer ≡ told card step (value kept)
-  pub within : place step ≤ length card
+  pub within : endOf step ≤ length card
   pub keeps : kept ≡ beside keep blank answer
 
 -- the refusal that a refused read carries
@@ -52,12 +52,12 @@ abbrev pub byteStep : ByteRead → Step
 byteStep (Byte b c) = At c
 byteStep (NoByte r) = Refused r
 
-abbrev pub byteIn : ByteRead → ℕ
-byteIn (Byte b c) = b
-byteIn (NoByte r) = 0
+abbrev pub byteValue : ByteRead → ℕ
+byteValue (Byte b c) = b
+byteValue (NoByte r) = 0
 
 abbrev pub ByteReads : List ℕ → Answer (ℕ × List ℕ) → ByteRead → Type 0
-ByteReads card answer r = Reads (λ b. b) (λ b. b) 0 card answer (byteStep r) (byteIn r)
+ByteReads card answer r = Reads (λ b. b) (λ b. b) 0 card answer (byteStep r) (byteValue r)
 
 abbrev pub refusalOfByte : ByteRead → Refusal
 refusalOfByte (Byte b c) = CardEnds
@@ -67,13 +67,13 @@ abbrev pub countStep : CountRead → Step
 countStep (Count n c) = At c
 countStep (NoCount r) = Refused r
 
-abbrev pub countIn : CountRead → ℕ
-countIn (Count n c) = n
-countIn (NoCount r) = 0
+abbrev pub countValue : CountRead → ℕ
+countValue (Count n c) = n
+countValue (NoCount r) = 0
 
 -- the code's whole answer where the fact count is due
 abbrev pub CountReads : List ℕ → Answer (ℕ × List ℕ) → CountRead → Type 0
-CountReads card answer r = Reads (λ n. n) (λ n. n) 0 card answer (countStep r) (countIn r)
+CountReads card answer r = Reads (λ n. n) (λ n. n) 0 card answer (countStep r) (countValue r)
 
 abbrev pub refusalOfCount : CountRead → Refusal
 refusalOfCount (Count n c) = CardEnds

@@ -30,7 +30,7 @@ module _ (present : Bool) (read : Option model.Atom → model.Reader model.Atom)
   unfolding model.list
   list-uncounted p e = ap (λ p. model.list p read s) p ∙ halts _ e
 
-  -- its bit stands, and its count is read: so many atoms follow
+  -- its bit stands, and its count is read: as many atoms follow
   pub list-counted : {n : ℕ} {s₁ : List ℕ} → present ≡ true → model.byteThat (model.between 1 8) 6 s ≡ accepted (n, s₁)
       → model.list present read s ≡ model.many read none n s₁
   unfolding model.list

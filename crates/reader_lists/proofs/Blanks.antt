@@ -36,8 +36,8 @@ module _ {card start : List ℕ} {n i at : ℕ} (within : at ≤ length card) (d
         (record { count = n; atoms = array })
     unfolding atomsOf atomsFor
     atoms-filled f =
-        accepts (filling-ends _ _ _ _ _ _ _ f done) within
-        (ap₂ {C = AtomList} (λ n a. record { count = n; atoms = a }) (filled-count _ _ _ _ _ _ _ f done) (filled _ _ _ _ _ _ _ f done))
+        accepts (filling-ends f done) within
+        (ap₂ {C = AtomList} (λ n a. record { count = n; atoms = a }) (filled-count f done) (filled f done))
 
     -- all facts are read
     pub facts-filled : Filling (atomOf arities) atomFor blankAtom 512 read n start array i (drop at card)
@@ -45,8 +45,8 @@ module _ {card start : List ℕ} {n i at : ℕ} (within : at ≤ length card) (d
         (record { count = n; facts = array })
     unfolding factsOf factsFor
     facts-filled f =
-        accepts (filling-ends _ _ _ _ _ _ _ f done) within
-        (ap₂ {C = FactList} (λ n a. record { count = n; facts = a }) (filled-count _ _ _ _ _ _ _ f done) (filled _ _ _ _ _ _ _ f done))
+        accepts (filling-ends f done) within
+        (ap₂ {C = FactList} (λ n a. record { count = n; facts = a }) (filled-count f done) (filled f done))
 
   -- all arities are read
   pub arities-filled : {array : List ℕ} (read : Option ℕ → model.Reader ℕ) → Filling (λ b. b) (λ b. b) 0 20 read n start array i (drop at card)
@@ -56,6 +56,6 @@ module _ {card start : List ℕ} {n i at : ℕ} (within : at ≤ length card) (d
   arities-filled {array} read f =
       let plain : map (λ b. b) (take n array) ≡ take n array = map-id (take n array) in
       let whole : array ≡ padded 20 0 (take n array) =
-      filled _ _ _ _ _ _ _ f done ∙ ap (padded 20 0) (map-id (map (λ b. b) (take n array)) ∙ plain) in
-      accepts (filling-ends _ _ _ _ _ _ _ f done ∙ ap (λ xs. accepted (xs, drop at card)) plain) within
-      (ap₂ {C = ArityList} (λ n a. record { count = n; arities = a }) (filled-count _ _ _ _ _ _ _ f done ∙ ap length plain) whole)
+      filled f done ∙ ap (padded 20 0) (map-id (map (λ b. b) (take n array)) ∙ plain) in
+      accepts (filling-ends f done ∙ ap (λ xs. accepted (xs, drop at card)) plain) within
+      (ap₂ {C = ArityList} (λ n a. record { count = n; arities = a }) (filled-count f done ∙ ap length plain) whole)

@@ -41,22 +41,23 @@ module _ (arities : List ℕ) (size : ℕ) (read : Option model.Atom → model.R
         kept = refl;
       }
 
-  module _ {array : List Atom} {i at : ℕ} {previous : Previous} {r : AtomRead} (o : Ordered array i at previous) (more : i < n)
-      (w : AtomReads arities card (read (previousOf arities previous) (drop at card)) r) where
-    -- the next atom is stored
-    pub ordered-goes-on : {a : Atom} {c : Cursor} → r ≡ Found a c → Ordered (set array i a) (i + 1) (c .at) (After a)
-    unfolding previousOf previousFor
-    ordered-goes-on {a} {c} e =
-        let next = subst (λ p. read p (drop at card) ≡ accepted (atomOf arities a, drop (c .at) card)) (o .last) (atom-read w e) in
-        record {
-          within = atom-within w e;
-          filling = filling-goes-on (atomOf arities) atomFor blankAtom size read n start (o .filling) more next (atom-kept w e);
-          last = sym (filling-last (atomOf arities) atomFor blankAtom size read n start (o .filling) a more);
-          kept = ap After (atom-kept w e);
-        }
+module _ {arities : List ℕ} {size : ℕ} {read : Option model.Atom → model.Reader model.Atom} {n : ℕ} {start card : List ℕ}
+    {array : List Atom} {i at : ℕ} {previous : Previous} {r : AtomRead} (o : Ordered arities size read n start card array i at previous) (more : i < n)
+    (w : AtomReads arities card (read (previousOf arities previous) (drop at card)) r) where
+  -- the next atom is stored
+  pub ordered-goes-on : {a : Atom} {c : Cursor} → r ≡ Found a c → Ordered arities size read n start card (set array i a) (i + 1) (c .at) (After a)
+  unfolding previousOf previousFor
+  ordered-goes-on {a} {c} e =
+      let next = subst (λ p. read p (drop at card) ≡ accepted (atomOf arities a, drop (c .at) card)) (o .last) (atom-read w e) in
+      record {
+        within = atom-within w e;
+        filling = filling-goes-on (o .filling) more next (atom-kept w e);
+        last = sym (filling-last (o .filling) a more);
+        kept = ap After (atom-kept w e);
+      }
 
-    -- the next atom is refused
-    pub ordered-stops : {k k′ : Refusal} → r ≡ NoAtom k → k′ ≡ refusalOfAtom r → model.many read none n start ≡ refused (refusalNumber k′)
-    ordered-stops {k′ = k′} e t =
-        filling-stops (atomOf arities) atomFor blankAtom size read n start (o .filling) more
-        (subst (λ p. read p (drop at card) ≡ refused (refusalNumber k′)) (o .last) (atom-refusal w e t))
+  -- the next atom is refused
+  pub ordered-stops : {k k′ : Refusal} → r ≡ NoAtom k → k′ ≡ refusalOfAtom r → model.many read none n start ≡ refused (refusalNumber k′)
+  ordered-stops {k′ = k′} e t =
+      filling-stops (o .filling) more
+      (subst (λ p. read p (drop at card) ≡ refused (refusalNumber k′)) (o .last) (atom-refusal w e t))

@@ -28,13 +28,14 @@ module _ {A B : Type 0} (value : B → A) (keep : A → B) (blank : B) (size : �
             (subst (λ a. Fills a 0 start) (sym blanks) (filling-starts value keep blank size (λ previous. read) n start few));
       }
 
-  module _ {array : List B} {i at : ℕ} (p : Plain array i at) (more : i < n) where
-    -- the next item is stored
-    pub plain-goes-on : {b : B} {c : Cursor} → read (drop at card) ≡ accepted (value b, drop (c .at) card) → c .at ≤ length card → b ≡ keep (value b)
-        → Plain (set array i b) (i + 1) (c .at)
-    plain-goes-on e within k =
-        record { within = within; filling = filling-goes-on value keep blank size (λ previous. read) n start (p .filling) more e k }
+module _ {A B : Type 0} {value : B → A} {keep : A → B} {blank : B} {size : ℕ} {read : model.Reader A} {n : ℕ} {start card : List ℕ}
+    {array : List B} {i at : ℕ} (p : Plain value keep blank size read n start card array i at) (more : i < n) where
+  -- the next item is stored
+  pub plain-goes-on : {b : B} {c : Cursor} → read (drop at card) ≡ accepted (value b, drop (c .at) card) → c .at ≤ length card → b ≡ keep (value b)
+      → Plain value keep blank size read n start card (set array i b) (i + 1) (c .at)
+  plain-goes-on e within k =
+      record { within = within; filling = filling-goes-on (p .filling) more e k }
 
-    -- the next item is refused
-    pub plain-stops : {k : ℕ} → read (drop at card) ≡ refused k → model.many (λ previous. read) none n start ≡ refused k
-    plain-stops e = filling-stops value keep blank size (λ previous. read) n start (p .filling) more e
+  -- the next item is refused
+  pub plain-stops : {k : ℕ} → read (drop at card) ≡ refused k → model.many (λ previous. read) none n start ≡ refused k
+  plain-stops e = filling-stops (p .filling) more e

@@ -8,9 +8,9 @@ use Rattle.model.specs.Answer.{Answer}
 use Rattle.model.specs.Card as model
 use Rattle.card.specs.declared.AtomList.{AtomList}
 use Rattle.card.specs.Represents.{atomsOf, atomsFor, aritiesOf, aritiesFor, factsOf, factsFor}
-use Rattle.reader_atoms.specs.declared.Section.{Section}
+use Rattle.card.specs.declared.ListField.{ListField}
 use Rattle.reader_bytes.specs.Reads.{Reads}
-use Rattle.reader_atoms.specs.Atoms.{sectionAtom}
+use Rattle.reader_atoms.specs.Atoms.{fieldAtom}
 use Rattle.reader_lists.specs.declared.AtomsRead.{AtomsRead}
 use Rattle.reader_lists.specs.declared.AritiesRead.{AritiesRead}
 use Rattle.reader_lists.specs.declared.FactsRead.{FactsRead}
@@ -26,13 +26,13 @@ abbrev pub FactsReads : List ℕ → List ℕ → Answer (List model.Atom × Lis
 FactsReads arities card answer r = Reads (factsOf arities) factsFor (factsFor []) card answer (r .step) (r .list)
 
 -- What the functions promise: the code's whole answer in a part of the card, or at a place on it.
-abbrev pub AtomsReadIn : List ℕ → ℕ → Section → AtomList → ℕ → List ℕ → AtomsRead → Type 0
-AtomsReadIn arities parameters section preconditions count part r =
-    AtomsReads arities part (model.many (sectionAtom arities parameters section (atomsOf arities preconditions)) none count part) r
+abbrev pub AtomsReadIn : List ℕ → ℕ → ListField → AtomList → ℕ → List ℕ → AtomsRead → Type 0
+AtomsReadIn arities parameters field preconditions count part r =
+    AtomsReads arities part (model.many (fieldAtom arities parameters field (atomsOf arities preconditions)) none count part) r
 
-abbrev pub ListReadAt : List ℕ → ℕ → Section → AtomList → Bool → List ℕ → ℕ → AtomsRead → Type 0
-ListReadAt arities parameters section preconditions present card at r =
-    let read = sectionAtom arities parameters section (atomsOf arities preconditions) in
+abbrev pub ListReadAt : List ℕ → ℕ → ListField → AtomList → Bool → List ℕ → ℕ → AtomsRead → Type 0
+ListReadAt arities parameters field preconditions present card at r =
+    let read = fieldAtom arities parameters field (atomsOf arities preconditions) in
     AtomsReads arities card (model.list present read (drop at card)) r
 
 abbrev pub AritiesReadAt : ℕ → List ℕ → ℕ → AritiesRead → Type 0

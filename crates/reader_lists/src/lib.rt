@@ -4,13 +4,13 @@ use card::ArityList;
 use card::Atom;
 use card::AtomList;
 use card::FactList;
+use card::ListField;
 use card::Refusal;
 use card::no_arities;
 use card::no_atoms;
 use card::no_facts;
 use reader_atoms::AtomRead;
 use reader_atoms::Previous;
-use reader_atoms::Section;
 use reader_bytes::ByteRead;
 use reader_bytes::Cursor;
 use reader_bytes::Step;
@@ -18,7 +18,8 @@ ghost use Prim.Native.Nat.{_≤_};
 ghost use mathlib.Core.Bool.{true};
 ghost use mathlib.Core.Path.{_≡_};
 ghost use lib.ListN.{length};
-ghost use Rattle.reader_atoms.specs.Atoms.{inRange, AtomsKept};
+ghost use Rattle.model.specs.Card.{inRange};
+ghost use Rattle.reader_atoms.specs.Atoms.{AtomsKept};
 ghost use Rattle.reader_lists.specs.ListReads.{AtomsReadIn, ListReadAt, AritiesReadAt, FactsReadAt};
 
 pub struct AtomsRead {
@@ -36,17 +37,17 @@ pub struct FactsRead {
     pub list: FactList,
 }
 
-// So many atoms of a list of a schema, from the first one on.
+// `count` atoms of a list of a schema; `part` is the card from the first of them on.
 fn atoms(
     part: &[u8],
     count: usize,
     arities: &[u8],
     parameters: usize,
-    section: Section,
+    field: ListField,
     preconditions: AtomList,
 ) -> AtomsRead
     requires { ⌜ (count ≤ 8) × (inRange (now arities) ≡ true) × AtomsKept (now arities) preconditions ⌝ }
-    ensures { λ r. ⌜ AtomsReadIn (now (arities .entry)) parameters section preconditions count (now (part .entry)) r ⌝ }
+    ensures { λ r. ⌜ AtomsReadIn (now (arities .entry)) parameters field preconditions count (now (part .entry)) r ⌝ }
 {
     let mut list = no_atoms();
     let mut previous = Previous::Nothing;
@@ -58,7 +59,7 @@ fn atoms(
             Cursor { at: at },
             arities,
             parameters,
-            section,
+            field,
             preconditions,
             previous,
         );
@@ -87,11 +88,11 @@ pub fn list(
     present: bool,
     arities: &[u8],
     parameters: usize,
-    section: Section,
+    field: ListField,
     preconditions: AtomList,
 ) -> AtomsRead
     requires { ⌜ (c .at ≤ length (now card)) × (inRange (now arities) ≡ true) × AtomsKept (now arities) preconditions ⌝ }
-    ensures { λ r. ⌜ ListReadAt (now (arities .entry)) parameters section preconditions present (now (card .entry)) (c .at) r ⌝ }
+    ensures { λ r. ⌜ ListReadAt (now (arities .entry)) parameters field preconditions present (now (card .entry)) (c .at) r ⌝ }
 {
     if !present {
         return AtomsRead {
@@ -112,7 +113,7 @@ pub fn list(
         count as usize,
         arities,
         parameters,
-        section,
+        field,
         preconditions,
     );
     let step = read.step;
@@ -126,7 +127,7 @@ pub fn list(
     }
 }
 
-// So many arities, each 1 to 3.
+// `count` arities, each 1 to 3.
 pub fn arities(card: &[u8], c: Cursor, count: usize) -> AritiesRead
     requires { ⌜ (count ≤ 20) × (c .at ≤ length (now card)) ⌝ }
     ensures { λ r. ⌜ AritiesReadAt count (now (card .entry)) (c .at) r ⌝ }
@@ -159,7 +160,7 @@ pub fn arities(card: &[u8], c: Cursor, count: usize) -> AritiesRead
     }
 }
 
-// So many facts.
+// `count` facts.
 pub fn facts(card: &[u8], c: Cursor, count: usize, arities: &[u8], objects: usize) -> FactsRead
     requires { ⌜ (count ≤ 512) × (c .at ≤ length (now card)) × (inRange (now arities) ≡ true) ⌝ }
     ensures { λ r. ⌜ FactsReadAt (now (arities .entry)) objects count (now (card .entry)) (c .at) r ⌝ }

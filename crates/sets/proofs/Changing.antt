@@ -12,7 +12,7 @@ use lib.ListN.{length, getD, take, drop, replicate, length-append, length-drop, 
 use lib.Seq.{take-take, take-all, take-at, drop-at, drop-drop, length-take-le}
 use Rattle.laws.specs.Lists.{member}
 use Rattle.laws.proofs.Tests.{never, by-test}
-use Rattle.sets.specs.Numbers.{rising, place, found, without, inserted, closed, opened, filled, Holds, Becomes}
+use Rattle.sets.specs.Numbers.{rising, place, found, without, inserted, gapClosed, roomMade, filled, SetKept, Becomes}
 use Rattle.sets.specs.declared.Found.{Found}
 use Rattle.sets.specs.declared.Found.the-variants.{At, Missing}
 use Rattle.sets.proofs.Ascending.{place-within, member-past-end, without-rising, inserted-rising, length-without, length-inserted}
@@ -50,9 +50,9 @@ drop-one : (k : ℕ) → drop {A = ℕ} 1 (replicate k 0) ≡ replicate (k - 1) 
 drop-one zero = refl
 drop-one (suc k) = ap (λ (m : ℕ). replicate {A = ℕ} m 0) (let e : k ≡ suc k - 1 = omega arith in e)
 
-module _ (count n : ℕ) (was : List ℕ) (holds : Holds count was) where
+module _ (count n : ℕ) (was : List ℕ) (kept : SetKept count was) where
   size : length (take count was) ≡ count
-  size = length-take-le count was (holds .few)
+  size = length-take-le count was (kept .few)
 
   -- nothing changes
   pub unchanged : (list : List ℕ) → list ≡ take count was → Becomes list was was count
@@ -63,7 +63,7 @@ module _ (count n : ℕ) (was : List ℕ) (holds : Holds count was) where
         listed =
             sym (take-append-drop count was)
             ∙ ap (λ (l : List ℕ). l ++ drop count was) (sym e)
-            ∙ ap (λ (l : List ℕ). list ++ l) (holds .blank)
+            ∙ ap (λ (l : List ℕ). list ++ l) (kept .blank)
             ∙ ap (λ (k : ℕ). list ++ replicate (length was - k) 0) (sym same);
         counted = sym same;
       }
@@ -72,15 +72,15 @@ module _ (count n : ℕ) (was : List ℕ) (holds : Holds count was) where
   removed-missing e = unchanged (without n (take count was)) (without-absent n (take count was) e)
 
   pub removed-there :
-      (at : ℕ) (now : List ℕ) → member n (take count was) ≡ true → at ≡ place n (take count was) → now ≡ closed at count was
+      (at : ℕ) (now : List ℕ) → member n (take count was) ≡ true → at ≡ place n (take count was) → now ≡ gapClosed at count was
       → Becomes (without n (take count was)) was now (count - 1)
-  unfolding closed filled
+  unfolding gapClosed filled
   removed-there at now e p q =
-      let few = holds .few in
+      let few = kept .few in
       let all = size in
       let within = there-within n (take count was) e in
       let gone : without n (take count was) ≡ take at was ++ drop (suc at) (take count was) =
-      (without-there n 0 (take count was) (holds .ascends) e
+      (without-there n 0 (take count was) (kept .ascends) e
       ∙ ap (λ (k : ℕ). take k (take count was) ++ drop (suc k) (take count was)) (sym p)
       ∙ ap (λ (l : List ℕ). l ++ drop (suc at) (take count was)) (take-take at count was (omega arith))) in
       let fewer : length (without n (take count was)) ≡ count - 1 =
@@ -90,18 +90,18 @@ module _ (count n : ℕ) (was : List ℕ) (holds : Holds count was) where
       record {
         listed =
             q ∙ ap (λ (l : List ℕ). l ++ 0 ∷ drop count was) (sym gone)
-            ∙ ap (λ (l : List ℕ). without n (take count was) ++ 0 ∷ l) (holds .blank)
+            ∙ ap (λ (l : List ℕ). without n (take count was) ++ 0 ∷ l) (kept .blank)
             ∙ ap (λ (k : ℕ). without n (take count was) ++ replicate k 0) zeros;
         counted = sym fewer;
       }
 
   pub inserted-again : member n (take count was) ≡ true → Becomes (inserted n (take count was)) was was count
-  inserted-again e = unchanged (inserted n (take count was)) (inserted-there n 0 (take count was) (holds .ascends) e)
+  inserted-again e = unchanged (inserted n (take count was)) (inserted-there n 0 (take count was) (kept .ascends) e)
 
   pub inserted-new :
       (at : ℕ) (now : List ℕ) → count < length was → member n (take count was) ≡ false → at ≡ place n (take count was)
-      → now ≡ opened at count n was → Becomes (inserted n (take count was)) was now (count + 1)
-  unfolding opened filled
+      → now ≡ roomMade at count n was → Becomes (inserted n (take count was)) was now (count + 1)
+  unfolding roomMade filled
   inserted-new at now room e p q =
       let all = size in
       let within = place-within n (take count was) in
@@ -113,7 +113,7 @@ module _ (count n : ℕ) (was : List ℕ) (holds : Holds count was) where
       (ap length more ∙ length-append (take at was) (n ∷ drop at (take count was))
       ∙ (let front = length-take-le at was (omega arith) in let back = length-drop at (take count was) in omega arith)) in
       let behind : drop (suc count) was ≡ replicate (length was - length (inserted n (take count was))) 0 =
-      (ap (λ (k : ℕ). drop k was) (sym (add-one count)) ∙ sym (drop-drop 1 count was) ∙ ap (drop 1) (holds .blank)
+      (ap (λ (k : ℕ). drop k was) (sym (add-one count)) ∙ sym (drop-drop 1 count was) ∙ ap (drop 1) (kept .blank)
       ∙ drop-one (length was - count)
       ∙ ap (λ (k : ℕ). replicate k 0) (let z : length was - count - 1 ≡ length was - length (inserted n (take count was)) = omega arith in z)) in
       record {
@@ -125,7 +125,7 @@ module _ (count n : ℕ) (was : List ℕ) (holds : Holds count was) where
       }
 
 -- what a change left is a set again, where it ascends and there is room for it
-module _ (set before after : List ℕ) (r : ℕ) (becomes : Becomes set before after r) (room : length set ≤ length before) where
+module _ {set before after : List ℕ} {r : ℕ} (becomes : Becomes set before after r) (room : length set ≤ length before) where
   pub left-set : take r after ≡ set
   unfolding filled
   left-set =
@@ -137,9 +137,9 @@ module _ (set before after : List ℕ) (r : ℕ) (becomes : Becomes set before a
       ap length (becomes .listed) ∙ length-append set (replicate (length before - length set) 0)
       ∙ (let zeros = length-replicate {A = ℕ} (length before - length set) 0 in omega arith)
 
-  pub left-holds : rising 0 set ≡ true → Holds r after
+  pub left-kept : rising 0 set ≡ true → SetKept r after
   unfolding filled
-  left-holds e =
+  left-kept e =
       let same = left-length in
       let count = becomes .counted in
       record {
@@ -165,19 +165,19 @@ pub record Changing (change : List ℕ → ℕ → List ℕ) (ns list before : L
   pub room : length (foldl change list (take i ns)) ≤ length list + i
   pub fits : length (foldl change list (take i ns)) ≤ length before
 
-module _ (change : List ℕ → ℕ → List ℕ) (ns list before : List ℕ) where
+module _ {change : List ℕ → ℕ → List ℕ} {ns list before : List ℕ} {i : ℕ} {now : List ℕ} {r : ℕ} (c : Changing change ns list before i now r) where
   pub changing-step :
-      (i : ℕ) (now next : List ℕ) (r s : ℕ) → Changing change ns list before i now r → i < length ns
+      {next : List ℕ} {s : ℕ} → i < length ns
       → Becomes (change (take r now) (getD ns i 0)) now next s
       → rising 0 (change (take r now) (getD ns i 0)) ≡ true
       → length (change (take r now) (getD ns i 0)) ≤ suc (length (take r now))
       → length (change (take r now) (getD ns i 0)) ≤ length before
       → Changing change ns list before (i + 1) next s
   unfolding filled
-  changing-step i now next r s c h b e k l =
+  changing-step h b e k l =
       let done = foldl change list (take i ns) in
-      let now-set : take r now ≡ done = left-set done before now r (c .becomes) (c .fits) in
-      let same : length now ≡ length before = left-length done before now r (c .becomes) (c .fits) in
+      let now-set : take r now ≡ done = left-set (c .becomes) (c .fits) in
+      let same : length now ≡ length before = left-length (c .becomes) (c .fits) in
       let more : foldl change list (take (i + 1) ns) ≡ change (take r now) (getD ns i 0) =
       (ap (λ (m : ℕ). foldl change list (take m ns)) (add-one i) ∙ fold-more change list ns i h
       ∙ ap (λ (m : List ℕ). change m (getD ns i 0)) (sym now-set)) in
@@ -194,66 +194,59 @@ module _ (change : List ℕ → ℕ → List ℕ) (ns list before : List ℕ) wh
         fits = subst (λ (m : List ℕ). length m ≤ length before) (sym more) l;
       }
 
-  pub changing-end :
-      (i : ℕ) (now : List ℕ) (r : ℕ) → Changing change ns list before i now r → length ns ≤ i
-      → Becomes (foldl change list ns) before now r
-  changing-end i now r c h =
-      subst (λ (m : List ℕ). Becomes (foldl change list m) before now r) (take-all i ns h) (c .becomes)
+  pub changing-end : length ns ≤ i → Becomes (foldl change list ns) before now r
+  changing-end h = subst (λ (m : List ℕ). Becomes (foldl change list m) before now r) (take-all i ns h) (c .becomes)
 
-pub changing-start :
-    (change : List ℕ → ℕ → List ℕ) (ns before : List ℕ) (count : ℕ) → Holds count before
-    → Changing change ns (take count before) before 0 before count
-changing-start change ns before count holds =
-    let few = holds .few in
-    let size = length-take-le count before few in
-    record {
-      some-done = zero-le;
-      becomes = unchanged count 0 before holds (take count before) refl;
-      ascends = holds .ascends;
-      room = omega arith;
-      fits = omega arith;
-    }
-
--- what stands between two changes
-module _ (change : List ℕ → ℕ → List ℕ) (ns list before : List ℕ) (i : ℕ) (now : List ℕ) (r : ℕ) (c : Changing change ns list before i now r) where
-  pub changing-holds : Holds r now
-  changing-holds = left-holds (foldl change list (take i ns)) before now r (c .becomes) (c .fits) (c .ascends)
+  -- between two changes there is a set
+  pub changing-set : SetKept r now
+  changing-set = left-kept (c .becomes) (c .fits) (c .ascends)
 
   pub changing-length : length now ≡ length before
-  changing-length = left-length (foldl change list (take i ns)) before now r (c .becomes) (c .fits)
+  changing-length = left-length (c .becomes) (c .fits)
 
   -- no more numbers than those at the start and one for each change
   pub changing-count : r ≤ length list + i
   changing-count = let counted = c .becomes .counted in let room = c .room in omega arith
 
+pub changing-start :
+    (change : List ℕ → ℕ → List ℕ) (ns : List ℕ) {before : List ℕ} {count : ℕ} → SetKept count before
+    → Changing change ns (take count before) before 0 before count
+changing-start change ns {before} {count} kept =
+    let few = kept .few in
+    let size = length-take-le count before few in
+    record {
+      some-done = zero-le;
+      becomes = unchanged count 0 before kept (take count before) refl;
+      ascends = kept .ascends;
+      room = omega arith;
+      fits = omega arith;
+    }
+
 -- a number taken out after those before it
 abbrev pub takeOut : List ℕ → ℕ → List ℕ
 takeOut ms n = without n ms
 
-pub removing-step :
-    (ns list before : List ℕ) (i : ℕ) (now next : List ℕ) (r s : ℕ) → Changing takeOut ns list before i now r → i < length ns
-    → Becomes (without (getD ns i 0) (take r now)) now next s → Changing takeOut ns list before (i + 1) next s
-removing-step ns list before i now next r s c h b =
-    let holds = changing-holds takeOut ns list before i now r c in
-    let same = changing-length takeOut ns list before i now r c in
-    let few = holds .few in
-    let size = length-take-le r now few in
-    let fewer = length-without (getD ns i 0) (take r now) in
-    changing-step takeOut ns list before i now next r s c h b (without-rising (getD ns i 0) 0 (take r now) (holds .ascends))
-    (omega arith) (omega arith)
+module _ {ns list before : List ℕ} {i : ℕ} {now : List ℕ} {r : ℕ} (c : Changing takeOut ns list before i now r) where
+  pub removing-step : {next : List ℕ} {s : ℕ} → i < length ns → Becomes (without (getD ns i 0) (take r now)) now next s
+      → Changing takeOut ns list before (i + 1) next s
+  removing-step h b =
+      let kept = changing-set c in
+      let same = changing-length c in
+      let few = kept .few in
+      let size = length-take-le r now few in
+      let fewer = length-without (getD ns i 0) (take r now) in
+      changing-step c h b (without-rising (getD ns i 0) 0 (take r now) (kept .ascends)) (omega arith) (omega arith)
 
 -- a number put in after those before it
 abbrev pub putIn : List ℕ → ℕ → List ℕ
 putIn ms n = inserted n ms
 
-pub inserting-step :
-    (ns list before : List ℕ) (i : ℕ) (now next : List ℕ) (r s : ℕ) → Changing putIn ns list before i now r → i < length ns
-    → length list + length ns ≤ length before
-    → Becomes (inserted (getD ns i 0) (take r now)) now next s → Changing putIn ns list before (i + 1) next s
-inserting-step ns list before i now next r s c h enough b =
-    let holds = changing-holds putIn ns list before i now r c in
-    let count = changing-count putIn ns list before i now r c in
-    let size = length-take-le r now (holds .few) in
-    let more = length-inserted (getD ns i 0) (take r now) in
-    changing-step putIn ns list before i now next r s c h b (inserted-rising (getD ns i 0) 0 (take r now) zero-le (holds .ascends))
-    (omega arith) (omega arith)
+module _ {ns list before : List ℕ} {i : ℕ} {now : List ℕ} {r : ℕ} (c : Changing putIn ns list before i now r) where
+  pub inserting-step : {next : List ℕ} {s : ℕ} → i < length ns → length list + length ns ≤ length before
+      → Becomes (inserted (getD ns i 0) (take r now)) now next s → Changing putIn ns list before (i + 1) next s
+  inserting-step h enough b =
+      let kept = changing-set c in
+      let count = changing-count c in
+      let size = length-take-le r now (kept .few) in
+      let more = length-inserted (getD ns i 0) (take r now) in
+      changing-step c h b (inserted-rising (getD ns i 0) 0 (take r now) zero-le (kept .ascends)) (omega arith) (omega arith)

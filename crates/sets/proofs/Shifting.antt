@@ -7,7 +7,7 @@ use mathlib.Core.Path.{_≡_, refl, sym, ap, _∙_, subst}
 use mathlib.Core.List.{List, [], _∷_, _++_, append-assoc}
 use lib.ListN.{length, getD, take, drop, set, length-set, length-take, drop-of-length-le}
 use lib.Seq.{take-suc-set, take-set-le, take-take, drop-set-lt, drop-cons, drop-drop, getD-take, getD-drop, getD-set-same, set-split, length-take-le}
-use Rattle.sets.specs.Numbers.{closed, opened}
+use Rattle.sets.specs.Numbers.{gapClosed, roomMade}
 
 -- nothing is left behind a front part's own length
 drop-take : (n : ℕ) (xs : List ℕ) → drop n (take n xs) ≡ []
@@ -63,8 +63,8 @@ closing-step at count was i now c h k =
 
 pub closing-end :
     (at count : ℕ) (was : List ℕ) (i : ℕ) (now : List ℕ) → Closing at count was i now → count ≤ suc i → count ≤ length was
-    → set now i 0 ≡ closed at count was
-unfolding closed
+    → set now i 0 ≡ gapClosed at count was
+unfolding gapClosed
 closing-end at count was i now c h k =
     let high = c .high in
     let size = c .size in
@@ -134,8 +134,8 @@ opening-step at count was (suc j) now c h k =
 
 pub opening-end :
     (at count n : ℕ) (was : List ℕ) (i : ℕ) (now : List ℕ) → Opening at count was i now → i ≤ at → count < length was
-    → set now at n ≡ opened at count n was
-unfolding opened
+    → set now at n ≡ roomMade at count n was
+unfolding roomMade
 opening-end at count n was i now c h k =
     let size = c .size in
     let low = c .low in

@@ -33,12 +33,12 @@ inserted n [] = n ∷ []
 inserted n (m ∷ ms) = let later = inserted n ms in cond (eqb n m) (m ∷ ms) (cond (ltb n m) (n ∷ m ∷ ms) (m ∷ later))
 
 -- the first `count` numbers with the one at a place gone, those after it moved down, and 0 behind them; the rest is left
-unfoldable pub closed : ℕ → ℕ → List ℕ → List ℕ
-closed at count ns = take at ns ++ drop (suc at) (take count ns) ++ 0 ∷ drop count ns
+unfoldable pub gapClosed : ℕ → ℕ → List ℕ → List ℕ
+gapClosed at count ns = take at ns ++ drop (suc at) (take count ns) ++ 0 ∷ drop count ns
 
 -- the first `count` numbers with n at a place, those from there on moved up; the rest is left
-unfoldable pub opened : ℕ → ℕ → ℕ → List ℕ → List ℕ
-opened at count n ns = take at ns ++ n ∷ (drop at (take count ns) ++ drop (suc count) ns)
+unfoldable pub roomMade : ℕ → ℕ → ℕ → List ℕ → List ℕ
+roomMade at count n ns = take at ns ++ n ∷ (drop at (take count ns) ++ drop (suc count) ns)
 
 -- numbers taken out one after the other, and put in one after the other
 unfoldable pub withoutAll : List ℕ → List ℕ → List ℕ
@@ -52,7 +52,7 @@ unfoldable pub filled : ℕ → List ℕ → List ℕ
 filled size ns = ns ++ replicate (size - length ns) 0
 
 -- A set kept in a longer list: its numbers ascend at the front, and 0 stands behind them.
-pub record Holds (count : ℕ) (ns : List ℕ) : Type 0 where
+pub record SetKept (count : ℕ) (ns : List ℕ) : Type 0 where
   pub few : count ≤ length ns
   pub ascends : rising 0 (take count ns) ≡ true
   pub blank : drop count ns ≡ replicate (length ns - count) 0

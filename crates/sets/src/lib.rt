@@ -3,7 +3,7 @@ ghost use Prim.Native.Nat.{_+_, _≤_, _<_};
 ghost use mathlib.Core.Bool.{true};
 ghost use mathlib.Core.Path.{_≡_};
 ghost use lib.ListN.{length, take};
-ghost use Rattle.sets.specs.Numbers.{rising, place, found, without, inserted, withoutAll, insertedAll, closed, opened, Holds, Becomes};
+ghost use Rattle.sets.specs.Numbers.{rising, place, found, without, inserted, withoutAll, insertedAll, gapClosed, roomMade, SetKept, Becomes};
 
 // Where a number stands on an ascending list, or where it would stand.
 pub enum Found {
@@ -47,7 +47,7 @@ pub fn find(numbers: &[u32], n: u32) -> Found
 // The number at a place goes, those after it move down, and 0 comes behind them.
 fn close_gap(numbers: &mut [u32], at: usize, count: usize)
     requires { ⌜ (at < count) × (count ≤ length (now numbers)) ⌝ }
-    ensures { λ r. ⌜ now (numbers .exit) ≡ closed at count (now (numbers .entry)) ⌝ }
+    ensures { λ r. ⌜ now (numbers .exit) ≡ gapClosed at count (now (numbers .entry)) ⌝ }
 {
     let mut i = at;
     while i + 1 < count {
@@ -60,7 +60,7 @@ fn close_gap(numbers: &mut [u32], at: usize, count: usize)
 // A number comes to a place, and those from there on move up.
 fn make_room(numbers: &mut [u32], at: usize, count: usize, n: u32)
     requires { ⌜ (at ≤ count) × (count < length (now numbers)) ⌝ }
-    ensures { λ r. ⌜ now (numbers .exit) ≡ opened at count n (now (numbers .entry)) ⌝ }
+    ensures { λ r. ⌜ now (numbers .exit) ≡ roomMade at count n (now (numbers .entry)) ⌝ }
 {
     let mut i = count;
     while at < i {
@@ -72,7 +72,7 @@ fn make_room(numbers: &mut [u32], at: usize, count: usize, n: u32)
 
 // Takes a number out of the first `count`.
 fn remove(numbers: &mut [u32], count: usize, n: u32) -> usize
-    requires { ⌜ Holds count (now numbers) ⌝ }
+    requires { ⌜ SetKept count (now numbers) ⌝ }
     ensures { λ r. ⌜ Becomes (without n (take count (now (numbers .entry)))) (now (numbers .entry)) (now (numbers .exit)) r ⌝ }
 {
     let there = find(&numbers[0..count], n);
@@ -85,7 +85,7 @@ fn remove(numbers: &mut [u32], count: usize, n: u32) -> usize
 
 // Puts a number into its place among the first `count`; nothing changes if it is there.
 fn insert(numbers: &mut [u32], count: usize, n: u32) -> usize
-    requires { ⌜ (count < length (now numbers)) × Holds count (now numbers) ⌝ }
+    requires { ⌜ (count < length (now numbers)) × SetKept count (now numbers) ⌝ }
     ensures { λ r. ⌜ Becomes (inserted n (take count (now (numbers .entry)))) (now (numbers .entry)) (now (numbers .exit)) r ⌝ }
 {
     let there = find(&numbers[0..count], n);
@@ -98,7 +98,7 @@ fn insert(numbers: &mut [u32], count: usize, n: u32) -> usize
 
 // Takes numbers out, one after the other.
 pub fn remove_all(numbers: &mut [u32], count: usize, out: &[u32]) -> usize
-    requires { ⌜ Holds count (now numbers) ⌝ }
+    requires { ⌜ SetKept count (now numbers) ⌝ }
     ensures { λ r. ⌜ Becomes (withoutAll (now (out .entry)) (take count (now (numbers .entry)))) (now (numbers .entry)) (now (numbers .exit)) r ⌝ }
 {
     let mut left = count;
@@ -112,7 +112,7 @@ pub fn remove_all(numbers: &mut [u32], count: usize, out: &[u32]) -> usize
 
 // Puts numbers in, one after the other.
 pub fn insert_all(numbers: &mut [u32], count: usize, new: &[u32]) -> usize
-    requires { ⌜ (count + length (now new) ≤ length (now numbers)) × Holds count (now numbers) ⌝ }
+    requires { ⌜ (count + length (now new) ≤ length (now numbers)) × SetKept count (now numbers) ⌝ }
     ensures { λ r. ⌜ Becomes (insertedAll (now (new .entry)) (take count (now (numbers .entry)))) (now (numbers .entry)) (now (numbers .exit)) r ⌝ }
 {
     let mut held = count;

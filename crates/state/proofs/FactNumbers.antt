@@ -16,12 +16,13 @@ use Rattle.model.specs.Card.{Atom, below, sameAtom, has, above}
 use Rattle.model.specs.Writer.{known}
 use Rattle.model.specs.Strips.{State, filler, factBytes, factAt, factsIn, rowRight, rowsRight, ascending, put, written}
 use Rattle.model.proofs.Order.{bytes-order, known-predicate, known-arity, known-arguments, sameAtom-eq, eq-sameAtom, ascending-head, ascending-tail}
+use Rattle.model.proofs.Checked.{arity-within}
 use Rattle.model.proofs.Buffer.{factAt-factBytes}
 use Rattle.model.proofs.States.{put-at}
 use Rattle.sets.specs.Numbers.{rising, without, inserted, withoutAll, insertedAll}
-use Rattle.state.specs.Rows.{rowNumber, rowBytes, factNumber, numbersIn, signature, stored, Shape}
+use Rattle.state.specs.Rows.{rowNumber, rowBytes, factNumber, numbersIn, stored, Shape}
 use Rattle.state.proofs.RowBytes.{Four, four-at, number-bytes, number-order, number-same}
-use Rattle.state.proofs.RightRows.{eqb-swap, arity-low, arity-high, right-row-fact}
+use Rattle.state.proofs.RightRows.{eqb-swap, right-row-fact}
 
 module _ {A : Type 0} where
   -- nothing taken out
@@ -43,15 +44,19 @@ module _ {A : Type 0} where
       go false true e later = later ∙ sym (cond-false (not (b x)) _ _ (ap not e))
       go false false e later = ap (λ (l : List A). x ∷ l) later ∙ sym (cond-true (not (b x)) _ _ (ap not e))
 
-module _ (arities : List ℕ) (objects : ℕ) (shape : Shape arities objects) where
+-- every fact is known
+abbrev pub allKnown : List ℕ → ℕ → List Atom → Type 0
+allKnown arities objects facts = all (known arities objects) facts ≡ true
+
+module _ {arities : List ℕ} {objects : ℕ} (shape : Shape arities objects) where
   -- a known fact has four bytes
   pub fact-four : (f : Atom) → known arities objects f ≡ true → Four (factBytes f)
   unfolding factBytes all
   fact-four f k =
       let p = ltb-true (f .predicate) (length arities) (known-predicate arities objects f k) in
-      go (f .arguments) (known-arguments arities objects f k)
-      (let low = arity-low arities (f .predicate) (shape .right) p in let n = known-arity arities objects f k in omega arith)
-      (let high = arity-high arities (f .predicate) (shape .right) p in let n = known-arity arities objects f k in omega arith)
+      let within = arity-within arities (f .predicate) (shape .right) p in
+      let n = known-arity arities objects f k in
+      go (f .arguments) (known-arguments arities objects f k) (omega arith) (omega arith)
       (let few = shape .few-predicates in omega arith)
     where
       small : (x : ℕ) → ltb x objects ≡ true → x < 256
@@ -91,19 +96,16 @@ module _ (arities : List ℕ) (objects : ℕ) (shape : Shape arities objects) wh
       ∙ factAt-factBytes arities g (known-arity arities objects g q)))
       (λ e. eq-eqb (factNumber f) (factNumber g) (ap factNumber (sameAtom-eq f g e)))
 
-  abbrev pub allKnown : List Atom → Type 0
-  allKnown s = all (known arities objects) s ≡ true
-
-  head-known : (f : Atom) (s : List Atom) → allKnown (f ∷ s) → known arities objects f ≡ true
+  head-known : (f : Atom) (s : List Atom) → allKnown arities objects (f ∷ s) → known arities objects f ≡ true
   unfolding all
   head-known f s k = and-left (known arities objects f) (all (known arities objects) s) k
 
-  tail-known : (f : Atom) (s : List Atom) → allKnown (f ∷ s) → allKnown s
+  tail-known : (f : Atom) (s : List Atom) → allKnown arities objects (f ∷ s) → allKnown arities objects s
   unfolding all
   tail-known f s k = and-right (known arities objects f) (all (known arities objects) s) k
 
   -- a fact is in a state if its number is among the state's
-  pub member-has : (f : Atom) (s : State) → known arities objects f ≡ true → allKnown s → member (factNumber f) (map factNumber s) ≡ has s f
+  pub member-has : (f : Atom) (s : State) → known arities objects f ≡ true → allKnown arities objects s → member (factNumber f) (map factNumber s) ≡ has s f
   unfolding member any has
   member-has f [] p k = refl
   member-has f (g ∷ s) p k =
@@ -111,7 +113,7 @@ module _ (arities : List ℕ) (objects : ℕ) (shape : Shape arities objects) wh
       ∙ ap (λ (b : Bool). sameAtom f g || b) (member-has f s p (tail-known g s k))
 
   -- putting a fact in
-  pub numbers-put : (f : Atom) (s : State) → known arities objects f ≡ true → allKnown s → map factNumber (put f s) ≡ inserted (factNumber f) (map factNumber s)
+  pub numbers-put : (f : Atom) (s : State) → known arities objects f ≡ true → allKnown arities objects s → map factNumber (put f s) ≡ inserted (factNumber f) (map factNumber s)
   unfolding put inserted
   numbers-put f [] p k = refl
   numbers-put f (g ∷ s) p k =
@@ -134,12 +136,12 @@ module _ (arities : List ℕ) (objects : ℕ) (shape : Shape arities objects) wh
       go false true later = refl
       go false false later = ap (λ (l : List ℕ). n ∷ l) later
 
-  pub put-known : (f : Atom) (s : State) → known arities objects f ≡ true → allKnown s → allKnown (put f s)
+  pub put-known : (f : Atom) (s : State) → known arities objects f ≡ true → allKnown arities objects s → allKnown arities objects (put f s)
   put-known f s p k =
       all-intro (known arities objects) (put f s)
       (λ g m. ⊎-elim (λ e. ap (known arities objects) e ∙ p) (λ j. all-at (known arities objects) s k g j) (put-at f s g m))
 
-  pub numbers-puts : (fs : List Atom) (s : State) → allKnown fs → allKnown s
+  pub numbers-puts : (fs : List Atom) (s : State) → allKnown arities objects fs → allKnown arities objects s
       → map factNumber (foldl (λ r f. put f r) s fs) ≡ insertedAll (map factNumber fs) (map factNumber s)
   unfolding insertedAll
   numbers-puts [] s j k = refl
@@ -149,7 +151,7 @@ module _ (arities : List ℕ) (objects : ℕ) (shape : Shape arities objects) wh
       ∙ ap (λ (l : List ℕ). insertedAll (map factNumber fs) l) (numbers-put f s p k)
 
   -- taking facts out
-  numbers-without : (d : Atom) (s : State) → known arities objects d ≡ true → allKnown s
+  numbers-without : (d : Atom) (s : State) → known arities objects d ≡ true → allKnown arities objects s
       → map factNumber (keep (λ f. not (sameAtom f d)) s) ≡ without (factNumber d) (map factNumber s)
   unfolding keep without
   numbers-without d [] p k = refl
@@ -164,11 +166,11 @@ module _ (arities : List ℕ) (objects : ℕ) (shape : Shape arities objects) wh
       go true later = later
       go false later = ap (λ (l : List ℕ). factNumber g ∷ l) later
 
-  pub keep-known : (test : Atom → Bool) (s : State) → allKnown s → allKnown (keep test s)
+  pub keep-known : (test : Atom → Bool) (s : State) → allKnown arities objects s → allKnown arities objects (keep test s)
   keep-known test s k =
       all-intro (known arities objects) (keep test s) (λ g m. all-at (known arities objects) s k g (keep-at test s g m .0))
 
-  pub numbers-removed : (ds : List Atom) (s : State) → allKnown ds → allKnown s
+  pub numbers-removed : (ds : List Atom) (s : State) → allKnown arities objects ds → allKnown arities objects s
       → map factNumber (keep (λ f. not (has ds f)) s) ≡ withoutAll (map factNumber ds) (map factNumber s)
   unfolding withoutAll has any
   numbers-removed [] s j k = ap (map factNumber) (keep-all s)
@@ -183,7 +185,7 @@ module _ (arities : List ℕ) (objects : ℕ) (shape : Shape arities objects) wh
   unfolding factNumber
   fact-bytes f k = number-bytes (factBytes f) (fact-four f k)
 
-  pub facts-bytes : (s : State) → allKnown s → flatMap rowBytes (map factNumber s) ≡ flatMap factBytes s
+  pub facts-bytes : (s : State) → allKnown arities objects s → flatMap rowBytes (map factNumber s) ≡ flatMap factBytes s
   unfolding flatMap
   facts-bytes [] k = refl
   facts-bytes (f ∷ s) k =
@@ -191,14 +193,14 @@ module _ (arities : List ℕ) (objects : ℕ) (shape : Shape arities objects) wh
       ∙ ap (λ (l : List ℕ). factBytes f ++ l) (facts-bytes s (tail-known f s k))
 
   -- a state's numbers stored are the state written
-  pub stored-written : (s : State) (buffer : List ℕ) → allKnown s → stored (map factNumber s) buffer ≡ written s buffer
+  pub stored-written : (s : State) (buffer : List ℕ) → allKnown arities objects s → stored (map factNumber s) buffer ≡ written s buffer
   unfolding stored written
   stored-written s buffer k =
       ap (λ (l : List ℕ). l ++ replicate (4096 - 4 * length (map factNumber s)) 0 ++ drop 4096 buffer) (facts-bytes s k)
       ∙ ap (λ (n : ℕ). flatMap factBytes s ++ replicate (4096 - 4 * n) 0 ++ drop 4096 buffer) (length-map s factNumber)
 
   -- the numbers of an ascending state ascend
-  rising-after : (f : Atom) (s : State) → known arities objects f ≡ true → allKnown s → ascending (some f) s ≡ true
+  rising-after : (f : Atom) (s : State) → known arities objects f ≡ true → allKnown arities objects s → ascending (some f) s ≡ true
       → rising (suc (factNumber f)) (map factNumber s) ≡ true
   unfolding rising above
   rising-after f [] p k e = refl
@@ -208,7 +210,7 @@ module _ (arities : List ℕ) (objects : ℕ) (shape : Shape arities objects) wh
       (le-leb _ _ (ltb-true (factNumber f) (factNumber g) (number-below f g p q ∙ ascending-head (some f) g s e)))
       (rising-after g s q (tail-known g s k) (ascending-tail (some f) g s e))
 
-  pub rising-state : (s : State) → allKnown s → ascending none s ≡ true → rising 0 (map factNumber s) ≡ true
+  pub rising-state : (s : State) → allKnown arities objects s → ascending none s ≡ true → rising 0 (map factNumber s) ≡ true
   unfolding rising
   rising-state [] k e = refl
   rising-state (f ∷ s) k e =
@@ -216,17 +218,17 @@ module _ (arities : List ℕ) (objects : ℕ) (shape : Shape arities objects) wh
       (rising-after f s (head-known f s k) (tail-known f s k) (ascending-tail none f s e))
 
   -- right rows hold the numbers of the facts they stand for
-  pub numbers-of-rows : (n : ℕ) (buffer : List ℕ) → rowsRight (signature arities objects) n buffer ≡ true → 4 * n ≤ length buffer
+  pub numbers-of-rows : (n : ℕ) (buffer : List ℕ) → rowsRight arities objects n buffer ≡ true → 4 * n ≤ length buffer
       → numbersIn n buffer ≡ map factNumber (factsIn arities n buffer)
   unfolding numbersIn factsIn rowsRight factNumber
   numbers-of-rows zero buffer e room = refl
   numbers-of-rows (suc n) buffer e room =
-      let right = and-left (rowRight (signature arities objects) (take 4 buffer)) _ e in
-      let rest = and-right (rowRight (signature arities objects) (take 4 buffer)) _ e in
+      let right = and-left (rowRight arities objects (take 4 buffer)) _ e in
+      let rest = and-right (rowRight arities objects (take 4 buffer)) _ e in
       let bytes : take 4 buffer ≡ getD buffer 0 0 ∷ getD buffer 1 0 ∷ getD buffer 2 0 ∷ getD buffer 3 0 ∷ [] = four-at 0 buffer (omega arith) in
       let fact : factBytes (factAt arities (take 4 buffer)) ≡ take 4 buffer =
       (ap (λ (r : List ℕ). factBytes (factAt arities r)) bytes
-      ∙ right-row-fact arities objects _ _ _ _ (shape .right) (sym (ap (rowRight (signature arities objects)) bytes) ∙ right)
+      ∙ right-row-fact arities objects _ _ _ _ (shape .right) (sym (ap (rowRight arities objects) bytes) ∙ right)
       ∙ sym bytes) in
       ap (λ (m : ℕ). m ∷ numbersIn n (drop 4 buffer)) (ap rowNumber (sym fact))
       ∙ ap (λ (l : List ℕ). factNumber (factAt arities (take 4 buffer)) ∷ l)

@@ -13,28 +13,18 @@ use lib.Seq.{drop-drop, getD-drop}
 use borrow.Author.Tests.{lt-ltb, le-ltb, eq-eqb, eqb-true, ltb-true, ltb-false, leb-true, le-leb, lt-leb}
 use Rattle.laws.specs.Lists.{all, before}
 use Rattle.laws.proofs.Tests.{never, and-left, and-right, and-swap, same-test, by-test}
-use Rattle.laws.proofs.Lists.{all-at, mem-getD}
-use Rattle.model.specs.Card.{Atom, Task, above, between}
+use Rattle.model.specs.Card.{Atom, inRange, above}
 use Rattle.model.specs.Writer.{known}
 use Rattle.model.specs.Strips.{factBytes, factAt, factsIn, rowRight, rowsRight, ascending, wellFormed}
 use Rattle.model.proofs.Order.{bytes-order}
-use Rattle.model.proofs.Checked.{between-low, between-high}
-use Rattle.state.specs.Rows.{rowNumber, factNumber, rowAt, signature, inRange, placeRight, rowsIn}
+use Rattle.model.proofs.Checked.{arity-within}
+use Rattle.state.specs.Rows.{rowNumber, factNumber, rowAt, placeRight, rowsIn}
 use Rattle.state.proofs.RowBytes.{Four, four-at, number-order}
 
 -- which of two numbers is named first does not matter
 pub eqb-swap : (m n : ℕ) → eqb m n ≡ eqb n m
 eqb-swap m n =
     same-test (eqb m n) (eqb n m) (λ e. eq-eqb n m (sym (eqb-true m n e))) (λ e. eq-eqb m n (sym (eqb-true n m e)))
-
--- the arity of a known predicate is 1 to 3
-pub arity-low : (arities : List ℕ) (p : ℕ) → inRange arities ≡ true → p < length arities → 1 ≤ getD arities p 0
-unfolding inRange
-arity-low arities p e h = between-low 1 3 _ (all-at (between 1 3) arities e (getD arities p 0) (mem-getD arities p 0 h))
-
-pub arity-high : (arities : List ℕ) (p : ℕ) → inRange arities ≡ true → p < length arities → getD arities p 0 ≤ 3
-unfolding inRange
-arity-high arities p e h = between-high 1 3 _ (all-at (between 1 3) arities e (getD arities p 0) (mem-getD arities p 0 h))
 
 -- one, two or three arguments, and filler for the others
 one-right : (a b c : Bool) → ((true && true && (a && true)) && (b && (c && true))) ≡ (a && b && c)
@@ -58,9 +48,9 @@ three-right false b c = refl
 -- a row whose predicate is known is right if its three places are
 pub row-right-places :
     (arities : List ℕ) (objects p x y z arity : ℕ) → getD arities p 0 ≡ arity → p < length arities → 1 ≤ arity → arity ≤ 3
-    → rowRight (signature arities objects) (p ∷ x ∷ y ∷ z ∷ [])
+    → rowRight arities objects (p ∷ x ∷ y ∷ z ∷ [])
     ≡ (placeRight objects arity 1 x && placeRight objects arity 2 y && placeRight objects arity 3 z)
-unfolding rowRight signature known factAt all placeRight
+unfolding rowRight known factAt all placeRight
 row-right-places arities objects p x y z zero e h low high = absurd (not-suc-le-zero low)
 row-right-places arities objects p x y z (suc zero) e h low high =
     rw (e, lt-ltb p (length arities) h, eqb-swap 255 y, eqb-swap 255 z) (one-right (ltb x objects) (eqb y 255) (eqb z 255))
@@ -72,20 +62,21 @@ row-right-places arities objects p x y z (suc (suc (suc (suc k)))) e h low high 
 
 -- and one whose predicate is unknown is not
 pub row-right-unknown :
-    (arities : List ℕ) (objects p x y z : ℕ) → length arities ≤ p → rowRight (signature arities objects) (p ∷ x ∷ y ∷ z ∷ []) ≡ false
-unfolding rowRight signature known factAt
+    (arities : List ℕ) (objects p x y z : ℕ) → length arities ≤ p → rowRight arities objects (p ∷ x ∷ y ∷ z ∷ []) ≡ false
+unfolding rowRight known factAt
 row-right-unknown arities objects p x y z h = rw (le-ltb p (length arities) h)
 
 -- a right row is the four bytes of the fact that it stands for
 pub right-row-fact :
-    (arities : List ℕ) (objects p x y z : ℕ) → inRange arities ≡ true → rowRight (signature arities objects) (p ∷ x ∷ y ∷ z ∷ []) ≡ true
+    (arities : List ℕ) (objects p x y z : ℕ) → inRange arities ≡ true → rowRight arities objects (p ∷ x ∷ y ∷ z ∷ []) ≡ true
     → factBytes (factAt arities (p ∷ x ∷ y ∷ z ∷ [])) ≡ p ∷ x ∷ y ∷ z ∷ []
 unfolding factBytes factAt placeRight
 right-row-fact arities objects p x y z right e =
     by-test (ltb p (length arities))
     (λ h. let known = ltb-true p (length arities) h in
-    go (getD arities p 0) refl (arity-low arities p right known) (arity-high arities p right known)
-    (sym (row-right-places arities objects p x y z (getD arities p 0) refl known (arity-low arities p right known) (arity-high arities p right known)) ∙ e))
+    let within = arity-within arities p right known in
+    go (getD arities p 0) refl (within .0) (within .1)
+    (sym (row-right-places arities objects p x y z (getD arities p 0) refl known (within .0) (within .1)) ∙ e))
     (λ h. never (sym e ∙ row-right-unknown arities objects p x y z (ltb-false p (length arities) h)))
   where
     go : (arity : ℕ) → getD arities p 0 ≡ arity → 1 ≤ arity → arity ≤ 3
@@ -126,12 +117,12 @@ module _ (arities : List ℕ) (objects : ℕ) (right : inRange arities ≡ true)
   pub rows-in :
       (n : ℕ) (buffer : List ℕ) (previous : Option Atom) (least : ℕ) → Before arities objects previous least
       → 4 * n ≤ length buffer → ((i : ℕ) → getD buffer i 0 < 256)
-      → rowsIn (signature arities objects) least n buffer
-      ≡ (rowsRight (signature arities objects) n buffer && ascending previous (factsIn arities n buffer))
+      → rowsIn arities objects least n buffer
+      ≡ (rowsRight arities objects n buffer && ascending previous (factsIn arities n buffer))
   unfolding rowsIn rowsRight ascending factsIn
   rows-in zero buffer previous least before room small = refl
   rows-in (suc n) buffer previous least before room small =
-      step (rowRight (signature arities objects) (take 4 buffer)) refl
+      step (rowRight arities objects (take 4 buffer)) refl
       (λ b. rows-in n (drop 4 buffer) (some (factAt arities (take 4 buffer))) (suc (factNumber (factAt arities (take 4 buffer)))) b
       (let l = length-drop 4 buffer in omega arith)
       (λ i. subst (λ (k : ℕ). k < 256) (sym (getD-drop 4 buffer i 0)) (small (4 + i))))
@@ -152,50 +143,51 @@ module _ (arities : List ℕ) (objects : ℕ) (right : inRange arities ≡ true)
         small = (small 0, small 1, small 2, small 3);
       }
 
-      fact : rowRight (signature arities objects) (take 4 buffer) ≡ true → factBytes f ≡ take 4 buffer
+      fact : rowRight arities objects (take 4 buffer) ≡ true → factBytes f ≡ take 4 buffer
       fact e =
           ap (λ (r : List ℕ). factBytes (factAt arities r)) bytes
           ∙ right-row-fact arities objects (getD buffer 0 0) (getD buffer 1 0) (getD buffer 2 0) (getD buffer 3 0) right
-          (sym (ap (rowRight (signature arities objects)) bytes) ∙ e)
+          (sym (ap (rowRight arities objects) bytes) ∙ e)
           ∙ sym bytes
 
-      step : (r : Bool) → rowRight (signature arities objects) (take 4 buffer) ≡ r
+      step : (r : Bool) → rowRight arities objects (take 4 buffer) ≡ r
           → (Before arities objects (some f) (suc (factNumber f))
-          → rowsIn (signature arities objects) (suc (factNumber f)) n (drop 4 buffer)
-          ≡ (rowsRight (signature arities objects) n (drop 4 buffer) && ascending (some f) (factsIn arities n (drop 4 buffer))))
-          → (r && leb least (rowNumber (take 4 buffer)) && rowsIn (signature arities objects) (suc (rowNumber (take 4 buffer))) n (drop 4 buffer))
-          ≡ ((r && rowsRight (signature arities objects) n (drop 4 buffer))
+          → rowsIn arities objects (suc (factNumber f)) n (drop 4 buffer)
+          ≡ (rowsRight arities objects n (drop 4 buffer) && ascending (some f) (factsIn arities n (drop 4 buffer))))
+          → (r && leb least (rowNumber (take 4 buffer)) && rowsIn arities objects (suc (rowNumber (take 4 buffer))) n (drop 4 buffer))
+          ≡ ((r && rowsRight arities objects n (drop 4 buffer))
           && (above previous f && ascending (some f) (factsIn arities n (drop 4 buffer))))
       step false e later = refl
       step true e later =
           let number : rowNumber (take 4 buffer) ≡ factNumber f = (unfold factNumber in ap rowNumber (sym (fact e))) in
           let four-bytes : Four (factBytes f) = subst Four (sym (fact e)) four in
-          let is-known : known arities objects f ≡ true = (unfold rowRight signature in and-left (known arities objects f) _ e) in
-          ap (λ (k : ℕ). leb least k && rowsIn (signature arities objects) (suc k) n (drop 4 buffer)) number
-          ∙ ap (λ (b : Bool). b && rowsIn (signature arities objects) (suc (factNumber f)) n (drop 4 buffer))
+          let is-known : known arities objects f ≡ true = (unfold rowRight in and-left (known arities objects f) _ e) in
+          ap (λ (k : ℕ). leb least k && rowsIn arities objects (suc k) n (drop 4 buffer)) number
+          ∙ ap (λ (b : Bool). b && rowsIn arities objects (suc (factNumber f)) n (drop 4 buffer))
           (in-order previous least before f is-known four-bytes)
           ∙ ap (λ (b : Bool). above previous f && b) (later (after f is-known four-bytes))
-          ∙ and-swap (above previous f) (rowsRight (signature arities objects) n (drop 4 buffer))
+          ∙ and-swap (above previous f) (rowsRight arities objects n (drop 4 buffer))
           (ascending (some f) (factsIn arities n (drop 4 buffer)))
 
 -- so 15 is one pass over the rows
 pub well-formed-rows :
     (arities : List ℕ) (objects : ℕ) (buffer : List ℕ) (count : ℕ) → inRange arities ≡ true → ((i : ℕ) → getD buffer i 0 < 256)
     → 4096 ≤ length buffer → count ≤ 1024
-    → rowsIn (signature arities objects) 0 count buffer ≡ wellFormed (signature arities objects) buffer count
-unfolding wellFormed signature
+    → rowsIn arities objects 0 count buffer ≡ wellFormed arities objects buffer count
+unfolding wellFormed
 well-formed-rows arities objects buffer count right small large few =
     rows-in arities objects right count buffer none 0 at-start (omega arith) small
     ∙ sym (rw (le-leb 4096 (length buffer) large, le-leb count 1024 few) refl)
 
-pub small-buffer :
-    (t : Task) (buffer : List ℕ) (count : ℕ) → length buffer < 4096 → wellFormed t buffer count ≡ false
-unfolding wellFormed
-small-buffer t buffer count h = rw (lt-leb 4096 (length buffer) h)
+-- a buffer that is too short, and a count that is too large
+module _ (arities : List ℕ) (objects : ℕ) (buffer : List ℕ) (count : ℕ) where
+  pub small-buffer : length buffer < 4096 → false ≡ wellFormed arities objects buffer count
+  unfolding wellFormed
+  small-buffer h = rw (lt-leb 4096 (length buffer) h)
 
-pub large-count : (t : Task) (buffer : List ℕ) (count : ℕ) → 4096 ≤ length buffer → 1024 < count → wellFormed t buffer count ≡ false
-unfolding wellFormed
-large-count t buffer count h k = rw (le-leb 4096 (length buffer) h, lt-leb count 1024 k)
+  pub large-count : 4096 ≤ length buffer → 1024 < count → false ≡ wellFormed arities objects buffer count
+  unfolding wellFormed
+  large-count h k = rw (le-leb 4096 (length buffer) h, lt-leb count 1024 k)
 
 -- a test that fails, and the last of three
 pub first-fails : (a b c : Bool) → a ≡ false → false ≡ (a && b && c)
@@ -214,10 +206,10 @@ third-decides false b c e k = never (sym e)
 
 -- row i of a buffer, byte by byte
 module _ (arities : List ℕ) (objects i : ℕ) (buffer : List ℕ) (room : 4 * i + 4 ≤ length buffer) where
-  pub row-unknown : length arities ≤ getD buffer (4 * i) 0 → false ≡ rowRight (signature arities objects) (rowAt i buffer)
+  pub row-unknown : length arities ≤ getD buffer (4 * i) 0 → false ≡ rowRight arities objects (rowAt i buffer)
   unfolding rowAt
   row-unknown h =
-      sym (ap (rowRight (signature arities objects)) (four-at (4 * i) buffer room)
+      sym (ap (rowRight arities objects) (four-at (4 * i) buffer room)
       ∙ row-right-unknown arities objects (getD buffer (4 * i) 0) _ _ _ h)
 
   -- the test of place k
@@ -226,49 +218,50 @@ module _ (arities : List ℕ) (objects i : ℕ) (buffer : List ℕ) (room : 4 * 
 
   pub row-places :
       inRange arities ≡ true → getD buffer (4 * i) 0 < length arities
-      → (placeTest 1 && placeTest 2 && placeTest 3) ≡ rowRight (signature arities objects) (rowAt i buffer)
+      → (placeTest 1 && placeTest 2 && placeTest 3) ≡ rowRight arities objects (rowAt i buffer)
   unfolding rowAt
   row-places right h =
       let p : ℕ = getD buffer (4 * i) 0 in
-      sym (ap (rowRight (signature arities objects)) (four-at (4 * i) buffer room)
-      ∙ row-right-places arities objects p _ _ _ (getD arities p 0) refl h (arity-low arities p right h) (arity-high arities p right h))
+      let within = arity-within arities p right h in
+      sym (ap (rowRight arities objects) (four-at (4 * i) buffer room)
+      ∙ row-right-places arities objects p _ _ _ (getD arities p 0) refl h (within .0) (within .1))
 
 -- The pass over the rows: what the rows from i on say.
-module _ (t : Task) (count : ℕ) (buffer : List ℕ) where
-  pub rows-start : rowsIn t 0 (count - 0) (drop (4 * 0) buffer) ≡ rowsIn t 0 count buffer
-  rows-start = ap (λ (n : ℕ). rowsIn t 0 n buffer) (sub-zero count)
+module _ (arities : List ℕ) (objects count : ℕ) (buffer : List ℕ) where
+  pub rows-start : rowsIn arities objects 0 (count - 0) (drop (4 * 0) buffer) ≡ rowsIn arities objects 0 count buffer
+  rows-start = ap (λ (n : ℕ). rowsIn arities objects 0 n buffer) (sub-zero count)
 
   pub rows-step :
       (least i : ℕ) → i < count
-      → (rowRight t (rowAt i buffer) && leb least (rowNumber (rowAt i buffer))
-      && rowsIn t (rowNumber (rowAt i buffer) + 1) (count - (i + 1)) (drop (4 * (i + 1)) buffer))
-      ≡ rowsIn t least (count - i) (drop (4 * i) buffer)
+      → (rowRight arities objects (rowAt i buffer) && leb least (rowNumber (rowAt i buffer))
+      && rowsIn arities objects (rowNumber (rowAt i buffer) + 1) (count - (i + 1)) (drop (4 * (i + 1)) buffer))
+      ≡ rowsIn arities objects least (count - i) (drop (4 * i) buffer)
   unfolding rowsIn rowAt
   rows-step least i h =
       let left : count - i ≡ suc (count - (i + 1)) = omega arith in
       let next : 4 * i + 4 ≡ 4 * (i + 1) = omega arith in
       let row : List ℕ = take 4 (drop (4 * i) buffer) in
-      ap (λ (m : ℕ). rowRight t row && leb least (rowNumber row) && rowsIn t m (count - (i + 1)) (drop (4 * (i + 1)) buffer)) (add-one (rowNumber row))
-      ∙ ap (λ (l : List ℕ). rowRight t row && leb least (rowNumber row) && rowsIn t (suc (rowNumber row)) (count - (i + 1)) l)
+      ap (λ (m : ℕ). rowRight arities objects row && leb least (rowNumber row) && rowsIn arities objects m (count - (i + 1)) (drop (4 * (i + 1)) buffer)) (add-one (rowNumber row))
+      ∙ ap (λ (l : List ℕ). rowRight arities objects row && leb least (rowNumber row) && rowsIn arities objects (suc (rowNumber row)) (count - (i + 1)) l)
       (ap (λ (k : ℕ). drop k buffer) (sym next) ∙ sym (drop-drop 4 (4 * i) buffer))
-      ∙ ap (λ (k : ℕ). rowsIn t least k (drop (4 * i) buffer)) (sym left)
+      ∙ ap (λ (k : ℕ). rowsIn arities objects least k (drop (4 * i) buffer)) (sym left)
 
-  pub rows-end : (least i : ℕ) → count ≤ i → true ≡ rowsIn t least (count - i) (drop (4 * i) buffer)
+  pub rows-end : (least i : ℕ) → count ≤ i → true ≡ rowsIn arities objects least (count - i) (drop (4 * i) buffer)
   unfolding rowsIn
-  rows-end least i h = sym (ap (λ (k : ℕ). rowsIn t least k (drop (4 * i) buffer)) (let none-left : count - i ≡ 0 = omega arith in none-left))
+  rows-end least i h = sym (ap (λ (k : ℕ). rowsIn arities objects least k (drop (4 * i) buffer)) (let none-left : count - i ≡ 0 = omega arith in none-left))
 
   -- a row that is not right decides, and so does one that is not above those before it; another leaves it to the rows after it
-  module _ (least i : ℕ) (total : Bool) (left : rowsIn t least (count - i) (drop (4 * i) buffer) ≡ total) (more : i < count) where
-    pub rows-wrong : rowRight t (rowAt i buffer) ≡ false → false ≡ total
+  module _ (least i : ℕ) (total : Bool) (left : rowsIn arities objects least (count - i) (drop (4 * i) buffer) ≡ total) (more : i < count) where
+    pub rows-wrong : rowRight arities objects (rowAt i buffer) ≡ false → false ≡ total
     rows-wrong e = first-fails _ _ _ e ∙ rows-step least i more ∙ left
 
-    pub rows-low : (n : ℕ) → rowRight t (rowAt i buffer) ≡ true → n ≡ rowNumber (rowAt i buffer) → n < least → false ≡ total
+    pub rows-low : (n : ℕ) → rowRight arities objects (rowAt i buffer) ≡ true → n ≡ rowNumber (rowAt i buffer) → n < least → false ≡ total
     rows-low n e p h =
         second-fails _ _ _ e (ap (leb least) (sym p) ∙ lt-leb least n h) ∙ rows-step least i more ∙ left
 
     pub rows-again :
-        (n : ℕ) → rowRight t (rowAt i buffer) ≡ true → n ≡ rowNumber (rowAt i buffer) → least ≤ n
-        → rowsIn t (n + 1) (count - (i + 1)) (drop (4 * (i + 1)) buffer) ≡ total
+        (n : ℕ) → rowRight arities objects (rowAt i buffer) ≡ true → n ≡ rowNumber (rowAt i buffer) → least ≤ n
+        → rowsIn arities objects (n + 1) (count - (i + 1)) (drop (4 * (i + 1)) buffer) ≡ total
     rows-again n e p h =
-        ap (λ (m : ℕ). rowsIn t (m + 1) (count - (i + 1)) (drop (4 * (i + 1)) buffer)) p
+        ap (λ (m : ℕ). rowsIn arities objects (m + 1) (count - (i + 1)) (drop (4 * (i + 1)) buffer)) p
         ∙ third-decides _ _ _ e (ap (leb least) (sym p) ∙ le-leb least n h) ∙ rows-step least i more ∙ left

@@ -5,8 +5,7 @@ use mathlib.Core.Bool.{Bool, true, cond, _&&_}
 use mathlib.Core.List.{List, [], _∷_, _++_, flatMap}
 use lib.Dec.{leb, ltb, eqb}
 use lib.ListN.{length, getD, take, drop, replicate}
-use Rattle.laws.specs.Lists.{all}
-use Rattle.model.specs.Card.{Atom, Task, between}
+use Rattle.model.specs.Card.{Atom, inRange}
 use Rattle.model.specs.Strips.{filler, stateBytes, factBytes, rowRight}
 
 unfoldable pub rowNumber : List ℕ → ℕ
@@ -28,14 +27,6 @@ unfoldable pub numbersIn : ℕ → List ℕ → List ℕ
 numbersIn zero buffer = []
 numbersIn (suc n) buffer = rowNumber (take 4 buffer) ∷ numbersIn n (drop 4 buffer)
 
--- what a task says of the shape of facts: the arities of its predicates, and the number of its objects
-unfoldable pub signature : List ℕ → ℕ → Task
-signature arities objects = record { arities = arities; objects = objects; schemas = []; facts = [] }
-
--- every arity is 1 to 3
-unfoldable pub inRange : List ℕ → Bool
-inRange arities = all (between 1 3) arities
-
 -- What bounds the bytes of facts: arities of 1 to 3, and predicates and objects that fit a byte.
 pub record Shape (arities : List ℕ) (objects : ℕ) : Type 0 where
   pub right : inRange arities ≡ true
@@ -47,11 +38,11 @@ unfoldable pub placeRight : ℕ → ℕ → ℕ → ℕ → Bool
 placeRight objects arity k byte = cond (leb k arity) (ltb byte objects) (eqb byte filler)
 
 -- the first n rows are right, and their numbers ascend from `least` on
-unfoldable pub rowsIn : Task → ℕ → ℕ → List ℕ → Bool
-rowsIn t least zero buffer = true
-rowsIn t least (suc n) buffer =
-    rowRight t (take 4 buffer) && leb least (rowNumber (take 4 buffer))
-    && rowsIn t (suc (rowNumber (take 4 buffer))) n (drop 4 buffer)
+unfoldable pub rowsIn : List ℕ → ℕ → ℕ → ℕ → List ℕ → Bool
+rowsIn arities objects least zero buffer = true
+rowsIn arities objects least (suc n) buffer =
+    rowRight arities objects (take 4 buffer) && leb least (rowNumber (take 4 buffer))
+    && rowsIn arities objects (suc (rowNumber (take 4 buffer))) n (drop 4 buffer)
 
 -- rows written to the front of a buffer, then 0 up to byte 4,096; the bytes beyond are unchanged
 unfoldable pub stored : List ℕ → List ℕ → List ℕ

@@ -4,8 +4,17 @@ ghost use mathlib.Core.Bool.{true};
 ghost use mathlib.Core.Path.{_≡_};
 ghost use mathlib.Core.List.{_++_, _∷_, [], flatMap};
 ghost use lib.ListN.{length, take, drop, replicate};
-ghost use Rattle.model.specs.Strips.{rowRight, wellFormed};
-ghost use Rattle.state.specs.Rows.{rowNumber, rowBytes, rowAt, numbersIn, signature, inRange, stored, placeRight, rowsIn};
+ghost use Rattle.model.specs.Card.{inRange};
+ghost use Rattle.model.specs.Strips.{stateBytes, mostFacts, rowRight, wellFormed};
+ghost use Rattle.state.specs.Rows.{rowNumber, rowBytes, rowAt, numbersIn, stored, placeRight, rowsIn};
+
+// How many bytes of its buffer a state takes, how many facts it has at most, and the byte that stands for a missing argument.
+// Document 01, "Pressing".
+pub const STATE_BYTES: usize = 4096;
+
+pub const MOST_FACTS: usize = 1024;
+
+pub const FILLER: u8 = 255;
 
 // Four bytes as one number, the first of them highest.
 pub fn row_number(a: u8, b: u8, c: u8, d: u8) -> u32
@@ -42,14 +51,14 @@ fn place_right(byte: u8, k: u8, arity: u8, objects: usize) -> bool
     if k <= arity {
         (byte as usize) < objects
     } else {
-        byte == 255
+        byte == FILLER
     }
 }
 
 // Row i is right: its predicate and objects are known, and filler stands after them.
 fn row_right(state: &[u8], i: usize, arities: &[u8], objects: usize) -> bool
     requires { ⌜ (4 * i + 4 ≤ length (now state)) × (inRange (now arities) ≡ true) ⌝ }
-    ensures { λ r. ⌜ r ≡ rowRight (signature (now (arities .entry)) objects) (rowAt i (now (state .entry))) ⌝ }
+    ensures { λ r. ⌜ r ≡ rowRight (now (arities .entry)) objects (rowAt i (now (state .entry))) ⌝ }
 {
     let at = 4 * i;
     let predicate = state[at] as usize;
@@ -69,7 +78,7 @@ fn row_right(state: &[u8], i: usize, arities: &[u8], objects: usize) -> bool
 // The first `count` rows are right, and each stands above the one before it.
 fn rows_right(state: &[u8], count: usize, arities: &[u8], objects: usize) -> bool
     requires { ⌜ (4 * count ≤ length (now state)) × (inRange (now arities) ≡ true) ⌝ }
-    ensures { λ r. ⌜ r ≡ rowsIn (signature (now (arities .entry)) objects) 0 count (now (state .entry)) ⌝ }
+    ensures { λ r. ⌜ r ≡ rowsIn (now (arities .entry)) objects 0 count (now (state .entry)) ⌝ }
 {
     let mut least: u64 = 0;
     let mut i = 0;
@@ -90,12 +99,12 @@ fn rows_right(state: &[u8], count: usize, arities: &[u8], objects: usize) -> boo
 // The buffer and the count hold a state.
 pub fn well_formed(state: &[u8], count: usize, arities: &[u8], objects: usize) -> bool
     requires { ⌜ inRange (now arities) ≡ true ⌝ }
-    ensures { λ r. ⌜ r ≡ wellFormed (signature (now (arities .entry)) objects) (now (state .entry)) count ⌝ }
+    ensures { λ r. ⌜ r ≡ wellFormed (now (arities .entry)) objects (now (state .entry)) count ⌝ }
 {
-    if state.len() < 4096 {
+    if state.len() < STATE_BYTES {
         return false;
     }
-    if 1024 < count {
+    if MOST_FACTS < count {
         return false;
     }
     rows_right(state, count, arities, objects)
@@ -127,11 +136,11 @@ fn write_rows(state: &mut [u8], numbers: &[u32])
 
 // 0 from a byte on, up to byte 4,096.
 fn clear(state: &mut [u8], at: usize)
-    requires { ⌜ (at ≤ 4096) × (4096 ≤ length (now state)) ⌝ }
-    ensures { λ r. ⌜ now (state .exit) ≡ take at (now (state .entry)) ++ replicate (4096 - at) 0 ++ drop 4096 (now (state .entry)) ⌝ }
+    requires { ⌜ (at ≤ stateBytes) × (stateBytes ≤ length (now state)) ⌝ }
+    ensures { λ r. ⌜ now (state .exit) ≡ take at (now (state .entry)) ++ replicate (stateBytes - at) 0 ++ drop stateBytes (now (state .entry)) ⌝ }
 {
     let mut i = at;
-    while i < 4096 {
+    while i < STATE_BYTES {
         state[i] = 0;
         i = i + 1;
     }
@@ -139,7 +148,7 @@ fn clear(state: &mut [u8], at: usize)
 
 // Stores a state: its rows, then 0 up to byte 4,096.
 pub fn store(state: &mut [u8], numbers: &[u32])
-    requires { ⌜ (length (now numbers) ≤ 1024) × (4096 ≤ length (now state)) ⌝ }
+    requires { ⌜ (length (now numbers) ≤ mostFacts) × (stateBytes ≤ length (now state)) ⌝ }
     ensures { λ r. ⌜ now (state .exit) ≡ stored (now (numbers .entry)) (now (state .entry)) ⌝ }
 {
     write_rows(state, numbers);

@@ -12,65 +12,60 @@ use Rattle.laws.specs.Lists.{all, keep, member}
 use Rattle.laws.proofs.Tests.{and-left, and-right}
 use Rattle.laws.proofs.Lists.{all-at, all-intro}
 use Rattle.laws.proofs.Mapped.{all-map, all-ext}
-use Rattle.model.specs.Answer.{accepted, _>>=_, _>>_, need}
+use Rattle.model.specs.Answer.{_>>=_, _>>_, need}
 use Rattle.model.specs.Card.{Atom, has}
 use Rattle.model.specs.Card as model
 use Rattle.model.specs.Writer.{known}
-use Rattle.model.specs.Strips.{State, factsIn, ascending, written, ground, applicable, put, takenOut, putIn, successor}
-use Rattle.model.specs.Calls.{finish, store}
+use Rattle.model.specs.Strips.{State, factsIn, ascending, ground, applicable, put, takenOut, putIn, successor, progress}
+use Rattle.model.specs.Calls.{finish}
 use Rattle.model.proofs.Checked.{CheckedSchema, checked-schema}
 use Rattle.model.proofs.Buffer.{WellFormed, well-formed, rows-known}
 use Rattle.model.proofs.States.{ground-known}
 use Rattle.card.specs.Represents.{atomsOf, schemaOf}
 use Rattle.card.specs.declared.AtomList.{AtomList}
 use Rattle.card.specs.declared.Schema.{Schema}
-use Rattle.sets.specs.Numbers.{rising, insertedAll, filled, Holds, Becomes}
-use Rattle.state.specs.Rows.{factNumber, numbersIn, signature, stored, Shape}
+use Rattle.sets.specs.Numbers.{rising, insertedAll, filled, SetKept, Becomes}
+use Rattle.state.specs.Rows.{factNumber, numbersIn, stored, Shape}
 use Rattle.state.proofs.Writing.{length-numbersIn}
 use Rattle.state.proofs.FactNumbers.{allKnown, member-has, numbers-puts, numbers-removed, rising-state, numbers-of-rows, stored-written, put-known, keep-known}
 use Rattle.actions.specs.Grounds.{Bound}
-use Rattle.strips.specs.Answers.{appliedSays, Does}
-use Rattle.strips.specs.Stages.{leaving, replaced, changed, allHeld, nextNumbers, ListKept, StateKept, Ready, NextReady}
+use Rattle.strips.specs.Answers.{appliedSays, Matches}
+use Rattle.strips.specs.Steps.{storing, storingNumbers, allHeld, nextNumbers, ListKept, StateKept, ActionReady, NextReady}
 use Rattle.strips.proofs.Replacing.{replaced-by-facts}
 use Rattle.strips.specs.declared.Applied.{Applied}
 use Rattle.strips.specs.declared.Applied.the-variants.{PreconditionMissing}
 
 -- facts put in one after the other are known
 puts-known :
-    (arities : List ℕ) (bound : ℕ) (shape : Shape arities bound) (fs : List Atom) (s : State) → allKnown arities bound shape fs
-    → allKnown arities bound shape s → allKnown arities bound shape (foldl (λ r f. put f r) s fs)
+    {arities : List ℕ} {bound : ℕ} (shape : Shape arities bound) (fs : List Atom) (s : State) → allKnown arities bound fs
+    → allKnown arities bound s → allKnown arities bound (foldl (λ r f. put f r) s fs)
 unfolding all
-puts-known arities bound shape [] s j k = k
-puts-known arities bound shape (f ∷ fs) s j k =
-    puts-known arities bound shape fs (put f s) (and-right (known arities bound f) (all (known arities bound) fs) j)
-    (put-known arities bound shape f s (and-left (known arities bound f) (all (known arities bound) fs) j) k)
+puts-known shape [] s j k = k
+puts-known {arities} {bound} shape (f ∷ fs) s j k =
+    puts-known shape fs (put f s) (and-right (known arities bound f) (all (known arities bound) fs) j)
+    (put-known shape f s (and-left (known arities bound f) (all (known arities bound) fs) j) k)
 
 -- A well-formed state in a buffer.
-module _ (arities : List ℕ) (bound : ℕ) (buffer : List ℕ) (count : ℕ) (kept : StateKept arities bound buffer count) where
-  abbrev pub stateIn : State
+module _ {arities : List ℕ} {bound : ℕ} {buffer : List ℕ} {count : ℕ} (kept : StateKept arities bound buffer count) where
+  abbrev stateIn : State
   stateIn = factsIn arities count buffer
 
-  pub state-formed : WellFormed (signature arities bound) buffer count
-  state-formed = well-formed (signature arities bound) buffer count (kept .well)
+  pub state-formed : WellFormed arities bound buffer count
+  state-formed = well-formed arities bound buffer count (kept .well)
 
-  pub state-known : allKnown arities bound (kept .shape) stateIn
-  unfolding signature
-  state-known = rows-known (signature arities bound) count buffer (state-formed .rows)
+  pub state-known : allKnown arities bound stateIn
+  state-known = rows-known arities bound count buffer (state-formed .rows)
 
-  pub state-ascends : ascending none stateIn ≡ true
-  unfolding signature
-  state-ascends = state-formed .order
-
-  pub state-numbers : numbersIn count buffer ≡ map factNumber stateIn
+  state-numbers : numbersIn count buffer ≡ map factNumber stateIn
   state-numbers =
       let room = state-formed .room in
       let few = state-formed .count-fits in
-      numbers-of-rows arities bound (kept .shape) count buffer (state-formed .rows) (omega arith)
+      numbers-of-rows (kept .shape) count buffer (state-formed .rows) (omega arith)
 
   -- the state's numbers loaded to the front of zeros
-  module _ (size : ℕ) (room : count ≤ size) (numbers : List ℕ) (loaded : numbers ≡ numbersIn count buffer ++ drop count (replicate size 0)) where
-    pub loaded-set : take count numbers ≡ map factNumber stateIn
-    loaded-set = ap (take count) loaded ∙ take-at (numbersIn count buffer) _ count (length-numbersIn count buffer) ∙ state-numbers
+  module _ {size : ℕ} (room : count ≤ size) {numbers : List ℕ} (loaded : numbers ≡ numbersIn count buffer ++ drop count (replicate size 0)) where
+    pub loaded-numbers : take count numbers ≡ map factNumber stateIn
+    loaded-numbers = ap (take count) loaded ∙ take-at (numbersIn count buffer) _ count (length-numbersIn count buffer) ∙ state-numbers
 
     pub loaded-length : length numbers ≡ size
     loaded-length =
@@ -80,10 +75,10 @@ module _ (arities : List ℕ) (bound : ℕ) (buffer : List ℕ) (count : ℕ) (k
         let c = length-replicate {A = ℕ} size 0 in
         omega arith)
 
-    pub loaded-holds : Holds count numbers
-    loaded-holds = record {
+    pub loaded-set : SetKept count numbers
+    loaded-set = record {
       few = let n = loaded-length in omega arith;
-      ascends = ap (rising 0) loaded-set ∙ rising-state arities bound (kept .shape) stateIn state-known state-ascends;
+      ascends = ap (rising 0) loaded-numbers ∙ rising-state (kept .shape) stateIn state-known (state-formed .in-order);
       blank =
           ap (drop count) loaded ∙ drop-at (numbersIn count buffer) _ count (length-numbersIn count buffer) ∙ drop-zeros count size
           ∙ ap (λ (n : ℕ). replicate (n - count) 0) (sym loaded-length);
@@ -95,15 +90,18 @@ module _ (arities : List ℕ) (bound : ℕ) (buffer : List ℕ) (count : ℕ) (k
         drop-zeros (suc k) (suc n) = drop-zeros k n ∙ ap (λ (m : ℕ). replicate {A = ℕ} m 0) (let e : n - k ≡ suc n - suc k = omega arith in e)
 
 -- An action with one known object for each parameter, and a well-formed state.
-module _ (arities objects : List ℕ) (schema : Schema) (buffer : List ℕ) (count : ℕ) (ready : Ready arities objects schema buffer count) where
+module _ {arities objects : List ℕ} {schema : Schema} {buffer : List ℕ} {count : ℕ} (ready : ActionReady arities objects schema buffer count) where
   abbrev shape : Shape arities (ready .known-objects)
   shape = ready .state .shape
 
-  abbrev pub model-schema : model.Schema
+  abbrev model-schema : model.Schema
   model-schema = schemaOf arities schema
 
-  abbrev pub before : State
+  abbrev before : State
   before = factsIn arities count buffer
+
+  abbrev next : State
+  next = successor model-schema objects before
 
   right : CheckedSchema arities model-schema
   right = checked-schema arities model-schema (ready .schema-kept .checks)
@@ -120,119 +118,114 @@ module _ (arities objects : List ℕ) (schema : Schema) (buffer : List ℕ) (cou
   unfolding schemaOf
   preconditions-bound = bound-list (schema .preconditions) (ready .schema-kept .preconditions) (right .preconditions-right .atoms-known)
 
-  pub deletes-bound : Bound arities objects (schema .deletes)
+  deletes-bound : Bound arities objects (schema .deletes)
   unfolding schemaOf
   deletes-bound = bound-list (schema .deletes) (ready .schema-kept .deletes) (right .deletes-right .atoms-known)
 
-  pub adds-bound : Bound arities objects (schema .adds)
+  adds-bound : Bound arities objects (schema .adds)
   unfolding schemaOf
   adds-bound = bound-list (schema .adds) (ready .schema-kept .adds) (right .adds-right .atoms-known)
 
   -- ground facts are known
   grounds-known : (atoms : List Atom) → all (known arities (length objects)) atoms ≡ true
-      → allKnown arities (ready .known-objects) shape (map (ground objects) atoms)
+      → allKnown arities (ready .known-objects) (map (ground objects) atoms)
   grounds-known atoms e =
       all-map (ground objects) (known arities (ready .known-objects)) atoms
       ∙ all-intro _ atoms (λ a m. ground-known arities (length objects) (ready .known-objects) objects a refl (ready .objects-known)
       (all-at (known arities (length objects)) atoms e a m))
 
+  before-known : allKnown arities (ready .known-objects) before
+  before-known = state-known (ready .state)
+
   -- every precondition is among the state's numbers if the state has it
-  pub applicable-numbers : allHeld model-schema objects (map factNumber before) ≡ applicable model-schema objects before
+  applicable-numbers : allHeld model-schema objects (map factNumber before) ≡ applicable model-schema objects before
   unfolding allHeld applicable schemaOf
   applicable-numbers =
       all-map factNumber (λ n. member n (map factNumber before)) (map (ground objects) (atomsOf arities (schema .preconditions)))
       ∙ all-same (map (ground objects) (atomsOf arities (schema .preconditions)))
       (grounds-known (atomsOf arities (schema .preconditions)) (preconditions-bound .atoms-known))
     where
-      all-same : (fs : List Atom) → allKnown arities (ready .known-objects) shape fs
+      all-same : (fs : List Atom) → allKnown arities (ready .known-objects) fs
           → all (λ f. member (factNumber f) (map factNumber before)) fs ≡ all (has before) fs
       all-same fs k =
           all-ext (λ f. member (factNumber f) (map factNumber before)) (has before) fs
-          (λ f m. member-has arities (ready .known-objects) shape f before (all-at (known arities (ready .known-objects)) fs k f m)
-          (state-known arities (ready .known-objects) buffer count (ready .state)))
+          (λ f m. member-has shape f before (all-at (known arities (ready .known-objects)) fs k f m) before-known)
 
-  out-known : allKnown arities (ready .known-objects) shape (takenOut model-schema objects)
+  out-known : allKnown arities (ready .known-objects) (takenOut model-schema objects)
   unfolding takenOut schemaOf
   out-known = grounds-known (atomsOf arities (schema .deletes)) (deletes-bound .atoms-known)
 
-  in-known : allKnown arities (ready .known-objects) shape (putIn model-schema objects)
+  in-known : allKnown arities (ready .known-objects) (putIn model-schema objects)
   unfolding putIn schemaOf
   in-known = grounds-known (atomsOf arities (schema .adds)) (adds-bound .atoms-known)
 
   abbrev left : State
   left = keep (λ f. not (has (takenOut model-schema objects) f)) before
 
-  left-known : allKnown arities (ready .known-objects) shape left
-  left-known =
-      keep-known arities (ready .known-objects) shape (λ f. not (has (takenOut model-schema objects) f)) before
-      (state-known arities (ready .known-objects) buffer count (ready .state))
+  left-known : allKnown arities (ready .known-objects) left
+  left-known = keep-known shape (λ f. not (has (takenOut model-schema objects) f)) before before-known
 
   -- the next state: its facts are known, and its numbers
-  pub next-known : allKnown arities (ready .known-objects) shape (successor model-schema objects before)
+  next-known : allKnown arities (ready .known-objects) next
   unfolding successor
-  next-known = puts-known arities (ready .known-objects) shape (putIn model-schema objects) left in-known left-known
+  next-known = puts-known shape (putIn model-schema objects) left in-known left-known
 
-  pub next-numbers : nextNumbers model-schema objects (map factNumber before) ≡ map factNumber (successor model-schema objects before)
+  next-numbers : nextNumbers model-schema objects (map factNumber before) ≡ map factNumber next
   unfolding nextNumbers successor
   next-numbers =
-      sym (numbers-puts arities (ready .known-objects) shape (putIn model-schema objects) left in-known left-known
+      sym (numbers-puts shape (putIn model-schema objects) left in-known left-known
       ∙ ap (insertedAll (map factNumber (putIn model-schema objects)))
-      (numbers-removed arities (ready .known-objects) shape (takenOut model-schema objects) before out-known
-      (state-known arities (ready .known-objects) buffer count (ready .state))))
+      (numbers-removed shape (takenOut model-schema objects) before out-known before-known))
 
   -- What the function answers: 19, 20, or the count of the next state, which is stored.
-  pub refused-missing : applicable model-schema objects before ≡ false → Does (leaving buffer (changed model-schema objects before)) buffer PreconditionMissing
-  unfolding leaving changed need _>>_ _>>=_ finish appliedSays
+  pub refused-missing : applicable model-schema objects before ≡ false
+      → Matches (storing buffer (progress model-schema objects before)) buffer PreconditionMissing
+  unfolding storing progress need _>>_ _>>=_ finish appliedSays
   refused-missing e = rw e (record { answer = refl; buffer = refl })
 
   -- storing the numbers of the next state is what is asked where the preconditions hold
   pub next-replaced :
-      (numbers after : List ℕ) (r : Applied) → applicable model-schema objects before ≡ true → numbers ≡ map factNumber (successor model-schema objects before)
-      → Does (replaced numbers buffer) after r → Does (leaving buffer (changed model-schema objects before)) after r
-  unfolding changed need _>>_ _>>=_
-  next-replaced numbers after r e q does =
-      let next = successor model-schema objects before in
-      let same =
-      ap (λ (l : List ℕ). stored l buffer) q ∙ stored-written arities (ready .known-objects) shape next buffer next-known in
-      rw e (rw (replaced-by-facts numbers buffer next (ap length q ∙ length-map next factNumber) same) at does)
+      {numbers after : List ℕ} {r : Applied} → applicable model-schema objects before ≡ true → numbers ≡ map factNumber next
+      → Matches (storingNumbers buffer numbers) after r → Matches (storing buffer (progress model-schema objects before)) after r
+  unfolding progress need _>>_ _>>=_
+  next-replaced {numbers} e q matches =
+      let same = ap (λ (l : List ℕ). stored l buffer) q ∙ stored-written shape next buffer next-known in
+      rw e (rw (replaced-by-facts numbers buffer next (ap length q ∙ length-map next factNumber) same) at matches)
 
   -- the state's numbers loaded to the front of an array of zeros
-  module _ (numbers : List ℕ) (loaded : numbers ≡ numbersIn count buffer ++ drop count (replicate 1032 0)) where
+  module _ {numbers : List ℕ} (loaded : numbers ≡ numbersIn count buffer ++ drop count (replicate 1032 0)) where
     few-rows : count ≤ 1024
-    few-rows = state-formed arities (ready .known-objects) buffer count (ready .state) .count-fits
+    few-rows = state-formed (ready .state) .count-fits
 
     enough : count ≤ 1032
     enough = let few = few-rows in omega arith
 
-    pub held : Holds count numbers
-    held = loaded-holds arities (ready .known-objects) buffer count (ready .state) 1032 enough numbers loaded
+    pub set-loaded : SetKept count numbers
+    set-loaded = loaded-set (ready .state) enough loaded
 
     numbers-are : take count numbers ≡ map factNumber before
-    numbers-are = loaded-set arities (ready .known-objects) buffer count (ready .state) 1032 enough numbers loaded
+    numbers-are = loaded-numbers (ready .state) enough loaded
 
     pub next-ready : NextReady arities objects schema numbers count
     next-ready = record {
       deletes = deletes-bound;
       adds = adds-bound;
-      holds = held;
-      room =
-          let size = loaded-length arities (ready .known-objects) buffer count (ready .state) 1032 enough numbers loaded in
-          let few = few-rows in
-          omega arith;
+      set = set-loaded;
+      room = let size = loaded-length (ready .state) enough loaded in let few = few-rows in omega arith;
     }
 
     -- what the test of the preconditions says
-    pub test-says : (r : Bool) → r ≡ allHeld model-schema objects (take (count - 0) numbers) → r ≡ applicable model-schema objects before
-    test-says r e =
+    pub test-says : {r : Bool} → r ≡ allHeld model-schema objects (take (count - 0) numbers) → r ≡ applicable model-schema objects before
+    test-says e =
         e ∙ ap (λ (k : ℕ). allHeld model-schema objects (take k numbers)) (sub-zero count)
         ∙ ap (allHeld model-schema objects) numbers-are ∙ applicable-numbers
 
     -- what the numbers of the next state say
-    module _ (after : List ℕ) (n : ℕ) (becomes : Becomes (nextNumbers model-schema objects (take count numbers)) numbers after n) where
-      next-are : nextNumbers model-schema objects (take count numbers) ≡ map factNumber (successor model-schema objects before)
+    module _ {after : List ℕ} {n : ℕ} (becomes : Becomes (nextNumbers model-schema objects (take count numbers)) numbers after n) where
+      next-are : nextNumbers model-schema objects (take count numbers) ≡ map factNumber next
       next-are = ap (nextNumbers model-schema objects) numbers-are ∙ next-numbers
 
-      pub next-stored : take (n - 0) after ≡ map factNumber (successor model-schema objects before)
+      pub next-stored : take (n - 0) after ≡ map factNumber next
       unfolding filled
       next-stored =
           ap (λ (k : ℕ). take k after) (sub-zero n) ∙ ap (take n) (becomes .listed)

@@ -12,13 +12,13 @@ use Rattle.model.specs.Strips.{ground, takenOut, putIn}
 use Rattle.card.specs.Represents.{atomOf, atomsOf, schemaOf}
 use Rattle.card.specs.declared.AtomList.{AtomList}
 use Rattle.card.specs.declared.Schema.{Schema}
-use Rattle.sets.specs.Numbers.{rising, without, withoutAll, insertedAll, filled, Holds, Becomes}
+use Rattle.sets.specs.Numbers.{rising, without, withoutAll, insertedAll, filled, SetKept, Becomes}
 use Rattle.sets.proofs.Ascending.{without-rising, length-without}
-use Rattle.sets.proofs.Changing.{left-set, left-length, left-holds}
+use Rattle.sets.proofs.Changing.{left-set, left-length, left-kept}
 use Rattle.state.specs.Rows.{factNumber}
 use Rattle.actions.specs.Grounds.{factsKept, Bound}
 use Rattle.actions.specs.declared.Facts.{Facts}
-use Rattle.strips.specs.Stages.{nextNumbers, NextReady}
+use Rattle.strips.specs.Steps.{nextNumbers, NextReady}
 
 -- a set that only loses numbers ascends, and is no longer
 pub withoutAll-rising : (out ns : List ℕ) → rising 0 ns ≡ true → rising 0 (withoutAll out ns) ≡ true
@@ -33,24 +33,25 @@ length-withoutAll (n ∷ out) ns = le-trans (length-withoutAll out (without n ns
 
 -- as many facts as the list has atoms
 pub length-grounds :
-    (arities objects : List ℕ) (l : AtomList) → Bound arities objects l → length (map (ground objects) (atomsOf arities l)) ≡ l .count
+    {arities objects : List ℕ} {l : AtomList} → Bound arities objects l → length (map (ground objects) (atomsOf arities l)) ≡ l .count
 unfolding atomsOf
-length-grounds arities objects l b =
+length-grounds {arities} {objects} {l} b =
     let few = b .few in
     let size = b .size in
     length-map (atomsOf arities l) (ground objects) ∙ length-map (take (l .count) (l .atoms)) (atomOf arities)
     ∙ length-take-le (l .count) (l .atoms) (omega arith)
 
-pub few-out : (arities objects : List ℕ) (schema : Schema) → Bound arities objects (schema .deletes) → length (takenOut (schemaOf arities schema) objects) ≤ 8
-unfolding takenOut schemaOf
-few-out arities objects schema b = let n = length-grounds arities objects (schema .deletes) b in let few = b .few in omega arith
+module _ {arities objects : List ℕ} (schema : Schema) where
+  pub few-out : Bound arities objects (schema .deletes) → length (takenOut (schemaOf arities schema) objects) ≤ 8
+  unfolding takenOut schemaOf
+  few-out b = let n = length-grounds b in let few = b .few in omega arith
 
-pub few-in : (arities objects : List ℕ) (schema : Schema) → Bound arities objects (schema .adds) → length (putIn (schemaOf arities schema) objects) ≤ 8
-unfolding putIn schemaOf
-few-in arities objects schema b = let n = length-grounds arities objects (schema .adds) b in let few = b .few in omega arith
+  pub few-in : Bound arities objects (schema .adds) → length (putIn (schemaOf arities schema) objects) ≤ 8
+  unfolding putIn schemaOf
+  few-in b = let n = length-grounds b in let few = b .few in omega arith
 
 -- Facts as the code keeps them: their count, and their numbers at the front.
-module _ (f : Facts) (facts : List model.Atom) (kept : f ≡ factsKept facts) (few : length facts ≤ 8) where
+module _ {f : Facts} (facts : List model.Atom) (kept : f ≡ factsKept facts) (few : length facts ≤ 8) where
   pub kept-count : f .count ≡ length facts
   unfolding factsKept
   kept-count = ap (λ (g : Facts). g .count) kept
@@ -73,28 +74,28 @@ module _ (f : Facts) (facts : List model.Atom) (kept : f ≡ factsKept facts) (f
 
 -- What the code knows between taking out and putting in.
 module _
-    (arities objects : List ℕ) (schema : Schema) (was : List ℕ) (count : ℕ) (ready : NextReady arities objects schema was count)
-    (now : List ℕ) (left : ℕ)
+    {arities objects : List ℕ} {schema : Schema} {was : List ℕ} {count : ℕ} (ready : NextReady arities objects schema was count)
+    {now : List ℕ} {left : ℕ}
     (gone : Becomes (withoutAll (map factNumber (takenOut (schemaOf arities schema) objects)) (take count was)) was now left)
   where
     out : List ℕ
     out = map factNumber (takenOut (schemaOf arities schema) objects)
 
     size : length (take count was) ≡ count
-    size = length-take-le count was (ready .holds .few)
+    size = length-take-le count was (ready .set .few)
 
     fits : length (withoutAll out (take count was)) ≤ length was
     unfolding out
-    fits = let fewer = length-withoutAll out (take count was) in let n = size in let few = ready .holds .few in omega arith
+    fits = let fewer = length-withoutAll out (take count was) in let n = size in let few = ready .set .few in omega arith
 
     pub between-length : length now ≡ length was
     unfolding out
-    between-length = left-length (withoutAll out (take count was)) was now left gone fits
+    between-length = left-length gone fits
 
-    pub between-holds : Holds left now
+    pub between-set : SetKept left now
     unfolding out
-    between-holds =
-        left-holds (withoutAll out (take count was)) was now left gone fits (withoutAll-rising out (take count was) (ready .holds .ascends))
+    between-set =
+        left-kept gone fits (withoutAll-rising out (take count was) (ready .set .ascends))
 
     pub between-few : left ≤ count
     unfolding out
@@ -102,11 +103,11 @@ module _
         let fewer = length-withoutAll out (take count was) in let n = size in let c = gone .counted in omega arith
 
     pub next-becomes :
-        (next : List ℕ) (r : ℕ) → Becomes (insertedAll (map factNumber (putIn (schemaOf arities schema) objects)) (take left now)) now next r
+        {next : List ℕ} {r : ℕ} → Becomes (insertedAll (map factNumber (putIn (schemaOf arities schema) objects)) (take left now)) now next r
         → Becomes (nextNumbers (schemaOf arities schema) objects (take count was)) was next r
     unfolding nextNumbers filled out
-    next-becomes next r b =
-        let same = left-set (withoutAll out (take count was)) was now left gone fits in
+    next-becomes b =
+        let same = left-set gone fits in
         let new : List ℕ = map factNumber (putIn (schemaOf arities schema) objects) in
         record {
           listed =

@@ -8,20 +8,20 @@ use mathlib.Core.List.{List, _++_, map}
 use lib.ListN.{length, getD, take, drop, length-map}
 use lib.Seq.{take-at}
 use Rattle.model.specs.Card as model
-use Rattle.model.specs.Strips.{Action, factsIn, wellFormed}
-use Rattle.model.specs.Calls.{Call}
+use Rattle.model.specs.Strips.{Action, stateBytes, factsIn, wellFormed}
+use Rattle.model.specs.Calls.{Call, finish, initialOf, pressOf}
 use Rattle.card.specs.Represents.{schemaOf, factsOf, taskOf, blankSchema, Represented}
 use Rattle.card.specs.declared.Schema.{Schema}
 use Rattle.card.specs.declared.Task.{Task}
 use Rattle.card.proofs.Counts.{schema-count, fact-count, facts-few}
-use Rattle.state.specs.Rows.{factNumber, signature, inRange, stored, Shape}
+use Rattle.state.specs.Rows.{factNumber, stored, Shape}
 use Rattle.state.proofs.FactNumbers.{stored-written}
 use Rattle.actions.specs.Grounds.{FactsRight}
-use Rattle.strips.specs.Answers.{Does}
-use Rattle.strips.specs.Stages.{leaving, bound, pressTask, initialTask, SchemaKept, StateKept}
+use Rattle.strips.specs.Answers.{Matches}
+use Rattle.strips.specs.Steps.{applySchema, storing, SchemaKept, StateKept}
 use Rattle.strips.specs.declared.Applied.{Applied}
 use Rattle.strips.specs.declared.Applied.the-variants.{Count, StateMalformed, SchemaUnknown}
-use Rattle.strips.proofs.Tasks.{modelTask, arities, task-shape, arities-part, formed-shaped, few-schemas, chosen-is, chosen-kept}
+use Rattle.strips.proofs.Tasks.{modelTask, arities, task-shape, arities-part, few-schemas, chosen-is, chosen-kept}
 use Rattle.strips.proofs.Tasks.{getD-default, facts-kept, facts-known}
 use Rattle.strips.proofs.Refusing.{state-malformed, schema-unknown, schema-named, task-opened}
 
@@ -33,28 +33,28 @@ module _ (task : Task) (kept : Represented task (taskOf task)) where
   same : part ≡ arities task kept
   same = arities-part task kept
 
-  pub part-right : inRange part ≡ true
-  part-right = ap inRange same ∙ task-shape task kept .right
+  pub part-right : model.inRange part ≡ true
+  part-right = ap model.inRange same ∙ task-shape task kept .right
 
   pub facts-right : (numbers : List ℕ) → task .facts .count ≤ length numbers → FactsRight part (task .facts) numbers
   facts-right numbers room = subst (λ (l : List ℕ). FactsRight l (task .facts) numbers) (sym same) (facts-kept task kept numbers room)
 
   module _ (buffer : List ℕ) (count : ℕ) (action : Action) where
+    -- the press call on the task
+    abbrev pressing : Call
+    pressing = finish buffer (pressOf (modelTask task kept) buffer count action)
+
     -- what 15 says
-    pub formed : (r : Bool) → r ≡ wellFormed (signature part (task .objects)) buffer count → r ≡ wellFormed (modelTask task kept) buffer count
+    formed : {r : Bool} → r ≡ wellFormed part (task .objects) buffer count → r ≡ wellFormed (arities task kept) (task .objects) buffer count
+    formed e = e ∙ ap (λ (l : List ℕ). wellFormed l (task .objects) buffer count) same
+
+    pub refused-malformed : {r : Bool} → r ≡ wellFormed part (task .objects) buffer count → r ≡ false → Matches pressing buffer StateMalformed
     unfolding taskOf
-    formed r e =
-        e ∙ ap (λ (l : List ℕ). wellFormed (signature l (task .objects)) buffer count) same
-        ∙ sym (formed-shaped (modelTask task kept) buffer count)
+    refused-malformed e f = state-malformed (modelTask task kept) buffer count action (sym (formed e) ∙ f)
 
-    pub refused-malformed :
-        (r : Bool) → r ≡ wellFormed (signature part (task .objects)) buffer count → r ≡ false
-        → Does (pressTask (modelTask task kept) buffer count action) buffer StateMalformed
-    refused-malformed r e f = state-malformed (modelTask task kept) buffer count action (sym (formed r e) ∙ f)
-
-    module _ (r : Bool) (says : r ≡ wellFormed (signature part (task .objects)) buffer count) (passed : r ≡ true) where
-      well : wellFormed (modelTask task kept) buffer count ≡ true
-      well = sym (formed r says) ∙ passed
+    module _ {r : Bool} (says : r ≡ wellFormed part (task .objects) buffer count) (passed : r ≡ true) where
+      well : wellFormed (arities task kept) (task .objects) buffer count ≡ true
+      well = sym (formed says) ∙ passed
 
       pub state-kept : StateKept part (task .objects) buffer count
       state-kept = record {
@@ -62,7 +62,8 @@ module _ (task : Task) (kept : Represented task (taskOf task)) where
         well = sym says ∙ passed;
       }
 
-      pub refused-unknown : task .schemas .count ≤ action .schema → Does (pressTask (modelTask task kept) buffer count action) buffer SchemaUnknown
+      pub refused-unknown : task .schemas .count ≤ action .schema → Matches pressing buffer SchemaUnknown
+      unfolding taskOf
       refused-unknown h =
           schema-unknown (modelTask task kept) buffer count action well (subst (λ (n : ℕ). n ≤ action .schema) (schema-count task kept) h)
 
@@ -79,18 +80,18 @@ module _ (task : Task) (kept : Represented task (taskOf task)) where
             subst (λ (l : List ℕ). SchemaKept l chosen) (sym same)
             (subst (SchemaKept (arities task kept)) (sym usual) (chosen-kept task kept (action .schema) within))
 
-        pub pressed :
-            (after : List ℕ) (answer : Applied)
-            → Does (leaving buffer (bound (task .objects) (schemaOf part chosen) (action .objects) (factsIn part count buffer))) after answer
-            → Does (pressTask (modelTask task kept) buffer count action) after answer
+        -- what is left for a schema: 17 to 20
+        abbrev with-schema : List ℕ → model.Schema → Call
+        with-schema l s = storing buffer (applySchema (task .objects) s (action .objects) (factsIn l count buffer))
+
+        pub pressed : {after : List ℕ} {answer : Applied} → Matches (with-schema part (schemaOf part chosen)) after answer → Matches pressing after answer
         unfolding taskOf
-        pressed after answer d =
-            subst (λ (c : Call). Does c after answer)
-            (ap (λ (l : List ℕ). leaving buffer (bound (task .objects) (schemaOf l chosen) (action .objects) (factsIn l count buffer))) same
-            ∙ ap (λ (s : model.Schema). leaving buffer (bound (task .objects) s (action .objects) (factsIn (arities task kept) count buffer)))
-            (ap (schemaOf (arities task kept)) usual ∙ chosen-is task kept (action .schema) within)
+        pressed {after} {answer} matches =
+            subst (λ (c : Call). Matches c after answer)
+            (ap (λ (l : List ℕ). with-schema l (schemaOf l chosen)) same
+            ∙ ap (with-schema (arities task kept)) (ap (schemaOf (arities task kept)) usual ∙ chosen-is task kept (action .schema) within)
             ∙ sym (schema-named (modelTask task kept) buffer count action well (subst (λ (n : ℕ). action .schema < n) (schema-count task kept) within)))
-            d
+            matches
 
   -- the opening call: the numbers of the facts, at the front of an array, stored
   module _ (buffer numbers was : List ℕ) (loaded : numbers ≡ map factNumber (factsOf part (task .facts)) ++ drop (task .facts .count) was) where
@@ -110,9 +111,9 @@ module _ (task : Task) (kept : Represented task (taskOf task)) where
         omega arith
 
     pub opened :
-        (after : List ℕ) → 4096 ≤ length buffer → after ≡ stored (take (task .facts .count - 0) numbers) buffer
-        → Does (initialTask (modelTask task kept) buffer) after (Count (task .facts .count))
-    opened after large e =
-        task-opened (modelTask task kept) buffer after (task .facts .count) large (fact-count task kept)
+        {after : List ℕ} → stateBytes ≤ length buffer → after ≡ stored (take (task .facts .count - 0) numbers) buffer
+        → Matches (finish buffer (initialOf (modelTask task kept) buffer)) after (Count (task .facts .count))
+    opened large e =
+        task-opened (modelTask task kept) buffer large (fact-count task kept)
         (e ∙ ap (λ (l : List ℕ). stored l buffer) numbers-of-facts
-        ∙ stored-written (arities task kept) (task .objects) (task-shape task kept) (modelTask task kept .facts) buffer (facts-known task kept))
+        ∙ stored-written (task-shape task kept) (modelTask task kept .facts) buffer (facts-known task kept))

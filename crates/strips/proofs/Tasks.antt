@@ -3,20 +3,19 @@ use Prim.Native.Nat.{ℕ, zero, suc, _-_, _≤_, _<_}
 use native.Mathlib.Nat.{sub-zero}
 use native.Mathlib.Omega.{arith}
 use mathlib.Core.Path.{_≡_, refl, sym, ap, _∙_, subst}
-use mathlib.Core.Bool.{Bool, true, _&&_}
+use mathlib.Core.Bool.{true}
 use mathlib.Core.Option.{none}
 use mathlib.Core.List.{List, [], _∷_, map}
-use lib.Dec.{leb}
-use lib.ListN.{length, getD, take, drop, length-map, List·getD-map}
+use lib.ListN.{length, getD, take, length-map, List·getD-map}
 use lib.Seq.{getD-take}
 use Rattle.laws.specs.Lists.{all}
 use Rattle.laws.proofs.Lists.{all-at, all-intro, mem-getD}
 use Rattle.model.specs.Answer.{accepted}
 use Rattle.model.specs.Card as model
-use Rattle.model.specs.Writer.{known, checkSchema, checkTask}
-use Rattle.model.specs.Strips.{factsIn, rowRight, rowsRight, ascending, wellFormed, schemaAt}
+use Rattle.model.specs.Writer.{known, checkSchema}
+use Rattle.model.specs.Strips.{schemaAt}
 use Rattle.model.proofs.Order.{known-predicate}
-use Rattle.model.proofs.Answers.{first-passed, need-then}
+use Rattle.model.proofs.CheckParts.{task-parts}
 use Rattle.model.proofs.Checked.{CheckedSchema, schemaAt-right, each-passed}
 use Rattle.card.specs.Represents.{schemaOf, aritiesOf, schemasOf, taskOf, Represented}
 use Rattle.card.specs.Represents.{atomFor, blankAtom, atomsFor, schemaFor, blankSchema, schemasFor, taskFor}
@@ -24,20 +23,9 @@ use Rattle.card.specs.declared.Schema.{Schema}
 use Rattle.card.specs.declared.Task.{Task}
 use Rattle.card.proofs.Padded.{length-padded, padded-at}
 use Rattle.card.proofs.Counts.{right, schema-count, schemas-few, schemas-inside, facts-few, facts-size}
-use Rattle.state.specs.Rows.{signature, inRange, Shape}
+use Rattle.state.specs.Rows.{Shape}
 use Rattle.actions.specs.Grounds.{FactsRight}
-use Rattle.strips.specs.Stages.{ListKept, SchemaKept}
-
--- 15 looks at a task's arities and objects alone
-rows-shaped : (t : model.Task) (n : ℕ) (buffer : List ℕ) → rowsRight t n buffer ≡ rowsRight (signature (t .arities) (t .objects)) n buffer
-unfolding rowsRight rowRight signature
-rows-shaped t zero buffer = refl
-rows-shaped t (suc n) buffer = ap (λ (b : Bool). rowRight t (take 4 buffer) && b) (rows-shaped t n (drop 4 buffer))
-
-pub formed-shaped : (t : model.Task) (buffer : List ℕ) (count : ℕ) → wellFormed t buffer count ≡ wellFormed (signature (t .arities) (t .objects)) buffer count
-unfolding wellFormed signature
-formed-shaped t buffer count =
-    ap (λ (b : Bool). leb 4096 (length buffer) && leb count 1024 && b && ascending none (factsIn (t .arities) count buffer)) (rows-shaped t count buffer)
+use Rattle.strips.specs.Steps.{ListKept, SchemaKept}
 
 -- the default does not matter in range
 pub getD-default : {A : Type 0} (xs : List A) (i : ℕ) (d e : A) → i < length xs → getD xs i d ≡ getD xs i e
@@ -60,7 +48,7 @@ module _ (task : Task) (kept : Represented task (taskOf task)) where
   arities = aritiesOf (task .predicates)
 
   pub task-shape : Shape arities (task .objects)
-  unfolding taskOf inRange
+  unfolding taskOf model.inRange
   task-shape =
       let c = right task kept in record { right = c .arities-right; few-predicates = c .few-predicates; few-objects = c .few-objects }
 
@@ -100,13 +88,10 @@ module _ (task : Task) (kept : Represented task (taskOf task)) where
         ∙ List·getD-map schemaFor schemas n (record { parameters = 0; preconditions = []; deletes = []; adds = [] })
 
     passes : checkSchema arities (schemaAt modelTask n) ≡ accepted tt
-    unfolding checkTask taskOf schemaAt
+    unfolding taskOf schemaAt
     passes =
-        let e₂ = need-then _ 2 _ tt (kept .checked) in
-        let e₃ = need-then _ 2 _ tt e₂ in
-        let e₄ = need-then _ 3 _ tt e₃ in
-        let e₅ = need-then _ 4 _ tt e₄ in
-        each-passed (checkSchema arities) none (modelTask .schemas) (first-passed _ _ tt e₅) (schemaAt modelTask n) (mem-getD (modelTask .schemas) n _ inside)
+        each-passed (checkSchema arities) none (modelTask .schemas) (task-parts modelTask (kept .checked) .schemas) (schemaAt modelTask n)
+        (mem-getD (modelTask .schemas) n _ inside)
 
     pub chosen-kept : SchemaKept arities chosen
     unfolding schemaFor taskOf

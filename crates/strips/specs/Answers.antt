@@ -1,4 +1,4 @@
--- What the answers of the opening call and of applying an action say, document 01's number or value for each case, and what a call does.
+-- What the answers of the opening call and of applying an action say, document 01's number or value for each case.
 use Prim.Native.Nat.{ℕ}
 use mathlib.Core.Path.{_≡_}
 use mathlib.Core.List.{List}
@@ -19,7 +19,7 @@ appliedSays ObjectsRepeated = refused 18
 appliedSays PreconditionMissing = refused 19
 appliedSays StateFull = refused 20
 
--- What a function answers and leaves in the buffer lent to it is what a call of the definition does.
-pub record Does (call : Call) (after : List ℕ) (r : Applied) : Type 0 where
+-- A function's answer, and the buffer lent to it as the function leaves it, are those of a call of the definitions.
+pub record Matches (call : Call) (after : List ℕ) (r : Applied) : Type 0 where
   pub answer : appliedSays r ≡ call .answer
   pub buffer : after ≡ call .buffer

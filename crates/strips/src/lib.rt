@@ -13,6 +13,8 @@ use card::Verdict;
 use reader::decode;
 use sets::insert_all;
 use sets::remove_all;
+use state::MOST_FACTS;
+use state::STATE_BYTES;
 use state::load;
 use state::store;
 use state::well_formed;
@@ -20,13 +22,12 @@ ghost use mathlib.Core.Bool.{true};
 ghost use mathlib.Core.Path.{_≡_};
 ghost use Prim.Native.Nat.{_≤_};
 ghost use lib.ListN.{length, take};
-ghost use Rattle.model.specs.Strips.{factsIn};
-ghost use Rattle.model.specs.Calls.{initial, press};
+ghost use Rattle.model.specs.Strips.{stateBytes, factsIn, progress};
+ghost use Rattle.model.specs.Calls.{finish, initialOf, initial, pressOf, press};
 ghost use Rattle.card.specs.Represents.{schemaOf, taskOf, Represented};
 ghost use Rattle.sets.specs.Numbers.{rising, Becomes};
-ghost use Rattle.strips.specs.Answers.{Does};
-ghost use Rattle.strips.specs.Stages.{leaving, replaced, changed, bound, pressTask, initialTask, allHeld, nextNumbers};
-ghost use Rattle.strips.specs.Stages.{Ready, NextReady, StateKept, SchemaKept};
+ghost use Rattle.strips.specs.Answers.{Matches};
+ghost use Rattle.strips.specs.Steps.{applySchema, storing, storingNumbers, allHeld, nextNumbers, ActionReady, NextReady, StateKept, SchemaKept};
 ghost use Rattle.actions.specs.Grounds.{Bound};
 
 // What the opening call and applying an action answer: the number of facts, or why not. A refusal of the card is handed through.
@@ -40,6 +41,9 @@ pub enum Applied {
     PreconditionMissing,
     StateFull,
 }
+
+// Room for the facts of a state and the eight that an action puts in.
+const NEXT_FACTS: usize = MOST_FACTS + 8;
 
 // The numbers of the next state, from those of the state: what the action takes out goes, then what it puts in comes.
 fn next_numbers(
@@ -79,11 +83,11 @@ fn applicable(numbers: &[u32], schema: Schema, arities: &[u8], objects: &[u8]) -
 
 // 20, the last check; only then is the next state written.
 fn store_next(state: &mut [u8], numbers: &[u32]) -> Applied
-    requires { ⌜ 4096 ≤ length (now state) ⌝ }
-    ensures { λ r. ⌜ Does (replaced (now (numbers .entry)) (now (state .entry))) (now (state .exit)) r ⌝ }
+    requires { ⌜ stateBytes ≤ length (now state) ⌝ }
+    ensures { λ r. ⌜ Matches (storingNumbers (now (state .entry)) (now (numbers .entry))) (now (state .exit)) r ⌝ }
 {
     let count = numbers.len();
-    if 1024 < count {
+    if MOST_FACTS < count {
         return Applied::StateFull;
     }
     store(state, numbers);
@@ -98,13 +102,13 @@ fn apply_bound(
     count: usize,
     objects: &[u8],
 ) -> Applied
-    requires { ⌜ Ready (now arities) (now objects) schema (now state) count ⌝ }
+    requires { ⌜ ActionReady (now arities) (now objects) schema (now state) count ⌝ }
     ensures { λ r. ⌜
-        Does (leaving (now (state .entry)) (changed (schemaOf (now (arities .entry)) schema) (now (objects .entry))
+        Matches (storing (now (state .entry)) (progress (schemaOf (now (arities .entry)) schema) (now (objects .entry))
         (factsIn (now (arities .entry)) count (now (state .entry))))) (now (state .exit)) r
         ⌝ }
 {
-    let mut numbers = [0u32; 1032];
+    let mut numbers = [0u32; NEXT_FACTS];
     load(state, count, &mut numbers);
     if !applicable(&numbers[0..count], schema, arities, objects) {
         return Applied::PreconditionMissing;
@@ -124,7 +128,7 @@ fn apply_schema(
 ) -> Applied
     requires { ⌜ (StateKept (now arities) known (now state) count) × (SchemaKept (now arities) schema) ⌝ }
     ensures { λ r. ⌜
-        Does (leaving (now (state .entry)) (bound known (schemaOf (now (arities .entry)) schema) (now (objects .entry))
+        Matches (storing (now (state .entry)) (applySchema known (schemaOf (now (arities .entry)) schema) (now (objects .entry))
         (factsIn (now (arities .entry)) count (now (state .entry))))) (now (state .exit)) r
         ⌝ }
 {
@@ -145,7 +149,8 @@ fn apply_schema(
 fn apply_task(task: Task, state: &mut [u8], count: usize, schema: usize, objects: &[u8]) -> Applied
     requires { ⌜ Represented task (taskOf task) ⌝ }
     ensures { λ r. ⌜
-        Does (pressTask (taskOf task) (now (state .entry)) count (record { schema = schema; objects = now (objects .entry) })) (now (state .exit)) r
+        Matches (finish (now (state .entry)) (pressOf (taskOf task) (now (state .entry)) count (record { schema = schema; objects = now (objects .entry) })))
+        (now (state .exit)) r
         ⌝ }
 {
     let predicates = task.predicates;
@@ -174,9 +179,9 @@ fn apply_task(task: Task, state: &mut [u8], count: usize, schema: usize, objects
 // The opening call for a task: its facts are stored.
 fn open_task(task: Task, state: &mut [u8]) -> Applied
     requires { ⌜ Represented task (taskOf task) ⌝ }
-    ensures { λ r. ⌜ Does (initialTask (taskOf task) (now (state .entry))) (now (state .exit)) r ⌝ }
+    ensures { λ r. ⌜ Matches (finish (now (state .entry)) (initialOf (taskOf task) (now (state .entry)))) (now (state .exit)) r ⌝ }
 {
-    if state.len() < 4096 {
+    if state.len() < STATE_BYTES {
         return Applied::StateMalformed;
     }
     let predicates = task.predicates;
@@ -192,13 +197,13 @@ fn open_task(task: Task, state: &mut [u8]) -> Applied
 
 // The opening call: the initial state of a card's task is written to the buffer, and its count is answered.
 pub fn initial(card: &[u8], state: &mut [u8]) -> Applied
-    ensures { λ r. ⌜ Does (initial (now (card .entry)) (now (state .entry))) (now (state .exit)) r ⌝ }
+    ensures { λ r. ⌜ Matches (initial (now (card .entry)) (now (state .entry))) (now (state .exit)) r ⌝ }
 {
     let decoded = decode(card);
     let verdict = decoded.verdict;
     let task = decoded.task;
     match verdict {
-        Verdict::Refused(refusal) => Applied::CardRefused(refusal),
+        Verdict::Refused(reason) => Applied::CardRefused(reason),
         Verdict::Accepted => open_task(task, state),
     }
 }
@@ -206,7 +211,7 @@ pub fn initial(card: &[u8], state: &mut [u8]) -> Applied
 // An action is applied to the state in the buffer, and the next state's count is answered. A refusal alters no byte.
 pub fn apply(card: &[u8], state: &mut [u8], count: usize, schema: usize, objects: &[u8]) -> Applied
     ensures { λ r. ⌜
-        Does (press (now (card .entry)) (now (state .entry)) count (record { schema = schema; objects = now (objects .entry) })) (now (state .exit)) r
+        Matches (press (now (card .entry)) (now (state .entry)) count (record { schema = schema; objects = now (objects .entry) })) (now (state .exit)) r
         ⌝ }
 {
     let decoded = decode(card);

@@ -18,7 +18,7 @@ use Rattle.card.specs.declared.Schema.{Schema}
 use Rattle.card.specs.declared.SchemaList.{SchemaList}
 use Rattle.card.specs.declared.Task.{Task}
 use Rattle.writer_checks.specs.Tables.{entries, atomTable, schemaTable, tableOf}
-use Rattle.writer.specs.Bytes.{atomRoom, listRoom, schemaRoom, headerRoom, cardRoom, Writes, bitWhere, mapOf, schemaFits, Fits}
+use Rattle.writer.specs.Bytes.{atomRoom, listRoom, schemaRoom, headerRoom, cardRoom, WritesAt, bitWhere, mapOf, schemaFits, Fits}
 use Rattle.writer_checks.proofs.Entries.{length-entries, length-table, getD-entries, default-alike}
 use Rattle.writer_checks.proofs.SchemaLaws.{length-atoms, zeros}
 use Rattle.writer_checks.proofs.TaskLaws.{arities-part}
@@ -31,13 +31,13 @@ list-bytes [] d = absurd (d refl)
 list-bytes (x ∷ xs) d = refl
 
 module _ (arities : List ℕ) (list : AtomList) (at : ℕ) (x : List ℕ) where
-  pub empty-list : list .count ≡ 0 → Writes listRoom at (listBytes (atomTable arities list)) x x at
+  pub empty-list : list .count ≡ 0 → WritesAt listRoom at (listBytes (atomTable arities list)) x x at
   unfolding listBytes atomTable entries
   empty-list e = rw e (writes-none listRoom at x)
 
   pub whole-list : (list .count ≡ 0 → ⊥) → list .count ≤ 8 → at + listRoom ≤ length x → (y z : List ℕ) (m n : ℕ)
-      → Writes 1 at (list .count ∷ []) x y m → Writes (atomRoom * list .count) m (flatMap atomBytes (atomTable arities list)) y z n
-      → Writes listRoom at (listBytes (atomTable arities list)) x z n
+      → WritesAt 1 at (list .count ∷ []) x y m → WritesAt (atomRoom * list .count) m (flatMap atomBytes (atomTable arities list)) y z n
+      → WritesAt listRoom at (listBytes (atomTable arities list)) x z n
   whole-list d short fits y z m n v w =
       rw (list-bytes (atomTable arities list) (λ e. d (sym (length-atoms arities list) ∙ e)), length-atoms)
       (writes-within (1 + atomRoom * list .count) listRoom at _ x z n
@@ -67,11 +67,11 @@ map-by-fields arities s = simp (bit-of-roles, bit-of-list, length-atoms)
 
 pub whole-schema : (arities : List ℕ) (s : Schema) (at : ℕ) (x : List ℕ) → at + schemaRoom ≤ length x → (b : ℕ) → b ≡ mapOf s
     → (y₁ y₂ y₃ y₄ y₅ : List ℕ) (n₁ n₂ n₃ n₄ n₅ : ℕ)
-    → Writes 1 at (b ∷ []) x y₁ n₁ → Writes 1 n₁ (roleBytes (s .parameters)) y₁ y₂ n₂
-    → Writes listRoom n₂ (listBytes (atomTable arities (s .preconditions))) y₂ y₃ n₃
-    → Writes listRoom n₃ (listBytes (atomTable arities (s .deletes))) y₃ y₄ n₄
-    → Writes listRoom n₄ (listBytes (atomTable arities (s .adds))) y₄ y₅ n₅
-    → Writes schemaRoom at (schemaBytes (schemaTable arities s)) x y₅ n₅
+    → WritesAt 1 at (b ∷ []) x y₁ n₁ → WritesAt 1 n₁ (roleBytes (s .parameters)) y₁ y₂ n₂
+    → WritesAt listRoom n₂ (listBytes (atomTable arities (s .preconditions))) y₂ y₃ n₃
+    → WritesAt listRoom n₃ (listBytes (atomTable arities (s .deletes))) y₃ y₄ n₄
+    → WritesAt listRoom n₄ (listBytes (atomTable arities (s .adds))) y₄ y₅ n₅
+    → WritesAt schemaRoom at (schemaBytes (schemaTable arities s)) x y₅ n₅
 unfolding schemaBytes schemaTable
 whole-schema arities s at x fits b e y₁ y₂ y₃ y₄ y₅ n₁ n₂ n₃ n₄ n₅ w₁ w₂ w₃ w₄ w₅ =
     let v₂ = writes-then 1 1 at _ _ x y₁ y₂ n₁ n₂ w₁ w₂ (omega arith) in
@@ -122,9 +122,9 @@ schema-fits list i h e =
 
 -- the header
 pub whole-header : (arities : List ℕ) (objects schemas : ℕ) (x : List ℕ) → length arities ≤ 20 → headerRoom ≤ length x
-    → (y₁ y₂ y₃ y₄ : List ℕ) (n₁ n₂ n₃ n₄ : ℕ) → Writes 1 0 (length arities ∷ []) x y₁ n₁ → Writes (length arities) n₁ arities y₁ y₂ n₂
-    → Writes 1 n₂ (objects ∷ []) y₂ y₃ n₃ → Writes 1 n₃ (schemas ∷ []) y₃ y₄ n₄
-    → Writes headerRoom 0 (length arities ∷ arities ++ (objects ∷ schemas ∷ [])) x y₄ n₄
+    → (y₁ y₂ y₃ y₄ : List ℕ) (n₁ n₂ n₃ n₄ : ℕ) → WritesAt 1 0 (length arities ∷ []) x y₁ n₁ → WritesAt (length arities) n₁ arities y₁ y₂ n₂
+    → WritesAt 1 n₂ (objects ∷ []) y₂ y₃ n₃ → WritesAt 1 n₃ (schemas ∷ []) y₃ y₄ n₄
+    → WritesAt headerRoom 0 (length arities ∷ arities ++ (objects ∷ schemas ∷ [])) x y₄ n₄
 whole-header arities objects schemas x few enough y₁ y₂ y₃ y₄ n₁ n₂ n₃ n₄ w₁ w₂ w₃ w₄ =
     let k = length arities in
     let v₂ = writes-then 1 k 0 _ _ x y₁ y₂ n₁ n₂ w₁ w₂ (omega arith) in
@@ -141,13 +141,13 @@ pieces header schemas facts a b c d = simp append-assoc
 pub whole-card : (t : Task) (x : List ℕ) → Fits t → length (t .predicates .arities) ≡ 20 → cardRoom ≤ length x
     → (y₁ y₂ y₃ y₄ : List ℕ) (n₁ n₂ n₃ n₄ : ℕ)
     → let arities = take (t .predicates .count - 0) (drop 0 (t .predicates .arities)) in
-    Writes headerRoom 0 (length arities ∷ arities ++ (t .objects ∷ t .schemas .count ∷ [])) x y₁ n₁
-    → Writes (schemaRoom * t .schemas .count) n₁
+    WritesAt headerRoom 0 (length arities ∷ arities ++ (t .objects ∷ t .schemas .count ∷ [])) x y₁ n₁
+    → WritesAt (schemaRoom * t .schemas .count) n₁
     (flatMap schemaBytes (map (schemaTable arities) (entries (t .schemas .count) blankSchema (t .schemas .schemas)))) y₁ y₂ n₂
-    → Writes 2 n₂ (t .facts .count / 256 ∷ t .facts .count % 256 ∷ []) y₂ y₃ n₃
-    → Writes (atomRoom * t .facts .count) n₃
+    → WritesAt 2 n₂ (t .facts .count / 256 ∷ t .facts .count % 256 ∷ []) y₂ y₃ n₃
+    → WritesAt (atomRoom * t .facts .count) n₃
     (flatMap atomBytes (map (atomOf arities) (entries (t .facts .count) blankAtom (t .facts .facts)))) y₃ y₄ n₄
-    → Writes cardRoom 0 (taskBytes (tableOf t)) x y₄ n₄
+    → WritesAt cardRoom 0 (taskBytes (tableOf t)) x y₄ n₄
 unfolding taskBytes tableOf
 whole-card t x fits twenty enough y₁ y₂ y₃ y₄ n₁ n₂ n₃ n₄ w₁ w₂ w₃ w₄ =
     let schemas = t .schemas .count in

@@ -5,12 +5,11 @@ use mathlib.Core.Path.{_≡_, refl, ap, _∙_}
 use mathlib.Core.Bool.{true}
 use mathlib.Core.Option.{Option, none}
 use mathlib.Core.List.{List, [], _∷_, _++_, map}
-use lib.Dec.{leb}
 use lib.ListN.{length, drop}
 use borrow.Author.Tests.{leb-true, le-leb, lt-leb}
 use Rattle.laws.specs.Lists.{all}
-use Rattle.laws.proofs.Tests.{and-right, and-intro}
-use Rattle.model.specs.Answer.{Answer, accepted, _>>_, need}
+use Rattle.laws.proofs.Tests.{and-intro}
+use Rattle.model.specs.Answer.{accepted, _>>_, need}
 use Rattle.model.specs.Card as model
 use Rattle.model.specs.Writer.{each, checkSchema, checkTask, taskBytes}
 use Rattle.model.specs.Calls.{outputBytes, finish, output, encode}
@@ -21,36 +20,26 @@ use Rattle.card.specs.declared.Task.{Task}
 use Rattle.writer_checks.specs.Tables.{entries, schemaTable, tableOf}
 use Rattle.writer_checks.specs.Checking.{checkedSays}
 use Rattle.writer.specs.Answers.{writingSays, Encodes}
-use Rattle.writer.specs.Bytes.{cardRoom, Writes, schemaFits, Fits}
+use Rattle.writer.specs.Bytes.{cardRoom, WritesAt, schemaFits, Fits}
 use Rattle.writer_checks.specs.declared.checking.Checked.{Checked}
 use Rattle.writer_checks.specs.declared.checking.Checked.the-variants as checked
 use Rattle.writer.specs.declared.Writing.the-variants as writing
 use Rattle.writer_checks.proofs.Entries.{length-entries, length-table}
-use Rattle.model.proofs.Answers.{need-inv}
+use Rattle.model.proofs.CheckParts.{between-parts, schema-parts, task-parts}
 use Rattle.writer_checks.proofs.Sequence.{then-left, then-right, passed-says}
 use Rattle.writer_checks.proofs.SchemaLaws.{passed-list}
 
--- a number that passed a test against a bound
-bounded : (n bound number : ℕ) (rest : Answer (Unit {0})) → need (leb n bound) number >> rest ≡ accepted tt → n ≤ bound
-bounded n bound number rest e = leb-true n bound (need-inv (leb n bound) number (then-left (need (leb n bound) number) rest e))
-
-ranged : (low high n number : ℕ) (rest : Answer (Unit {0})) → need (model.between low high n) number >> rest ≡ accepted tt → n ≤ high
-unfolding model.between
-ranged low high n number rest e =
-    leb-true n high (and-right (leb low n) (leb n high) (need-inv _ number (then-left (need (model.between low high n) number) rest e)))
-
 -- a schema that passed fits
 passed-schema : (arities : List ℕ) (s : Schema) → checkSchema arities (schemaTable arities s) ≡ accepted tt → schemaFits s ≡ true
-unfolding checkSchema schemaTable schemaFits
+unfolding schemaTable schemaFits
 passed-schema arities s e =
-    let lists = then-right (need (model.between 1 6 (s .parameters)) 5) _ e in
-    let later = then-right _ _ lists in
+    let c = schema-parts arities (schemaTable arities s) e in
     and-intro _ _
     (and-intro _ _
-    (and-intro _ _ (le-leb (s .parameters) 6 (ranged 1 6 (s .parameters) 5 _ e))
-    (le-leb (s .preconditions .count) 8 (passed-list _ arities (s .preconditions) (then-left _ _ lists))))
-    (le-leb (s .deletes .count) 8 (passed-list _ arities (s .deletes) (then-left _ _ later))))
-    (le-leb (s .adds .count) 8 (passed-list _ arities (s .adds) (then-right _ _ later)))
+    (and-intro _ _ (le-leb (s .parameters) 6 (between-parts 1 6 (s .parameters) (c .parameters) .1))
+    (le-leb (s .preconditions .count) 8 (passed-list _ arities (s .preconditions) (c .preconditions))))
+    (le-leb (s .deletes .count) 8 (passed-list _ arities (s .deletes) (c .deletes))))
+    (le-leb (s .adds .count) 8 (passed-list _ arities (s .adds) (c .adds)))
 
 passed-schemas : (arities : List ℕ) (p : Option model.Schema) (xs : List Schema)
     → each (λ before. checkSchema arities) p (map (schemaTable arities) xs) ≡ accepted tt → all schemaFits xs ≡ true
@@ -63,20 +52,18 @@ passed-schemas arities p (s ∷ xs) e =
 
 -- a table that passed fits
 passed-task : (t : Task) → checkTask (tableOf t) ≡ accepted tt → Fits t
-unfolding checkTask tableOf
+unfolding tableOf
 passed-task t e =
     let arities : List ℕ = entries (t .predicates .count) 0 (t .predicates .arities) in
     let schemas : List model.Schema = map (schemaTable arities) (entries (t .schemas .count) blankSchema (t .schemas .schemas)) in
     let facts : List model.Atom = map (atomOf arities) (entries (t .facts .count) blankAtom (t .facts .facts)) in
-    let from-objects = then-right _ _ (then-right _ _ e) in
-    let from-schemas = then-right _ _ from-objects in
-    let checks = then-right _ _ from-schemas in
+    let c = task-parts (tableOf t) e in
     record {
-      predicates = rw (length-entries (t .predicates .count) 0 (t .predicates .arities)) at (ranged 1 20 (length arities) 2 _ e);
-      objects = ranged 1 64 (t .objects) 3 _ from-objects;
-      schemas = rw length-table at (bounded (length schemas) 32 4 _ from-schemas);
-      lists = passed-schemas arities none _ (then-left _ _ checks);
-      facts = rw length-table at (bounded (length facts) 512 11 _ (then-right _ _ checks));
+      predicates = rw (length-entries (t .predicates .count) 0 (t .predicates .arities)) at (between-parts 1 20 (length arities) (c .predicates) .1);
+      objects = between-parts 1 64 (t .objects) (c .objects) .1;
+      schemas = rw length-table at (leb-true (length schemas) 32 (c .few-schemas));
+      lists = passed-schemas arities none _ (c .schemas);
+      facts = rw length-table at (leb-true (length facts) 512 (c .few-facts));
     }
 
 module _ (t : Task) (c : Checked) (says : checkedSays c ≡ checkTask (tableOf t)) where
@@ -94,7 +81,7 @@ module _ (t : Task) (out : List ℕ) (c : Checked) (says : checkedSays c ≡ che
   encode-short e h = record { answer = rw (← says, e, lt-leb outputBytes (length out) h); buffer = rw (← says, e, lt-leb outputBytes (length out) h) }
 
   pub encode-written : c ≡ checked.Passed → outputBytes ≤ length out → (after : List ℕ) (n : ℕ)
-      → Writes cardRoom 0 (taskBytes (tableOf t)) out after n → Encodes t out after (writing.Written n)
+      → WritesAt cardRoom 0 (taskBytes (tableOf t)) out after n → Encodes t out after (writing.Written n)
   unfolding encode finish output writingSays checkedSays _>>_ need
   encode-written e h after n w =
       let bytes = taskBytes (tableOf t) in

@@ -9,11 +9,11 @@ use lib.ListN.{length, getD, take, drop, set, length-append, take-append-drop}
 use lib.Seq.{length-take-le, take-at, drop-at, drop-drop, take-suc, take-all, sets, sets-eq}
 use Rattle.laws.proofs.Lists.{flatMap-append}
 use Rattle.writer_checks.specs.Tables.{entries}
-use Rattle.writer.specs.Bytes.{Writes}
+use Rattle.writer.specs.Bytes.{WritesAt}
 use Rattle.writer_checks.proofs.Entries.{item-at, length-table}
 
 -- nothing
-pub writes-none : (room at : ℕ) (x : List ℕ) → Writes room at [] x x at
+pub writes-none : (room at : ℕ) (x : List ℕ) → WritesAt room at [] x x at
 writes-none room at x =
     record {
       stands = sym (rw (append-nil, add-zero) (take-append-drop at x));
@@ -23,27 +23,27 @@ writes-none room at x =
 
 -- bytes stored one by one
 pub writes-sets : (room at : ℕ) (bytes x : List ℕ) → at + length bytes ≤ length x → length bytes ≤ room
-    → Writes room at bytes x (sets x at bytes) (at + length bytes)
+    → WritesAt room at bytes x (sets x at bytes) (at + length bytes)
 writes-sets room at bytes x fits h = record { stands = sets-eq bytes x at fits; place = refl; within = h }
 
 -- up to four bytes stored in a row
 module _ (room at : ℕ) (x : List ℕ) (fits : at + room ≤ length x) (a b c d : ℕ) where
-  pub stores-1 : 1 ≤ room → Writes room at (a ∷ []) x (set x at a) (at + 1)
+  pub stores-1 : 1 ≤ room → WritesAt room at (a ∷ []) x (set x at a) (at + 1)
   stores-1 h = writes-sets room at (a ∷ []) x (omega arith) h
 
-  pub stores-2 : 2 ≤ room → Writes room at (a ∷ b ∷ []) x (set (set x at a) (at + 1) b) (at + 2)
+  pub stores-2 : 2 ≤ room → WritesAt room at (a ∷ b ∷ []) x (set (set x at a) (at + 1) b) (at + 2)
   stores-2 h = rw add-one (writes-sets room at (a ∷ b ∷ []) x (omega arith) h)
 
-  pub stores-3 : 3 ≤ room → Writes room at (a ∷ b ∷ c ∷ []) x (set (set (set x at a) (at + 1) b) (at + 2) c) (at + 3)
+  pub stores-3 : 3 ≤ room → WritesAt room at (a ∷ b ∷ c ∷ []) x (set (set (set x at a) (at + 1) b) (at + 2) c) (at + 3)
   stores-3 h = rw (add-one, add-two) (writes-sets room at (a ∷ b ∷ c ∷ []) x (omega arith) h)
 
   pub stores-4 : 4 ≤ room
-      → Writes room at (a ∷ b ∷ c ∷ d ∷ []) x (set (set (set (set x at a) (at + 1) b) (at + 2) c) (at + 3) d) (at + 4)
+      → WritesAt room at (a ∷ b ∷ c ∷ d ∷ []) x (set (set (set (set x at a) (at + 1) b) (at + 2) c) (at + 3) d) (at + 4)
   stores-4 h = rw (add-one, add-two, add-three) (writes-sets room at (a ∷ b ∷ c ∷ d ∷ []) x (omega arith) h)
 
 -- one piece after another
-pub writes-then : (r q at : ℕ) (b d x y z : List ℕ) (m n : ℕ) → Writes r at b x y m → Writes q m d y z n → at + r ≤ length x
-    → Writes (r + q) at (b ++ d) x z n
+pub writes-then : (r q at : ℕ) (b d x y z : List ℕ) (m n : ℕ) → WritesAt r at b x y m → WritesAt q m d y z n → at + r ≤ length x
+    → WritesAt (r + q) at (b ++ d) x z n
 writes-then r q at b d x y z m n v w fits =
     record {
       stands = w .stands ∙ ap (λ (l : List ℕ). l ++ d ++ drop (m + length d) y) front
@@ -70,7 +70,7 @@ writes-then r q at b d x y z m n v w fits =
         sym (drop-drop (length d) m y) ∙ ap (drop (length d)) rest ∙ drop-drop (length d) (at + length b) x ∙ ap (λ (k : ℕ). drop k x) end
 
 -- what was written within less room was written within more
-pub writes-within : (r q at : ℕ) (b x y : List ℕ) (n : ℕ) → Writes r at b x y n → r ≤ q → Writes q at b x y n
+pub writes-within : (r q at : ℕ) (b x y : List ℕ) (n : ℕ) → WritesAt r at b x y n → r ≤ q → WritesAt q at b x y n
 writes-within r q at b x y n w h = record { stands = w .stands; place = w .place; within = omega arith }
 
 -- the items of a table one by one, each within the same room: at place i those before it are written
@@ -89,9 +89,9 @@ module _ {A B : Type 0} (bytesOf : B → List ℕ) (f : A → B) (count : ℕ) (
       )
 
   pub item-written : (i : ℕ) (y z : List ℕ) (m n : ℕ) → i < count → at + room * count ≤ length x
-      → Writes (room * i) at (flatMap bytesOf (take i (map f (entries count blank xs)))) x y m
-      → Writes room m (bytesOf (f (getD xs i blank))) y z n
-      → Writes (room * (i + 1)) at (flatMap bytesOf (take (i + 1) (map f (entries count blank xs)))) x z n
+      → WritesAt (room * i) at (flatMap bytesOf (take i (map f (entries count blank xs)))) x y m
+      → WritesAt room m (bytesOf (f (getD xs i blank))) y z n
+      → WritesAt (room * (i + 1)) at (flatMap bytesOf (take (i + 1) (map f (entries count blank xs)))) x z n
   item-written i y z m n h fits v w =
       rw (one-more i h, rooms) (writes-then (room * i) room at _ _ x y z m n v w room-so-far)
     where
@@ -102,8 +102,8 @@ module _ {A B : Type 0} (bytesOf : B → List ℕ) (f : A → B) (count : ℕ) (
       room-so-far = omega (arith, mul-le-mul-left {m = i} {n = count} room (omega arith))
 
   pub items-written : (i : ℕ) (y : List ℕ) (m : ℕ) → count ≤ i → i ≤ count
-      → Writes (room * i) at (flatMap bytesOf (take i (map f (entries count blank xs)))) x y m
-      → Writes (room * count) at (flatMap bytesOf (map f (entries count blank xs))) x y m
+      → WritesAt (room * i) at (flatMap bytesOf (take i (map f (entries count blank xs)))) x y m
+      → WritesAt (room * count) at (flatMap bytesOf (map f (entries count blank xs))) x y m
   items-written i y m h k w = rw (there, take-all count (map f (entries count blank xs)) all-taken) at w
     where
       there : i ≡ count

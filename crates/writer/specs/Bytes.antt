@@ -33,7 +33,7 @@ abbrev pub cardRoom : ℕ
 cardRoom = headerRoom + 32 * schemaRoom + 2 + 512 * atomRoom
 
 -- bytes stand at the place, and what stood before and after them still does; the next place is answered; `room` bounds the bytes
-pub record Writes (room at : ℕ) (bytes buffer after : List ℕ) (next : ℕ) : Type 0 where
+pub record WritesAt (room at : ℕ) (bytes buffer after : List ℕ) (next : ℕ) : Type 0 where
   pub stands : after ≡ take at buffer ++ bytes ++ drop (at + length bytes) buffer
   pub place : next ≡ at + length bytes
   pub within : length bytes ≤ room

@@ -1,6 +1,7 @@
 // The card writer: a table by value, whatever bytes it holds, written as a card.
 mod output;
 
+use card::OUTPUT_BYTES;
 use card::Refusal;
 use card::Task;
 use output::write_task;
@@ -14,9 +15,6 @@ pub enum Writing {
     Refused(Refusal),
     OutputShort,
 }
-
-// How many bytes every call asks of its output buffer. Document 01, refusal 21.
-const OUTPUT_BYTES: usize = 65536;
 
 // The card of a table, written from byte 0 of `out`; the bytes after it are left. A refusal changes no byte.
 pub fn encode(task: Task, out: &mut [u8]) -> Writing

@@ -15,12 +15,12 @@ ghost use Rattle.laws.specs.Lists.{all};
 ghost use Rattle.model.specs.Writer.{atomBytes, listBytes, roleBytes, schemaBytes, taskBytes};
 ghost use Rattle.card.specs.Represents.{atomOf, blankAtom, blankSchema};
 ghost use Rattle.writer_checks.specs.Tables.{entries, atomTable, schemaTable, tableOf};
-ghost use Rattle.writer.specs.Bytes.{atomRoom, listRoom, schemaRoom, headerRoom, cardRoom, Writes, bitWhere, mapOf, schemaFits, Fits};
+ghost use Rattle.writer.specs.Bytes.{atomRoom, listRoom, schemaRoom, headerRoom, cardRoom, WritesAt, bitWhere, mapOf, schemaFits, Fits};
 
 // One byte.
 fn write_byte(out: &mut [u8], at: usize, b: u8) -> usize
     requires { ⌜ at + 1 ≤ length (now out) ⌝ }
-    ensures { λ r. ⌜ Writes 1 at (b ∷ []) (now (out .entry)) (now (out .exit)) r ⌝ }
+    ensures { λ r. ⌜ WritesAt 1 at (b ∷ []) (now (out .entry)) (now (out .exit)) r ⌝ }
 {
     out[at] = b;
     at + 1
@@ -29,7 +29,7 @@ fn write_byte(out: &mut [u8], at: usize, b: u8) -> usize
 // The predicate and as many arguments as its arity says.
 fn write_atom(out: &mut [u8], at: usize, arities: &[u8], a: Atom) -> usize
     requires { ⌜ at + atomRoom ≤ length (now out) ⌝ }
-    ensures { λ r. ⌜ Writes atomRoom at (atomBytes (atomOf (now (arities .entry)) a)) (now (out .entry)) (now (out .exit)) r ⌝ }
+    ensures { λ r. ⌜ WritesAt atomRoom at (atomBytes (atomOf (now (arities .entry)) a)) (now (out .entry)) (now (out .exit)) r ⌝ }
 {
     let n = arity(arities, a.predicate);
     out[at] = a.predicate;
@@ -52,7 +52,7 @@ fn write_atom(out: &mut [u8], at: usize, arities: &[u8], a: Atom) -> usize
 fn write_atoms(out: &mut [u8], at: usize, arities: &[u8], list: AtomList) -> usize
     requires { ⌜ (list .count ≤ 8) × (at + atomRoom * list .count ≤ length (now out)) ⌝ }
     ensures { λ r.
-        ⌜ Writes (atomRoom * list .count) at (flatMap atomBytes (atomTable (now (arities .entry)) list))
+        ⌜ WritesAt (atomRoom * list .count) at (flatMap atomBytes (atomTable (now (arities .entry)) list))
         (now (out .entry)) (now (out .exit)) r ⌝ }
 {
     let count = list.count;
@@ -70,7 +70,7 @@ fn write_atoms(out: &mut [u8], at: usize, arities: &[u8], list: AtomList) -> usi
 fn write_list(out: &mut [u8], at: usize, arities: &[u8], list: AtomList) -> usize
     requires { ⌜ (list .count ≤ 8) × (at + listRoom ≤ length (now out)) ⌝ }
     ensures { λ r.
-        ⌜ Writes listRoom at (listBytes (atomTable (now (arities .entry)) list)) (now (out .entry)) (now (out .exit)) r ⌝ }
+        ⌜ WritesAt listRoom at (listBytes (atomTable (now (arities .entry)) list)) (now (out .entry)) (now (out .exit)) r ⌝ }
 {
     let count = list.count;
     if count == 0 {
@@ -83,7 +83,7 @@ fn write_list(out: &mut [u8], at: usize, arities: &[u8], list: AtomList) -> usiz
 // The role count, where it is not 1.
 fn write_roles(out: &mut [u8], at: usize, parameters: usize) -> usize
     requires { ⌜ (parameters ≤ 6) × (at + 1 ≤ length (now out)) ⌝ }
-    ensures { λ r. ⌜ Writes 1 at (roleBytes parameters) (now (out .entry)) (now (out .exit)) r ⌝ }
+    ensures { λ r. ⌜ WritesAt 1 at (roleBytes parameters) (now (out .entry)) (now (out .exit)) r ⌝ }
 {
     if parameters == 1 {
         return at;
@@ -116,7 +116,7 @@ fn map_of(s: Schema) -> u8
 fn write_schema(out: &mut [u8], at: usize, arities: &[u8], s: Schema) -> usize
     requires { ⌜ (schemaFits s ≡ true) × (at + schemaRoom ≤ length (now out)) ⌝ }
     ensures { λ r.
-        ⌜ Writes schemaRoom at (schemaBytes (schemaTable (now (arities .entry)) s)) (now (out .entry)) (now (out .exit)) r ⌝ }
+        ⌜ WritesAt schemaRoom at (schemaBytes (schemaTable (now (arities .entry)) s)) (now (out .entry)) (now (out .exit)) r ⌝ }
 {
     let parameters = s.parameters;
     let preconditions = s.preconditions;
@@ -135,7 +135,7 @@ fn write_schemas(out: &mut [u8], at: usize, arities: &[u8], list: SchemaList) ->
         × (all schemaFits (entries (list .count) blankSchema (list .schemas)) ≡ true)
         × (at + schemaRoom * list .count ≤ length (now out)) ⌝ }
     ensures { λ r.
-        ⌜ Writes (schemaRoom * list .count) at
+        ⌜ WritesAt (schemaRoom * list .count) at
         (flatMap schemaBytes (map (schemaTable (now (arities .entry))) (entries (list .count) blankSchema (list .schemas))))
         (now (out .entry)) (now (out .exit)) r ⌝ }
 {
@@ -154,7 +154,7 @@ fn write_schemas(out: &mut [u8], at: usize, arities: &[u8], list: SchemaList) ->
 fn write_facts(out: &mut [u8], at: usize, arities: &[u8], list: FactList) -> usize
     requires { ⌜ (list .count ≤ 512) × (at + atomRoom * list .count ≤ length (now out)) ⌝ }
     ensures { λ r.
-        ⌜ Writes (atomRoom * list .count) at
+        ⌜ WritesAt (atomRoom * list .count) at
         (flatMap atomBytes (map (atomOf (now (arities .entry))) (entries (list .count) blankAtom (list .facts))))
         (now (out .entry)) (now (out .exit)) r ⌝ }
 {
@@ -172,7 +172,7 @@ fn write_facts(out: &mut [u8], at: usize, arities: &[u8], list: FactList) -> usi
 // The fact count, high byte first.
 fn write_count(out: &mut [u8], at: usize, count: usize) -> usize
     requires { ⌜ (count ≤ 512) × (at + 2 ≤ length (now out)) ⌝ }
-    ensures { λ r. ⌜ Writes 2 at (count / 256 ∷ count % 256 ∷ []) (now (out .entry)) (now (out .exit)) r ⌝ }
+    ensures { λ r. ⌜ WritesAt 2 at (count / 256 ∷ count % 256 ∷ []) (now (out .entry)) (now (out .exit)) r ⌝ }
 {
     out[at] = (count / 256) as u8;
     out[at + 1] = (count % 256) as u8;
@@ -182,7 +182,7 @@ fn write_count(out: &mut [u8], at: usize, count: usize) -> usize
 // The arities, one byte each.
 fn write_arities(out: &mut [u8], at: usize, arities: &[u8]) -> usize
     requires { ⌜ at + length (now arities) ≤ length (now out) ⌝ }
-    ensures { λ r. ⌜ Writes (length (now (arities .entry))) at (now (arities .entry)) (now (out .entry)) (now (out .exit)) r ⌝ }
+    ensures { λ r. ⌜ WritesAt (length (now (arities .entry))) at (now (arities .entry)) (now (out .entry)) (now (out .exit)) r ⌝ }
 {
     let mut next = at;
     let mut i = 0;
@@ -197,7 +197,7 @@ fn write_arities(out: &mut [u8], at: usize, arities: &[u8]) -> usize
 fn write_header(out: &mut [u8], arities: &[u8], objects: usize, schemas: usize) -> usize
     requires { ⌜ (length (now arities) ≤ 20) × (objects ≤ 64) × (schemas ≤ 32) × (headerRoom ≤ length (now out)) ⌝ }
     ensures { λ r.
-        ⌜ Writes headerRoom 0 (length (now (arities .entry)) ∷ now (arities .entry) ++ (objects ∷ schemas ∷ []))
+        ⌜ WritesAt headerRoom 0 (length (now (arities .entry)) ∷ now (arities .entry) ++ (objects ∷ schemas ∷ []))
         (now (out .entry)) (now (out .exit)) r ⌝ }
 {
     let first = write_byte(out, 0, arities.len() as u8);
@@ -209,7 +209,7 @@ fn write_header(out: &mut [u8], arities: &[u8], objects: usize, schemas: usize) 
 // The whole card.
 pub fn write_task(out: &mut [u8], task: Task) -> usize
     requires { ⌜ (Fits task) × (cardRoom ≤ length (now out)) ⌝ }
-    ensures { λ r. ⌜ Writes cardRoom 0 (taskBytes (tableOf task)) (now (out .entry)) (now (out .exit)) r ⌝ }
+    ensures { λ r. ⌜ WritesAt cardRoom 0 (taskBytes (tableOf task)) (now (out .entry)) (now (out .exit)) r ⌝ }
 {
     let predicates = task.predicates;
     let schemas = task.schemas;

@@ -14,11 +14,12 @@ use Rattle.card.specs.declared.Schema.{Schema}
 use Rattle.card.specs.declared.Refusal.{Refusal}
 use Rattle.card.specs.declared.Refusal.the-variants.{HeaderRange, ListRange}
 use Rattle.writer_checks.specs.Tables.{entries, atomTable, schemaTable}
-use Rattle.writer_checks.specs.Checking.{checkedSays, placeTest, placeNumber}
+use Rattle.writer_checks.specs.Checking.{checkedSays}
 use Rattle.writer_checks.specs.declared.checking.Checked.{Checked}
 use Rattle.writer_checks.specs.declared.checking.Checked.the-variants.{Passed, Refused}
-use Rattle.writer_checks.specs.declared.checking.Place.{Place}
-use Rattle.writer_checks.specs.declared.checking.Place.the-variants.{Preconditions, Deletes, Adds}
+use Rattle.card.specs.declared.ListField.{ListField}
+use Rattle.card.specs.declared.ListField.the-variants.{Preconditions, Deletes, Adds}
+use Rattle.card.specs.Fields.{fieldTest, fieldRefusal}
 use Rattle.writer_checks.proofs.Entries.{length-table}
 use Rattle.model.proofs.CheckParts.{between-below, between-above, between-intro}
 use Rattle.model.proofs.Answers.{need-inv}
@@ -57,9 +58,9 @@ module _ (check : Option model.Atom → model.Atom → Answer (Unit {0})) (ariti
       leb-true (list .count) 8 (rw (length-atoms arities list) at fits)
 
 -- one list of a schema
-abbrev pub listCheck : List ℕ → Schema → Place → AtomList → Answer (Unit {0})
-listCheck arities s place list =
-    checkList (checkSchemaAtom arities (s .parameters) (placeTest place (atomTable arities (s .preconditions))) (placeNumber place))
+abbrev pub listCheck : List ℕ → Schema → ListField → AtomList → Answer (Unit {0})
+listCheck arities s field list =
+    checkList (checkSchemaAtom arities (s .parameters) (fieldTest field (atomTable arities (s .preconditions))) (refusalNumber (fieldRefusal field)))
     (atomTable arities list)
 
 module _ (arities : List ℕ) (s : Schema) where
@@ -77,7 +78,7 @@ module _ (arities : List ℕ) (s : Schema) where
         ≡ listCheck arities s Preconditions (s .preconditions)
         >> (listCheck arities s Deletes (s .deletes) >> listCheck arities s Adds (s .adds))
         → answer ≡ checkSchema arities (schemaTable arities s)
-    unfolding checkSchema schemaTable need _>>_ placeTest placeNumber
+    unfolding checkSchema schemaTable need _>>_ fieldTest refusalNumber
     three-lists answer e = rw (between-intro 1 6 (s .parameters) low high) e
 
     module _ (c₁ : Checked) (says₁ : checkedSays c₁ ≡ listCheck arities s Preconditions (s .preconditions)) where

@@ -1,20 +1,16 @@
 -- What the parts of the writer's check answer: document 01's refusals in the code's terms.
 use Prim.Native.Nat.{ℕ, zero, suc}
-use mathlib.Core.Bool.{Bool, true, not}
 use mathlib.Core.List.{List, map}
-use lib.Dec.{leb}
 use mathlib.Core.Option.{Option, none, some}
 use Rattle.model.specs.Answer.{Answer, refused, accepted, _>>_, need}
 use Rattle.model.specs.Card as model
-use Rattle.model.specs.Writer.{known, each, checkSchema, checkFact}
+use Rattle.model.specs.Writer.{known, checkSchemas, checkFacts}
 use Rattle.card.specs.Represents.{atomOf, blankAtom, blankSchema, refusalNumber}
 use Rattle.card.specs.declared.SchemaList.{SchemaList}
 use Rattle.card.specs.declared.FactList.{FactList}
 use Rattle.writer_checks.specs.Tables.{entries, schemaTable}
 use Rattle.writer_checks.specs.declared.checking.Checked.{Checked}
 use Rattle.writer_checks.specs.declared.checking.Checked.the-variants.{Passed, Refused}
-use Rattle.writer_checks.specs.declared.checking.Place.{Place}
-use Rattle.writer_checks.specs.declared.checking.Place.the-variants.{Preconditions, Deletes, Adds}
 
 unfoldable pub checkedSays : Checked → Answer (Unit {0})
 checkedSays Passed = accepted tt
@@ -31,22 +27,9 @@ checkOrdered arities bound unknown disorder before a = do
   need (known arities bound a) unknown
   need (model.above before a) disorder
 
--- the check of a schema's own lists: 9 for a deleted atom, 10 for an added one
-unfoldable pub placeTest : Place → List model.Atom → model.Atom → Bool
-placeTest Preconditions preconditions = λ a. true
-placeTest Deletes preconditions = model.has preconditions
-placeTest Adds preconditions = λ a. not (model.has preconditions a)
-
-unfoldable pub placeNumber : Place → ℕ
-placeNumber Preconditions = 8
-placeNumber Deletes = 9
-placeNumber Adds = 10
-
--- what card order checks after the arities: objects, schemas, facts
+-- what card order checks after the predicates: objects, schemas, facts
 unfoldable pub checkRest : List ℕ → ℕ → SchemaList → FactList → Answer (Unit {0})
 checkRest arities objects schemas facts = do
   need (model.between 1 64 objects) 3
-  need (leb (schemas .count) 32) 4
-  each (λ before. checkSchema arities) none (map (schemaTable arities) (entries (schemas .count) blankSchema (schemas .schemas)))
-  need (leb (facts .count) 512) 11
-  each (checkFact arities objects) none (map (atomOf arities) (entries (facts .count) blankAtom (facts .facts)))
+  checkSchemas arities (map (schemaTable arities) (entries (schemas .count) blankSchema (schemas .schemas)))
+  checkFacts arities objects (map (atomOf arities) (entries (facts .count) blankAtom (facts .facts)))

@@ -5,6 +5,7 @@ use crate::atoms::is_same;
 use card::Atom;
 use card::AtomList;
 use card::FactList;
+use card::ListField;
 use card::Refusal;
 use card::Schema;
 use card::SchemaList;
@@ -13,25 +14,18 @@ ghost use mathlib.Core.Path.{_≡_};
 ghost use Prim.Native.Nat.{_≤_};
 ghost use mathlib.Core.Option.{none};
 ghost use mathlib.Core.List.{map};
-ghost use Rattle.laws.specs.Lists.{all};
 ghost use Rattle.model.specs.Answer.{need};
 ghost use Rattle.model.specs.Card as model;
 ghost use Rattle.model.specs.Writer as writer;
+ghost use Rattle.card.specs.Fields.{fieldTest, fieldRefusal};
 ghost use Rattle.card.specs.Represents.{atomOf, refusalNumber, blankAtom, blankSchema};
 ghost use Rattle.writer_checks.specs.Tables.{entries, atomTable, schemaTable, tableOf};
-ghost use Rattle.writer_checks.specs.Checking.{checkedSays, previous, checkOrdered, placeTest, placeNumber, checkRest};
+ghost use Rattle.writer_checks.specs.Checking.{checkedSays, previous, checkOrdered, checkRest};
 
 // What a check answers.
 pub enum Checked {
     Passed,
     Refused(Refusal),
-}
-
-// The list of a schema that an atom stands on.
-enum Place {
-    Preconditions,
-    Deletes,
-    Adds,
 }
 
 // The atom is on the list.
@@ -78,23 +72,23 @@ fn check_atom(
 }
 
 // 9 and 10: an atom beside the preconditions of its schema.
-fn check_place(arities: &[u8], place: Place, preconditions: AtomList, a: Atom) -> Checked
+fn check_field(arities: &[u8], field: ListField, preconditions: AtomList, a: Atom) -> Checked
     requires { ⌜ preconditions .count ≤ 8 ⌝ }
     ensures { λ r.
         ⌜ checkedSays r ≡ need
-        (placeTest place (atomTable (now (arities .entry)) preconditions) (atomOf (now (arities .entry)) a))
-        (placeNumber place) ⌝ }
+        (fieldTest field (atomTable (now (arities .entry)) preconditions) (atomOf (now (arities .entry)) a))
+        (refusalNumber (fieldRefusal field)) ⌝ }
 {
-    match place {
-        Place::Preconditions => Checked::Passed,
-        Place::Deletes => {
+    match field {
+        ListField::Preconditions => Checked::Passed,
+        ListField::Deletes => {
             if has_atom(arities, preconditions, a) {
                 Checked::Passed
             } else {
                 Checked::Refused(Refusal::DeleteNotPrecondition)
             }
         }
-        Place::Adds => {
+        ListField::Adds => {
             if has_atom(arities, preconditions, a) {
                 Checked::Refused(Refusal::AddIsPrecondition)
             } else {
@@ -108,7 +102,7 @@ fn check_place(arities: &[u8], place: Place, preconditions: AtomList, a: Atom) -
 fn check_schema_atom(
     arities: &[u8],
     parameters: usize,
-    place: Place,
+    field: ListField,
     preconditions: AtomList,
     i: usize,
     before: Atom,
@@ -117,7 +111,7 @@ fn check_schema_atom(
     requires { ⌜ preconditions .count ≤ 8 ⌝ }
     ensures { λ r.
         ⌜ checkedSays r ≡ writer.checkSchemaAtom (now (arities .entry)) parameters
-        (placeTest place (atomTable (now (arities .entry)) preconditions)) (placeNumber place)
+        (fieldTest field (atomTable (now (arities .entry)) preconditions)) (refusalNumber (fieldRefusal field))
         (previous i (atomOf (now (arities .entry)) before)) (atomOf (now (arities .entry)) a) ⌝ }
 {
     let ordered = check_atom(
@@ -132,14 +126,14 @@ fn check_schema_atom(
     let Checked::Passed = ordered else {
         return ordered;
     };
-    check_place(arities, place, preconditions, a)
+    check_field(arities, field, preconditions, a)
 }
 
 // The atoms of one list of a schema.
 fn check_atoms(
     arities: &[u8],
     parameters: usize,
-    place: Place,
+    field: ListField,
     preconditions: AtomList,
     list: AtomList,
 ) -> Checked
@@ -147,7 +141,7 @@ fn check_atoms(
     ensures { λ r.
         ⌜ checkedSays r ≡ writer.each
         (writer.checkSchemaAtom (now (arities .entry)) parameters
-        (placeTest place (atomTable (now (arities .entry)) preconditions)) (placeNumber place))
+        (fieldTest field (atomTable (now (arities .entry)) preconditions)) (refusalNumber (fieldRefusal field)))
         none (atomTable (now (arities .entry)) list) ⌝ }
 {
     let count = list.count;
@@ -155,7 +149,7 @@ fn check_atoms(
     let mut i = 0;
     while i < count {
         let a = list.atoms[i];
-        let checked = check_schema_atom(arities, parameters, place, preconditions, i, before, a);
+        let checked = check_schema_atom(arities, parameters, field, preconditions, i, before, a);
         let Checked::Passed = checked else {
             return checked;
         };
@@ -169,7 +163,7 @@ fn check_atoms(
 fn check_list(
     arities: &[u8],
     parameters: usize,
-    place: Place,
+    field: ListField,
     preconditions: AtomList,
     list: AtomList,
 ) -> Checked
@@ -177,13 +171,13 @@ fn check_list(
     ensures { λ r.
         ⌜ checkedSays r ≡ writer.checkList
         (writer.checkSchemaAtom (now (arities .entry)) parameters
-        (placeTest place (atomTable (now (arities .entry)) preconditions)) (placeNumber place))
+        (fieldTest field (atomTable (now (arities .entry)) preconditions)) (refusalNumber (fieldRefusal field)))
         (atomTable (now (arities .entry)) list) ⌝ }
 {
     if list.count > 8 {
         return Checked::Refused(Refusal::ListRange);
     }
-    check_atoms(arities, parameters, place, preconditions, list)
+    check_atoms(arities, parameters, field, preconditions, list)
 }
 
 // 5: a schema.
@@ -203,18 +197,24 @@ fn check_schema(arities: &[u8], s: Schema) -> Checked
     let first = check_list(
         arities,
         parameters,
-        Place::Preconditions,
+        ListField::Preconditions,
         preconditions,
         preconditions,
     );
     let Checked::Passed = first else {
         return first;
     };
-    let second = check_list(arities, parameters, Place::Deletes, preconditions, deletes);
+    let second = check_list(
+        arities,
+        parameters,
+        ListField::Deletes,
+        preconditions,
+        deletes,
+    );
     let Checked::Passed = second else {
         return second;
     };
-    check_list(arities, parameters, Place::Adds, preconditions, adds)
+    check_list(arities, parameters, ListField::Adds, preconditions, adds)
 }
 
 // The schemas, one after the other.
@@ -269,7 +269,7 @@ fn check_facts(arities: &[u8], objects: usize, list: FactList) -> Checked
 
 // Every arity is 1 to 3.
 fn arities_within(arities: &[u8]) -> bool
-    ensures { λ r. ⌜ r ≡ all (model.between 1 3) (now (arities .entry)) ⌝ }
+    ensures { λ r. ⌜ r ≡ model.inRange (now (arities .entry)) ⌝ }
 {
     let mut i = 0;
     while i < arities.len() {

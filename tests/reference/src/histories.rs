@@ -36,8 +36,10 @@ pub struct Histories<'a> {
     pub states: usize,
 }
 
-/// The most presses of one history.
+/// The most presses of one history, and of one that is to fill the state up, which comes once in so many.
 const MOST_PRESSES: usize = 40;
+const FILLING_PRESSES: usize = 250;
+const FILLING: usize = 200;
 
 impl<'a> Histories<'a> {
     pub fn new(calls: &'a dyn Calls, seed: u64) -> Histories<'a> {
@@ -46,20 +48,26 @@ impl<'a> Histories<'a> {
 
     /// The opening call on a random card, then presses, accepted and refused ones.
     pub fn random_history(&mut self) -> Result<(), Untrue> {
-        let task = if self.random.once_in(8) { self.random.roomy_task() } else { self.random.task() };
+        let filling = self.random.once_in(FILLING);
+        let task = match self.random.below(8) {
+            _ if filling => self.random.filling_task(),
+            0 => self.random.roomy_task(),
+            _ => self.random.task(),
+        };
+        let most = if filling { FILLING_PRESSES } else { self.random.below(MOST_PRESSES + 1) };
         let card = write_unchecked(&task);
         let listing = String::from_utf8_lossy(&self.calls.listing(&card)).into_owned();
         let mut presses = Vec::new();
-        self.press_and_check(&task, &card, &listing, &mut presses).map_err(|fault| Untrue { card, listing, presses, fault })
+        self.press_and_check(&task, &card, &listing, most, &mut presses).map_err(|fault| Untrue { card, listing, presses, fault })
     }
 
     /// Says what is false, with the presses that led there.
-    fn press_and_check(&mut self, task: &Task, card: &[u8], text: &str, presses: &mut Vec<Press>) -> Result<(), String> {
+    fn press_and_check(&mut self, task: &Task, card: &[u8], text: &str, most: usize, presses: &mut Vec<Press>) -> Result<(), String> {
         let listing = Listing::parse(text).ok_or("what was listed is no listing")?;
         let mut state = vec![0; STATE_LEN];
         let mut count = self.calls.initial(card, &mut state).map_err(|refusal| format!("the opening call answers {refusal}"))?;
         self.check(task, &listing, text, &state[..count * FACT_LEN])?;
-        for _ in 0..self.random.below(MOST_PRESSES + 1) {
+        for _ in 0..most {
             let press = self.random.press(task, &state[..count * FACT_LEN]);
             let answer = self.calls.press(card, &mut state, count, press.schema, &press.objects);
             self.met.answer(Call::Press, answer);
@@ -76,9 +84,9 @@ impl<'a> Histories<'a> {
         check(task, listing, facts)
     }
 
-    /// What never came up: a press that is accepted or refused by 16 to 19, a kind of space, a kind of line.
+    /// What never came up: a press that is accepted or refused by 16 to 20, a kind of space, a kind of line.
     pub fn missing(&self) -> Vec<String> {
-        let answers = [0, 16, 17, 18, 19].map(|answer| (Call::Press, answer));
+        let answers = [0, 16, 17, 18, 19, 20].map(|answer| (Call::Press, answer));
         self.met.missing(&answers, &[&SPACES[..], &LINES].concat())
     }
 }

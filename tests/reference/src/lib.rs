@@ -9,6 +9,7 @@ pub mod listing;
 pub mod met;
 pub mod proved;
 pub mod random;
+pub mod reachable;
 pub mod refusal;
 pub mod settings;
 pub mod strips;

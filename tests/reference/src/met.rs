@@ -4,7 +4,7 @@
 use std::collections::BTreeMap;
 use std::fmt;
 
-/// The calls that both implementations have.
+/// The calls that both implementations have. `Encode` is the card writer on a table, which no call of the C interface is.
 #[derive(Clone, Copy, Debug, PartialEq, Eq, PartialOrd, Ord)]
 pub enum Call {
     Check,
@@ -12,12 +12,14 @@ pub enum Call {
     Rewrite,
     Section,
     Press,
+    Encode,
 }
 
 impl Call {
     /// The answers that document 01 gives this call: 0 for an accepted call, and the numbers of its refusals.
     pub fn answers(self) -> Vec<u8> {
         let (last, more): (u8, &[u8]) = match self {
+            Call::Encode => return [0].into_iter().chain(2..=13).chain([21]).collect(),
             Call::Check => (14, &[]),
             Call::Initial => (15, &[]),
             Call::Rewrite => (14, &[21]),
@@ -34,6 +36,7 @@ impl Call {
             Call::Rewrite => "rewrite",
             Call::Section => "section",
             Call::Press => "press",
+            Call::Encode => "encode",
         }
     }
 }

@@ -96,6 +96,24 @@ impl Random {
         self.task_of(true)
     }
 
+    /// A task by whose presses a state can be filled up: many facts, and a schema that asks for nothing and adds as much as a list holds.
+    pub fn filling_task(&mut self) -> Task {
+        let mut task = self.roomy_task();
+        let parameters = MAX_PARAMETERS as u8;
+        let mut adds: Vec<Atom> = (0..MAX_ATOMS).map(|_| self.atom(&task, parameters)).collect();
+        sort(&mut adds);
+        task.schema_places[0] = Schema { parameters, adds: list(&adds), ..Schema::default() };
+        for place in 2..task.schema_count.max(2) as usize {
+            task.schema_places[place] = Schema::default();
+        }
+        task.schema_count = task.schema_count.min(2);
+        let facts = self.facts(&task, MAX_FACTS);
+        task.fact_places = [Atom::default(); MAX_FACTS];
+        task.fact_count = facts.len() as u16;
+        task.fact_places[..facts.len()].copy_from_slice(&facts);
+        task
+    }
+
     fn task_of(&mut self, roomy: bool) -> Task {
         let mut task = Task::default();
         let large = self.once_in(10);

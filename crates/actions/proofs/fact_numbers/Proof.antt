@@ -17,7 +17,7 @@ Inv-loop arities numbers₀ facts count i₀ numbers i =
 abbrev μ-loop : tie.MeasureT-loop
 μ-loop arities numbers₀ facts count i₀ numbers i = facts .count - i
 
--- what is given, from the loop on
+-- the start of the function, reached from the loop
 abbrev entry : tie.At-loop Inv-loop μ-loop → tie.Start Inv-loop μ-loop
 entry c = c .before .before .before
 

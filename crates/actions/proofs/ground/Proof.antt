@@ -5,7 +5,7 @@ use borrow.Author.Needs.{needs}
 use Rattle.actions.proofs.ground.Statement.{statement}
 use Rattle.actions.proofs.ground.Tie as tie
 
--- what is given, from the arity read
+-- the start of the function, reached from the read of the arity
 abbrev entry : tie.After-shared-slice-known3 → tie.Start
 entry c = c .before .before .before
 

@@ -19,7 +19,7 @@ Inv-loop arities objects list count numbers₀ i₀ numbers i =
 abbrev μ-loop : tie.MeasureT-loop
 μ-loop arities objects list count numbers₀ i₀ numbers i = list .count - i
 
--- what is given, from the loop on
+-- the start of the function, reached from the loop
 abbrev entry : tie.At-loop Inv-loop μ-loop → tie.Start Inv-loop μ-loop
 entry c = c .before .before .before
 

@@ -5,11 +5,10 @@ use mathlib.Core.List.{List}
 use mathlib.Core.Path.{_≡_, subst⁻¹}
 use lib.ListN.{take, drop}
 use Rattle.model.specs.Answer.{accepted}
+use Rattle.model.specs.Card.{inRange, predicates}
 use Rattle.card.specs.declared.ArityList.{ArityList}
 use Rattle.card.specs.Represents.{refusalNumber, taskOf, aritiesOf, aritiesFor}
-use Rattle.reader_atoms.specs.Atoms.{inRange}
 use Rattle.reader_bytes.proofs.Reading.{accepted-by, kept-as, refusal-by, byte-read, byte-refusal}
-use Rattle.reader.specs.Parts.{predicates}
 use Rattle.reader.proofs.Decoding.{no-predicates, no-objects, no-schemas, no-facts, more-bytes, whole-card, goes-on, is-over}
 use Rattle.reader.proofs.Decoding.{arities-in-range, arities-room, arities-part, schemas-with, facts-with}
 use Rattle.reader.proofs.Decoding.{task-kept, decodes-refused, decodes-accepted}
@@ -17,7 +16,7 @@ use borrow.Author.Needs.{needs}
 use Rattle.reader.proofs.decode.Statement.{statement}
 use Rattle.reader.proofs.decode.Tie as tie
 
--- the predicates, from the objects' number; this, from the schemas; and these, from the facts
+-- earlier points of the function, each reached from the next: predicates, objects, schemas, facts
 abbrev predicates-before : tie.After-byte-between → tie.After-step
 predicates-before c = c .before .before .before .before
 
@@ -86,7 +85,7 @@ returns-2 c =
     let at-byte-between = c .before .before .before .before in
     let p = predicates-read (predicates-before at-byte-between) in
     let none = byte-refusal (at-byte-between .byte-between .ensures) (c .before .before .enum-told2 .given .1) (c .before .refusal2 .ensures) in
-    decodes-refused (c .refused2 .ensures) (no-objects _ _ p none)
+    decodes-refused (c .refused2 .ensures) (no-objects _ p none)
 
 cast-objects : tie.Need-cast-objects
 cast-objects c = search needs
@@ -125,7 +124,7 @@ returns-3 c =
     let p = predicates-read (predicates-before at-byte-between) in
     let o = byte-read (at-byte-between .byte-between .ensures) (at-counted .counted .given .1) in
     let none = refusal-by (schemas-with _ _ (at-schemas .schemas .ensures)) (at-enum-told3 .enum-told3 .given .1) (c .before .refusal3 .ensures) in
-    decodes-refused (c .refused3 .ensures) (no-schemas _ _ p _ o none)
+    decodes-refused (c .refused3 .ensures) (no-schemas _ p o none)
 
 sub-facts : tie.Need-sub-facts
 sub-facts c = search needs
@@ -168,7 +167,7 @@ returns-4 c =
     let w₁ = schemas-with _ _ (at-schemas .schemas .ensures) in
     let e₁ = at-step2 .step2 .given .1 in
     let none = refusal-by (facts-with _ _ _ (at-facts .facts .ensures)) (c .before .before .enum-told4 .given .1) (c .before .refusal4 .ensures) in
-    decodes-refused (c .refused4 .ensures) (no-facts _ _ p _ o _ (accepted-by w₁ e₁) none)
+    decodes-refused (c .refused4 .ensures) (no-facts _ p o (accepted-by w₁ e₁) none)
 
 refused-requires-5 : tie.Need-refused-requires-5
 refused-requires-5 c κs = search needs
@@ -188,7 +187,7 @@ returns-5 c =
     let e₁ = at-step2 .step2 .given .1 in
     let w₂ = facts-with _ _ _ (at-facts .facts .ensures) in
     let e₂ = at-step3 .step3 .given .1 in
-    let more = more-bytes _ _ p _ o _ (accepted-by w₁ e₁) _ (accepted-by w₂ e₂) (goes-on _ _ (c .before .if1 .taken)) in
+    let more = more-bytes _ p o (accepted-by w₁ e₁) (accepted-by w₂ e₂) (goes-on _ _ (c .before .if1 .taken)) in
     decodes-refused (c .refused5 .ensures) more
 
 returns-6 : tie.Need-returns-6
@@ -206,7 +205,7 @@ returns-6 c =
     let e₁ = at-step2 .step2 .given .1 in
     let w₂ = facts-with _ _ _ (at-facts .facts .ensures) in
     let e₂ = at-step3 .step3 .given .1 in
-    let whole = whole-card _ _ p _ o _ (accepted-by w₁ e₁) _ (accepted-by w₂ e₂) (is-over _ _ (c .if1 .left)) in
+    let whole = whole-card _ p o (accepted-by w₁ e₁) (accepted-by w₂ e₂) (is-over _ _ (c .if1 .left)) in
     decodes-accepted whole (task-kept _ (arities-kept (predicates-before at-byte-between)) (kept-as w₁ e₁) (kept-as w₂ e₂))
 
 pub decode-spec : {M : Type 1} → statement M

@@ -2,7 +2,7 @@
 use Rattle.reader_bytes.proofs.Answers.{goes, halts}
 use Rattle.reader_bytes.proofs.Reading.{refuses-beside, reads-as}
 use Rattle.reader_bytes.proofs.FactCount.{count-found, count-within, count-refusal, count-held}
-use Rattle.reader.specs.Parts.{facts}
+use Rattle.model.specs.Card.{facts}
 use borrow.Author.Needs.{needs}
 use Rattle.reader.proofs.facts.Statement.{statement}
 use Rattle.reader.proofs.facts.Tie as tie

@@ -1,8 +1,8 @@
 -- `predicates` reads as the definition does.
+use Rattle.model.specs.Card.{predicates}
 use Rattle.card.specs.Represents.{refusalNumber}
 use Rattle.reader_bytes.proofs.Answers.{goes, halts, between-held}
 use Rattle.reader_bytes.proofs.Reading.{refuses-beside, reads-as, byte-read, byte-within, byte-refusal}
-use Rattle.reader.specs.Parts.{predicates}
 use borrow.Author.Needs.{needs}
 use Rattle.reader.proofs.predicates.Statement.{statement}
 use Rattle.reader.proofs.predicates.Tie as tie

@@ -3,12 +3,11 @@ use Prim.Native.Nat.{_-_}
 use mathlib.Core.Path.{refl, _∙_}
 use native.Mathlib.Omega.{arith}
 use lib.ListN.{drop}
-use Rattle.model.specs.Card.{schema}
+use Rattle.model.specs.Card.{schema, schemas}
 use Rattle.card.specs.Represents.{refusalNumber, schemaOf, schemaFor, blankSchema}
 use Rattle.reader_bytes.proofs.Answers.{goes, halts, between-held}
 use Rattle.reader_bytes.proofs.Reading.{refuses-beside, reads-as, accepted-by, within-card, kept-as, refusal-by, byte-read, byte-within, byte-refusal}
 use Rattle.reader_lists.proofs.Plain.{Plain, plain-starts, plain-goes-on, plain-stops}
-use Rattle.reader.specs.Parts.{schemas}
 use Rattle.reader.proofs.Headers.{schemas-counted}
 use Rattle.reader.proofs.SchemaLoop.{blank-schemas, schemas-filled}
 use borrow.Author.Needs.{needs}
@@ -81,7 +80,7 @@ returns-2 c =
     let at-byte-between = at-counted .before .before in
     let no-schema = refusal-by (at-schema .schema .ensures) (c .before .before .enum-told2 .given .1) (c .before .refusal2 .ensures) in
     let counted = goes _ (schemas-counted _ ∙ byte-read (at-byte-between .byte-between .ensures) (at-counted .counted .given .1)) in
-    refuses-beside (counted ∙ plain-stops _ _ _ _ _ _ _ _ (at-loop .loop .inv) (at-loop-test .loop-test .taken) no-schema) (c .no-schemas2 .ensures)
+    refuses-beside (counted ∙ plain-stops (at-loop .loop .inv) (at-loop-test .loop-test .taken) no-schema) (c .no-schemas2 .ensures)
 
 mul-s : tie.Need-mul-s Inv-loop μ-loop
 mul-s c =
@@ -111,7 +110,7 @@ loop-again c =
     let at-loop = at-loop-test .before in
     let w = at-schema .schema .ensures in
     let e = c .before .before .step .given .1 in
-    plain-goes-on _ _ _ _ _ _ _ _ (at-loop .loop .inv) (at-loop-test .loop-test .taken) (accepted-by w e) (within-card w e) (kept-as w e)
+    plain-goes-on (at-loop .loop .inv) (at-loop-test .loop-test .taken) (accepted-by w e) (within-card w e) (kept-as w e)
 
 returns-3 : tie.Need-returns-3 Inv-loop μ-loop
 unfolding schemas refusalNumber

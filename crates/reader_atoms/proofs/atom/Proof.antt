@@ -1,8 +1,9 @@
 -- `atom` reads as the definition does.
 use borrow.Author.Tests.{ltb-true}
+use Rattle.model.proofs.Checked.{arity-within}
 use Rattle.reader_bytes.proofs.Answers.{byteThat-held}
 use Rattle.reader_bytes.proofs.Reading.{refuses, byte-read, byte-refusal}
-use Rattle.reader_atoms.proofs.ArgumentBytes.{predicate-refused, predicate-read, in-range}
+use Rattle.reader_atoms.proofs.ArgumentBytes.{predicate-refused, predicate-read}
 use borrow.Author.Needs.{needs}
 use Rattle.reader_atoms.proofs.atom.Statement.{statement}
 use Rattle.reader_atoms.proofs.atom.Tie as tie
@@ -36,7 +37,7 @@ arguments-requires c κs =
     let at-read = c .before .before in
     let at-byte-below = at-read .before .before in
     let start = at-byte-below .before .before .before in
-    in-range _ _ (start .pre) (ltb-true _ _ (byteThat-held _ _ _ (byte-read (at-byte-below .byte-below .ensures) (at-read .read .given .1))))
+    arity-within _ _ (start .pre) (ltb-true _ _ (byteThat-held _ _ _ (byte-read (at-byte-below .byte-below .ensures) (at-read .read .given .1))))
 
 returns-2 : tie.Need-returns-2
 returns-2 c =

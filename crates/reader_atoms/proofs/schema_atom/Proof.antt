@@ -5,7 +5,7 @@ use Rattle.model.specs.Answer.{refused}
 use Rattle.card.specs.Represents.{refusalNumber}
 use Rattle.reader_bytes.proofs.Reading.{accepts, refuses}
 use Rattle.reader_atoms.proofs.AtomReading.{atom-read, atom-within, atom-kept, atom-refused, atom-passed-on}
-use Rattle.reader_atoms.proofs.Checks.{above-bytes, belongs-bytes, list-long, section-ends, section-unordered, section-strange, section-passes}
+use Rattle.reader_atoms.proofs.Checks.{above-bytes, belongs-bytes, list-long, field-ends, field-unordered, field-strange, field-passes}
 use borrow.Author.Needs.{needs}
 use Rattle.reader_atoms.proofs.schema_atom.Statement.{statement}
 use Rattle.reader_atoms.proofs.schema_atom.Tie as tie
@@ -23,7 +23,7 @@ returns : tie.Need-returns
 unfolding refusalNumber
 returns c =
     let told = c .enum-told .given .1 in
-    atom-passed-on told (section-ends _ _ _ _ _ _ (atom-refused (c .before .before .atom .ensures) told))
+    atom-passed-on told (field-ends _ _ _ _ _ _ (atom-refused (c .before .before .atom .ensures) told))
 
 is-above-requires : tie.Need-is-above-requires
 is-above-requires c κs = search needs
@@ -36,7 +36,7 @@ returns-2 c =
     let w = at-atom .atom .ensures in
     let e = c .before .before .before .read .given .1 in
     let o = above-bytes _ _ (atom-kept w e) _ (start .pre .2) ∙ sym (c .before .is-above .ensures) ∙ not-true _ (c .if1 .taken) in
-    refuses (section-unordered _ _ _ _ _ _ (atom-read w e) o)
+    refuses (field-unordered _ _ _ _ _ _ (atom-read w e) o)
 
 belongs-requires : tie.Need-belongs-requires
 belongs-requires c κs =
@@ -58,7 +58,7 @@ returns-3 c =
     let k = atom-kept w e in
     let o = above-bytes _ _ k _ (start .pre .2) ∙ sym (at-is-above .is-above .ensures) ∙ not-false _ (c .before .before .before .if1 .left) in
     let t = belongs-bytes _ _ _ _ k (start .pre .1) ∙ sym (c .before .before .belongs .ensures) ∙ not-true _ (c .before .if2 .taken) in
-    refuses (section-strange _ _ _ _ _ _ (atom-read w e) o t ∙ ap (λ r. refused (refusalNumber r)) (sym (c .refusal-of .ensures)))
+    refuses (field-strange _ _ _ _ _ _ (atom-read w e) o t ∙ ap (λ r. refused (refusalNumber r)) (sym (c .refusal-of .ensures)))
 
 returns-4 : tie.Need-returns-4
 unfolding refusalNumber
@@ -71,7 +71,7 @@ returns-4 c =
     let k = atom-kept w e in
     let o = above-bytes _ _ k _ (start .pre .2) ∙ sym (c .before .before .before .is-above .ensures) ∙ not-false _ (c .before .before .if1 .left) in
     let t = belongs-bytes _ _ _ _ k (start .pre .1) ∙ sym (c .before .belongs .ensures) ∙ not-false _ (c .if2 .left) in
-    accepts (section-passes _ _ _ _ _ _ (atom-read w e) o t) (atom-within w e) k
+    accepts (field-passes _ _ _ _ _ _ (atom-read w e) o t) (atom-within w e) k
 
 pub schema-atom-spec : {M : Type 1} → statement M
 schema-atom-spec =

@@ -48,7 +48,7 @@ returns c =
     let at-loop-test = at-byte-between .before in
     let at-loop = at-loop-test .before in
     let no-arity = byte-refusal (at-byte-between .byte-between .ensures) (c .before .before .enum-told .given .1) (c .before .refusal .ensures) in
-    refuses-beside (plain-stops _ _ _ _ _ _ _ _ (at-loop .loop .inv) (at-loop-test .loop-test .taken) no-arity) (c .no-arities2 .ensures)
+    refuses-beside (plain-stops (at-loop .loop .inv) (at-loop-test .loop-test .taken) no-arity) (c .no-arities2 .ensures)
 
 element-write-list : tie.Need-element-write-list Inv-loop μ-loop
 element-write-list c = omega arith
@@ -66,7 +66,7 @@ loop-again c =
     let at-loop = at-loop-test .before in
     let w = c .before .before .before .byte-between .ensures in
     let e = c .before .read .given .1 in
-    plain-goes-on _ _ _ _ _ _ _ _ (at-loop .loop .inv) (at-loop-test .loop-test .taken) (byte-read w e) (byte-within w e) refl
+    plain-goes-on (at-loop .loop .inv) (at-loop-test .loop-test .taken) (byte-read w e) (byte-within w e) refl
 
 returns-2 : tie.Need-returns-2 Inv-loop μ-loop
 returns-2 c =

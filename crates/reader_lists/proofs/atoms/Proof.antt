@@ -4,7 +4,7 @@ use mathlib.Core.Path.{refl}
 use native.Mathlib.Omega.{arith}
 use borrow.Author.Needs.{needs}
 use Rattle.card.specs.Represents.{atomsOf}
-use Rattle.reader_atoms.specs.Atoms.{sectionAtom}
+use Rattle.reader_atoms.specs.Atoms.{fieldAtom}
 use Rattle.reader_bytes.proofs.Reading.{refuses-beside}
 use Rattle.reader_lists.proofs.Ordered.{Ordered, ordered-starts, ordered-goes-on, ordered-stops}
 use Rattle.reader_lists.proofs.Blanks.{blank-atoms, atoms-filled}
@@ -12,11 +12,11 @@ use Rattle.reader_lists.proofs.atoms.Statement.{statement}
 use Rattle.reader_lists.proofs.atoms.Tie as tie
 
 abbrev Inv-loop : tie.InvT-loop
-Inv-loop part count arities parameters section preconditions list₀ previous₀ at₀ i₀ list previous at i =
-    Ordered arities 8 (sectionAtom arities parameters section (atomsOf arities preconditions)) count part part (list .atoms) i at previous
+Inv-loop part count arities parameters field preconditions list₀ previous₀ at₀ i₀ list previous at i =
+    Ordered arities 8 (fieldAtom arities parameters field (atomsOf arities preconditions)) count part part (list .atoms) i at previous
 
 abbrev μ-loop : tie.MeasureT-loop
-μ-loop part count arities parameters section preconditions list₀ previous₀ at₀ i₀ list previous at i = count - i
+μ-loop part count arities parameters field preconditions list₀ previous₀ at₀ i₀ list previous at i = count - i
 
 no-atoms-requires : tie.Need-no-atoms-requires Inv-loop μ-loop
 no-atoms-requires c κs = search needs
@@ -50,7 +50,7 @@ returns c =
     let at-loop = at-loop-test .before in
     let w = at-schema-atom .schema-atom .ensures in
     let told = at-enum-told .enum-told .given .1 in
-    let stopped = ordered-stops _ _ _ _ _ _ (at-loop .loop .inv) (at-loop-test .loop-test .taken) w told (c .before .refusal .ensures) in
+    let stopped = ordered-stops (at-loop .loop .inv) (at-loop-test .loop-test .taken) w told (c .before .refusal .ensures) in
     refuses-beside stopped (c .no-atoms2 .ensures)
 
 mul-a : tie.Need-mul-a Inv-loop μ-loop
@@ -70,7 +70,7 @@ loop-again c =
     let at-schema-atom = c .before .before .before in
     let at-loop-test = at-schema-atom .before in
     let at-loop = at-loop-test .before in
-    ordered-goes-on _ _ _ _ _ _ (at-loop .loop .inv) (at-loop-test .loop-test .taken) (at-schema-atom .schema-atom .ensures) (c .before .read .given .1)
+    ordered-goes-on (at-loop .loop .inv) (at-loop-test .loop-test .taken) (at-schema-atom .schema-atom .ensures) (c .before .read .given .1)
 
 returns-2 : tie.Need-returns-2 Inv-loop μ-loop
 returns-2 c =

@@ -50,7 +50,7 @@ returns c =
     let at-loop = at-loop-test .before in
     let w = at-fact .fact .ensures in
     let told = at-enum-told .enum-told .given .1 in
-    let stopped = ordered-stops _ _ _ _ _ _ (at-loop .loop .inv) (at-loop-test .loop-test .taken) w told (c .before .refusal .ensures) in
+    let stopped = ordered-stops (at-loop .loop .inv) (at-loop-test .loop-test .taken) w told (c .before .refusal .ensures) in
     refuses-beside stopped (c .no-facts2 .ensures)
 
 mul-f : tie.Need-mul-f Inv-loop μ-loop
@@ -70,7 +70,7 @@ loop-again c =
     let at-fact = c .before .before .before in
     let at-loop-test = at-fact .before in
     let at-loop = at-loop-test .before in
-    ordered-goes-on _ _ _ _ _ _ (at-loop .loop .inv) (at-loop-test .loop-test .taken) (at-fact .fact .ensures) (c .before .read .given .1)
+    ordered-goes-on (at-loop .loop .inv) (at-loop-test .loop-test .taken) (at-fact .fact .ensures) (c .before .read .given .1)
 
 returns-2 : tie.Need-returns-2 Inv-loop μ-loop
 returns-2 c =

@@ -4,7 +4,7 @@ use native.Mathlib.Omega.{arith}
 use lib.ListN.{length, take}
 use lib.Seq.{length-take-le}
 use Rattle.sets.specs.Numbers.{insertedAll}
-use Rattle.sets.proofs.Changing.{Changing, putIn, changing-start, changing-end, changing-holds, changing-length, changing-count, inserting-step}
+use Rattle.sets.proofs.Changing.{Changing, putIn, changing-start, changing-end, changing-set, changing-length, changing-count, inserting-step}
 use Rattle.sets.proofs.insert_all.Statement.{statement}
 use Rattle.sets.proofs.insert_all.Tie as tie
 
@@ -14,13 +14,13 @@ Inv-loop numbers₀ count new held₀ i₀ numbers held i = Changing putIn new (
 abbrev μ-loop : tie.MeasureT-loop
 μ-loop numbers₀ count new held₀ i₀ numbers held i = length new - i
 
--- what is given, from the loop on
+-- the start of the function, reached from the loop
 abbrev entry : tie.At-loop Inv-loop μ-loop → tie.Start Inv-loop μ-loop
 entry c = c .before .before .before
 
 loop-holds : tie.Need-loop-holds Inv-loop μ-loop
 loop-holds c =
-    changing-start _ _ _ _ (c .before .before .pre .1)
+    changing-start _ _ (c .before .before .pre .1)
 
 mul-insert : tie.Need-mul-insert Inv-loop μ-loop
 mul-insert c = omega arith
@@ -34,9 +34,9 @@ insert-requires c κs =
     let inv = head .loop .inv in
     let start = entry head in
     let size = length-take-le (start .args .count) (start .args .numbers .now) (start .pre .1 .few) in
-    let same = changing-length _ _ _ _ _ _ _ inv in
-    let count = changing-count _ _ _ _ _ _ _ inv in
-    (omega arith, changing-holds _ _ _ _ _ _ _ inv)
+    let same = changing-length inv in
+    let count = changing-count inv in
+    (omega arith, changing-set inv)
 
 add-i : tie.Need-add-i Inv-loop μ-loop
 add-i c = omega arith
@@ -52,16 +52,16 @@ loop-again c =
     let size = length-take-le (start .args .count) (start .args .numbers .now) (start .pre .1 .few) in
     let enough : length (take (start .args .count) (start .args .numbers .now)) + length (start .args .new .now) ≤ length (start .args .numbers .now) =
     omega arith in
-    inserting-step _ _ _ _ _ _ _ _ (in-loop .before .loop .inv) (in-loop .loop-test .taken) enough (inserted .insert .ensures)
+    inserting-step (in-loop .before .loop .inv) (in-loop .loop-test .taken) enough (inserted .insert .ensures)
 
 same-length : tie.Need-same-length Inv-loop μ-loop
 same-length c =
-    changing-length _ _ _ _ _ _ _ (c .before .loop .inv)
+    changing-length (c .before .loop .inv)
 
 returns : tie.Need-returns Inv-loop μ-loop
 unfolding insertedAll
 returns c =
-    changing-end _ _ _ _ _ _ _ (c .before .loop .inv) (c .loop-test .left)
+    changing-end (c .before .loop .inv) (c .loop-test .left)
 
 pub insert-all-spec : {M : Type 1} → statement M
 insert-all-spec =

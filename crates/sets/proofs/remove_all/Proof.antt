@@ -3,7 +3,7 @@ use Prim.Native.Nat.{_-_}
 use native.Mathlib.Omega.{arith}
 use lib.ListN.{length, take}
 use Rattle.sets.specs.Numbers.{withoutAll}
-use Rattle.sets.proofs.Changing.{Changing, takeOut, changing-start, changing-end, changing-holds, changing-length, removing-step}
+use Rattle.sets.proofs.Changing.{Changing, takeOut, changing-start, changing-end, changing-set, changing-length, removing-step}
 use Rattle.sets.proofs.remove_all.Statement.{statement}
 use Rattle.sets.proofs.remove_all.Tie as tie
 
@@ -15,7 +15,7 @@ abbrev μ-loop : tie.MeasureT-loop
 
 loop-holds : tie.Need-loop-holds Inv-loop μ-loop
 loop-holds c =
-    changing-start _ _ _ _ (c .before .before .pre)
+    changing-start _ _ (c .before .before .pre)
 
 mul-remove : tie.Need-mul-remove Inv-loop μ-loop
 mul-remove c = omega arith
@@ -25,7 +25,7 @@ shared-slice-read-remove c = omega arith
 
 remove-requires : tie.Need-remove-requires Inv-loop μ-loop
 remove-requires c κs =
-    changing-holds _ _ _ _ _ _ _ (c .before .before .before .loop .inv)
+    changing-set (c .before .before .before .loop .inv)
 
 add-i : tie.Need-add-i Inv-loop μ-loop
 add-i c = omega arith
@@ -37,16 +37,16 @@ loop-again : tie.Need-loop-again Inv-loop μ-loop
 loop-again c =
     let removed = c .before .before in
     let in-loop = removed .before .before .before in
-    removing-step _ _ _ _ _ _ _ _ (in-loop .before .loop .inv) (in-loop .loop-test .taken) (removed .remove .ensures)
+    removing-step (in-loop .before .loop .inv) (in-loop .loop-test .taken) (removed .remove .ensures)
 
 same-length : tie.Need-same-length Inv-loop μ-loop
 same-length c =
-    changing-length _ _ _ _ _ _ _ (c .before .loop .inv)
+    changing-length (c .before .loop .inv)
 
 returns : tie.Need-returns Inv-loop μ-loop
 unfolding withoutAll
 returns c =
-    changing-end _ _ _ _ _ _ _ (c .before .loop .inv) (c .loop-test .left)
+    changing-end (c .before .loop .inv) (c .loop-test .left)
 
 pub remove-all-spec : {M : Type 1} → statement M
 remove-all-spec =

@@ -5,13 +5,13 @@ use mathlib.Core.Bool.{Bool, true, _&&_}
 use native.Mathlib.Omega.{arith}
 use borrow.Author.Tests.{not-true, not-false}
 use Rattle.model.specs.Strips.{rowRight}
-use Rattle.state.specs.Rows.{signature, rowAt}
+use Rattle.state.specs.Rows.{rowAt}
 use Rattle.state.proofs.RightRows.{row-unknown, row-places, placeTest, first-fails, second-fails, third-decides}
 use borrow.Author.Needs.{needs}
 use Rattle.state.proofs.row_right.Statement.{statement}
 use Rattle.state.proofs.row_right.Tie as tie
 
--- what is given, from the test that the predicate is known; this, from the test of the first place; and that, from the test of the second
+-- earlier points of the function, each reached from the next: start, predicate known, first place, second place
 abbrev entry : tie.Else1 → tie.Start
 entry c = c .before .before .before .before
 
@@ -54,7 +54,7 @@ test s k = placeTest (s .args .arities .now) (s .args .objects) (s .args .i) (s 
 -- the row is right by its three places
 by-places : (c : tie.Else1)
     → (test (entry c) 1 && test (entry c) 2 && test (entry c) 3)
-    ≡ rowRight (signature (entry c .args .arities .now) (entry c .args .objects)) (rowAt (entry c .args .i) (entry c .args .state .now))
+    ≡ rowRight (entry c .args .arities .now) (entry c .args .objects) (rowAt (entry c .args .i) (entry c .args .state .now))
 by-places c = row-places _ _ _ _ (entry c .pre .0) (entry c .pre .1) (c .if1 .left)
 
 first-right : (c : tie.Else2) → test (entry (known (c .before))) 1 ≡ true

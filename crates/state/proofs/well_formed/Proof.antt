@@ -1,21 +1,15 @@
 -- 15: the buffer's length, the count, and one pass over the rows.
-use mathlib.Core.Path.{sym, _∙_}
-use Rattle.state.specs.Rows.{signature}
+use mathlib.Core.Path.{_∙_}
 use Rattle.state.proofs.RightRows.{well-formed-rows, small-buffer, large-count}
 use borrow.Author.Needs.{needs}
 use Rattle.state.proofs.well_formed.Statement.{statement}
 use Rattle.state.proofs.well_formed.Tie as tie
 
 returns : tie.Need-returns
-returns c =
-    let start = c .before .before .before in
-    sym (small-buffer (signature (start .args .arities .now) (start .args .objects)) (start .args .state .now) (start .args .count) (c .if1 .taken))
+returns c = small-buffer _ _ _ _ (c .if1 .taken)
 
 returns-2 : tie.Need-returns-2
-returns-2 c =
-    let start = c .before .before .before .before in
-    sym (large-count (signature (start .args .arities .now) (start .args .objects)) (start .args .state .now) (start .args .count)
-    (c .before .if1 .left) (c .if2 .taken))
+returns-2 c = large-count _ _ _ _ (c .before .if1 .left) (c .if2 .taken)
 
 rows-right-requires : tie.Need-rows-right-requires
 rows-right-requires c κs = search needs

@@ -8,19 +8,19 @@ use lib.ListN.{length}
 use Rattle.laws.specs.Lists.{all, member}
 use Rattle.model.specs.Strips.{ground}
 use Rattle.card.specs.Represents.{atomsOf, schemaOf}
-use Rattle.strips.specs.Stages.{allHeld}
+use Rattle.strips.specs.Steps.{allHeld}
 use Rattle.strips.proofs.Numbers.{length-grounds, kept-within, kept-numbers}
 use Rattle.strips.proofs.applicable.Statement.{statement}
 use Rattle.strips.proofs.applicable.Tie as tie
 
--- what is given, from the facts that the preconditions ask for
+-- the start of the function, reached from the ground preconditions
 abbrev entry : tie.After-grounded → tie.Start
 entry c = c .before .before .before .before .before
 
 -- at most eight facts
 few : (c : tie.Start) → length (map (ground (c .args .objects .now)) (atomsOf (c .args .arities .now) (c .args .schema .preconditions))) ≤ 8
 few c =
-    let size = length-grounds _ _ _ (c .pre .1) in
+    let size = length-grounds (c .pre .1) in
     let some = c .pre .1 .few in
     omega arith
 
@@ -34,7 +34,7 @@ part-all-in-start : tie.Need-part-all-in-start
 part-all-in-start c = search needs
 
 part-all-in-end : tie.Need-part-all-in-end
-part-all-in-end c = let needed = c .before .before in kept-within _ _ (needed .grounded .ensures) (few (entry needed))
+part-all-in-end c = let needed = c .before .before in kept-within _ (needed .grounded .ensures) (few (entry needed))
 
 all-in-requires : tie.Need-all-in-requires
 all-in-requires c κs = search needs
@@ -43,7 +43,7 @@ returns : tie.Need-returns
 unfolding allHeld schemaOf
 returns c =
     let needed = c .before .before .before .before in
-    c .all-in .ensures ∙ ap (all (λ n. member n (entry needed .args .numbers .now))) (kept-numbers _ _ (needed .grounded .ensures) (few (entry needed)))
+    c .all-in .ensures ∙ ap (all (λ n. member n (entry needed .args .numbers .now))) (kept-numbers _ (needed .grounded .ensures) (few (entry needed)))
 
 pub applicable-spec : {M : Type 1} → statement M
 applicable-spec =

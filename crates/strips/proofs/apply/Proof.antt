@@ -1,7 +1,8 @@
 -- The card's refusal is handed through; the action is applied to an accepted card's task.
 use borrow.Author.Needs.{needs}
 use Rattle.card.proofs.Deciding.{represented}
-use Rattle.strips.proofs.Calling.{applying-refused, applying}
+use Rattle.model.specs.Calls.{press}
+use Rattle.strips.proofs.Calling.{card-refused, card-accepted}
 use Rattle.strips.proofs.apply.Statement.{statement}
 use Rattle.strips.proofs.apply.Tie as tie
 
@@ -24,17 +25,19 @@ apply-task-requires c κs =
     represented _ _ (reading accepted .decode .ensures) (accepted .enum-told .given .1)
 
 returns : tie.Need-returns
+unfolding press
 returns c =
     let refused = c .before in
-    applying-refused _ _ (refused .before .before .before .decode .ensures) _ (refused .verdict .given .1) _ _ _
+    card-refused (refused .before .before .before .decode .ensures) _ _ (refused .verdict .given .1)
 
 same-length : tie.Need-same-length
 same-length c = search needs
 
 returns-2 : tie.Need-returns-2
+unfolding press
 returns-2 c =
     let accepted = c .before .before .before .before in
-    applying _ _ (reading accepted .decode .ensures) (accepted .enum-told .given .1) _ _ _ _ _ (c .before .before .apply-task .ensures)
+    card-accepted (reading accepted .decode .ensures) _ _ (accepted .enum-told .given .1) (c .before .before .apply-task .ensures)
 
 pub apply-spec : {M : Type 1} → statement M
 apply-spec =

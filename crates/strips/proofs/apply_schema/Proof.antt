@@ -8,13 +8,13 @@ use Rattle.laws.specs.Lists.{all}
 use Rattle.model.specs.Answer.{Answer}
 use Rattle.model.specs.Strips.{State}
 use Rattle.card.specs.Represents.{schemaOf}
-use Rattle.strips.specs.Answers.{Does}
-use Rattle.strips.specs.Stages.{leaving}
-use Rattle.strips.proofs.Refusing.{wrong-number, unknown-object, object-repeated, objects-bound}
+use Rattle.strips.specs.Answers.{Matches}
+use Rattle.strips.specs.Steps.{storing}
+use Rattle.strips.proofs.Refusing.{wrong-number, unknown-object, object-repeated, objects-right}
 use Rattle.strips.proofs.apply_schema.Statement.{statement}
 use Rattle.strips.proofs.apply_schema.Tie as tie
 
--- what is given, from the test that every object is known; and this, from the test that the objects are different
+-- earlier points of the function, each reached from the next: start, objects known, objects different
 abbrev entry : tie.After-all-known → tie.Start
 entry c = c .before .before .before .before .before
 
@@ -67,8 +67,8 @@ returns-4 c =
     let passed = bound .before .before in
     let different = passed .before in
     let buffer = entry (testing different) .args .state .now in
-    subst (λ (a : Answer State). Does (leaving buffer a) (bound .apply-bound .last .1 .1 .0) (bound .apply-bound .result))
-    (sym (objects-bound buffer _ _ _ _ (testing different .before .if1 .left) (objects-known (different .before))
+    subst (λ (a : Answer State). Matches (storing buffer a) (bound .apply-bound .last .1 .1 .0) (bound .apply-bound .result))
+    (sym (objects-right buffer _ _ _ _ (testing different .before .if1 .left) (objects-known (different .before))
     (sym (different .all-different .ensures) ∙ not-false _ (passed .if3 .left))))
     (bound .apply-bound .ensures)
 

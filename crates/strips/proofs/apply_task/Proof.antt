@@ -11,7 +11,7 @@ use Rattle.strips.proofs.Pressing.{part-right, refused-malformed, refus
 use Rattle.strips.proofs.apply_task.Statement.{statement}
 use Rattle.strips.proofs.apply_task.Tie as tie
 
--- what is given, from the arities lent; these, from the test of the state; and this, from the schema looked for
+-- earlier points of the function, each reached from the next: start, arities lent, state tested, schema looked up
 abbrev entry : tie.After-arities2 → tie.Start
 entry c = c .before .before .before .before .before .before
 
@@ -47,7 +47,7 @@ same-length c = search needs
 returns : tie.Need-returns
 returns c =
     let tested = c .before in
-    refused-malformed _ (entry (lending tested) .pre) _ _ _ _ (tested .well-formed .ensures) (not-true _ (c .if1 .taken))
+    refused-malformed _ (entry (lending tested) .pre) _ _ _ (tested .well-formed .ensures) (not-true _ (c .if1 .taken))
 
 same-length-2 : tie.Need-same-length-2
 same-length-2 c = search needs
@@ -55,7 +55,7 @@ same-length-2 c = search needs
 returns-2 : tie.Need-returns-2
 returns-2 c =
     let tested = c .before .before .before in
-    refused-unknown _ (entry (lending tested) .pre) _ _ _ _ (tested .well-formed .ensures) (not-false _ (c .before .before .if1 .left)) (c .if2 .taken)
+    refused-unknown _ (entry (lending tested) .pre) _ _ _ (tested .well-formed .ensures) (not-false _ (c .before .before .if1 .left)) (c .if2 .taken)
 
 element-copy-out-chosen : tie.Need-element-copy-out-chosen
 element-copy-out-chosen c = schema-below _ (entry (lending (testing c)) .pre) _ (c .if2 .left)
@@ -78,8 +78,8 @@ apply-schema-requires c κs =
     let found = c .before .before .before .before in
     let tested = testing found in
     let start = entry (lending tested) in (
-      state-kept _ (start .pre) _ _ (action start) _ (tested .well-formed .ensures) (passed found),
-      schema-kept _ (start .pre) _ _ (action start) _ (tested .well-formed .ensures) (passed found) _ (found .if2 .left),
+      state-kept _ (start .pre) _ _ (action start) (tested .well-formed .ensures) (passed found),
+      schema-kept _ (start .pre) _ _ (action start) (tested .well-formed .ensures) (passed found) _ (found .if2 .left),
     )
 
 same-length-3 : tie.Need-same-length-3
@@ -90,7 +90,7 @@ returns-3 c =
     let applied = c .before .before in
     let found = applied .before .before .before .before .before in
     let tested = testing found in
-    pressed _ (entry (lending tested) .pre) _ _ _ _ (tested .well-formed .ensures) (passed found) _ (found .if2 .left) _ _ (applied .apply-schema .ensures)
+    pressed _ (entry (lending tested) .pre) _ _ _ (tested .well-formed .ensures) (passed found) _ (found .if2 .left) (applied .apply-schema .ensures)
 
 pub apply-task-spec : {M : Type 1} → statement M
 apply-task-spec =

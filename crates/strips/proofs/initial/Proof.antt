@@ -1,7 +1,8 @@
 -- The card's refusal is handed through; an accepted card's task is opened.
 use borrow.Author.Needs.{needs}
 use Rattle.card.proofs.Deciding.{represented}
-use Rattle.strips.proofs.Calling.{opening-refused, opening}
+use Rattle.model.specs.Calls.{initial}
+use Rattle.strips.proofs.Calling.{card-refused, card-accepted}
 use Rattle.strips.proofs.initial.Statement.{statement}
 use Rattle.strips.proofs.initial.Tie as tie
 
@@ -24,17 +25,19 @@ open-task-requires c κs =
     represented _ _ (reading accepted .decode .ensures) (accepted .enum-told .given .1)
 
 returns : tie.Need-returns
+unfolding initial
 returns c =
     let refused = c .before in
-    opening-refused _ _ (refused .before .before .before .decode .ensures) _ (refused .verdict .given .1) _
+    card-refused (refused .before .before .before .decode .ensures) _ _ (refused .verdict .given .1)
 
 same-length : tie.Need-same-length
 same-length c = search needs
 
 returns-2 : tie.Need-returns-2
+unfolding initial
 returns-2 c =
     let accepted = c .before .before .before .before in
-    opening _ _ (reading accepted .decode .ensures) (accepted .enum-told .given .1) _ _ _ (c .before .before .open-task .ensures)
+    card-accepted (reading accepted .decode .ensures) _ _ (accepted .enum-told .given .1) (c .before .before .open-task .ensures)
 
 pub initial-spec : {M : Type 1} → statement M
 initial-spec =

@@ -10,11 +10,11 @@ use Rattle.model.specs.Strips.{takenOut, putIn}
 use Rattle.card.specs.Represents.{schemaOf}
 use Rattle.sets.specs.Numbers.{withoutAll, Becomes}
 use Rattle.state.specs.Rows.{factNumber}
-use Rattle.strips.proofs.Numbers.{few-out, few-in, kept-within, kept-numbers, between-length, between-holds, between-few, next-becomes}
+use Rattle.strips.proofs.Numbers.{few-out, few-in, kept-within, kept-numbers, between-length, between-set, between-few, next-becomes}
 use Rattle.strips.proofs.next_numbers.Statement.{statement}
 use Rattle.strips.proofs.next_numbers.Tie as tie
 
--- what is given, from what the action takes out; this, from the numbers that are left; and these, from what it puts in
+-- earlier points of the function, each reached from the next: start, facts taken out, numbers left, facts put in
 abbrev entry : tie.After-taken-out → tie.Start
 entry c = c .before .before .before .before
 
@@ -36,12 +36,12 @@ gone : (c : tie.After-remove-all)
     → Becomes (withoutAll (map factNumber (out (entry (taking c)))) (take (entry (taking c) .args .count) (entry (taking c) .args .numbers .now)))
     (entry (taking c) .args .numbers .now) (c .remove-all .last .0) (c .remove-all .result)
 gone c =
-    rw (kept-numbers _ (out (entry (taking c))) (taking c .taken-out .ensures) (few-out _ _ _ (entry (taking c) .pre .deletes))) at (c .remove-all .ensures)
+    rw (kept-numbers (out (entry (taking c))) (taking c .taken-out .ensures) (few-out _ (entry (taking c) .pre .deletes))) at (c .remove-all .ensures)
 
 -- what comes
 come : (c : tie.After-put-in)
     → take (c .put-in .result .count - 0) (c .put-in .result .numbers) ≡ map factNumber (new (entry (taking (removing c))))
-come c = kept-numbers _ _ (c .put-in .ensures) (few-in _ _ _ (entry (taking (removing c)) .pre .adds))
+come c = kept-numbers _ (c .put-in .ensures) (few-in _ (entry (taking (removing c)) .pre .adds))
 
 taken-out-requires : tie.Need-taken-out-requires
 taken-out-requires c κs = search needs
@@ -55,10 +55,10 @@ part-remove-all-start c = search needs
 part-remove-all-end : tie.Need-part-remove-all-end
 part-remove-all-end c =
     let taken = c .before .before .before in
-    kept-within _ (out (entry taken)) (taken .taken-out .ensures) (few-out _ _ _ (entry taken .pre .deletes))
+    kept-within (out (entry taken)) (taken .taken-out .ensures) (few-out _ (entry taken .pre .deletes))
 
 remove-all-requires : tie.Need-remove-all-requires
-remove-all-requires c κs = entry (c .before .before .before .before) .pre .holds
+remove-all-requires c κs = entry (c .before .before .before .before) .pre .set
 
 put-in-requires : tie.Need-put-in-requires
 put-in-requires c κs = search needs
@@ -72,20 +72,20 @@ part-insert-all-start c = search needs
 part-insert-all-end : tie.Need-part-insert-all-end
 part-insert-all-end c =
     let put = c .before .before .before in
-    kept-within _ (new (entry (taking (removing put)))) (put .put-in .ensures) (few-in _ _ _ (entry (taking (removing put)) .pre .adds))
+    kept-within (new (entry (taking (removing put)))) (put .put-in .ensures) (few-in _ (entry (taking (removing put)) .pre .adds))
 
 insert-all-requires : tie.Need-insert-all-requires
 insert-all-requires c κs =
     let put = c .before .before .before .before in
     let start = entry (taking (removing put)) in
     let left = gone (removing put) in
-    let few = few-in _ _ (start .args .schema) (start .pre .adds) in
-    let fewer = between-few _ _ _ _ _ (start .pre) _ _ left in
-    let same = between-length _ _ _ _ _ (start .pre) _ _ left in
+    let few = few-in (start .args .schema) (start .pre .adds) in
+    let fewer = between-few (start .pre) left in
+    let same = between-length (start .pre) left in
     let size = ap length (come put) in
     let count = length-map (new start) factNumber in
     let room = start .pre .room in
-    (omega arith, between-holds _ _ _ _ _ (start .pre) _ _ left)
+    (omega arith, between-set (start .pre) left)
 
 same-length : tie.Need-same-length
 same-length c = search needs
@@ -94,7 +94,7 @@ returns : tie.Need-returns
 returns c =
     let inserted = c .before .before in
     let put = inserted .before .before .before .before .before in
-    next-becomes _ _ _ _ _ (entry (taking (removing put)) .pre) _ _ (gone (removing put)) _ _
+    next-becomes (entry (taking (removing put)) .pre) (gone (removing put))
     (rw (come put) at (inserted .insert-all .ensures))
 
 pub next-numbers-spec : {M : Type 1} → statement M

@@ -9,7 +9,7 @@ use Rattle.strips.proofs.Pressing.{facts-right, numbers-few, opened}
 use Rattle.strips.proofs.open_task.Statement.{statement}
 use Rattle.strips.proofs.open_task.Tie as tie
 
--- what is given, from the arities lent; these, from the facts' numbers; and those, from the numbers lent to be stored
+-- earlier points of the function, each reached from the next: start, arities lent, facts numbered, numbers lent
 abbrev entry : tie.After-arities2 → tie.Start
 entry c = c .before .before .before .before .before .before
 
@@ -68,7 +68,7 @@ returns-2 : tie.Need-returns-2
 returns-2 c =
     let stored = c .before .before in
     let numbered = numbering (stored .before) in
-    opened _ (entry (lending numbered) .pre) _ _ _ (numbered .fact-numbers .ensures) _ (long (lending numbered)) (stored .store .ensures)
+    opened _ (entry (lending numbered) .pre) _ _ _ (numbered .fact-numbers .ensures) (long (lending numbered)) (stored .store .ensures)
 
 pub open-task-spec : {M : Type 1} → statement M
 open-task-spec =

@@ -10,7 +10,8 @@ use reference::random::Random;
 use reference::strips::{FACT_LEN, STATE_LEN};
 use reference::vectors::{extremes, histories, listings, K1};
 use std::hint::black_box;
-use std::process::Command;
+use std::path::PathBuf;
+use std::process::{Command, Stdio};
 use std::time::{Duration, Instant};
 
 fn main() {
@@ -23,12 +24,21 @@ fn main() {
     }
 }
 
-const SIDES: [&dyn Calls; 2] = [&Reference, &Proved];
+/// An implementation: its calls, and its program that prints the name and the listing of each file it is given.
+struct Side {
+    calls: &'static dyn Calls,
+    program: &'static str,
+}
+
+const SIDES: [Side; 2] = [
+    Side { calls: &Reference, program: concat!(env!("CARGO_MANIFEST_DIR"), "/../../target/reference/release/listing") },
+    Side { calls: &Proved, program: concat!(env!("CARGO_MANIFEST_DIR"), "/../../target/bin/examples") },
+];
 
 fn work(row: &str, side: &str, times: &str) {
     let [row, side, times] = [row, side, times].map(|word| word.parse::<usize>().expect("a number"));
     let mut work = (rows()[row].prepare)().expect("a row with work");
-    (0..times).for_each(|_| work(SIDES[side]));
+    (0..times).for_each(|_| work(&SIDES[side]));
 }
 
 // The rows.
@@ -38,10 +48,11 @@ enum Kind {
     Decode,
     Press,
     Listing,
+    Program,
 }
 
 /// The work of a row, done once on one side.
-type Work = Box<dyn FnMut(&dyn Calls)>;
+type Work = Box<dyn FnMut(&Side)>;
 
 struct Row {
     group: String,
@@ -72,7 +83,23 @@ fn rows() -> Vec<Row> {
         rows.card("", extreme.card);
     }
 
+    rows.group("64 opening conditions, 174 moves");
+    rows.row("listing", Kind::Listing, || Some(listing(vec![conditions(8, 8, 174)])));
+
+    rows.group("the program, in one process");
+    rows.row("K1, 500 times", Kind::Program, || Some(printing(vec![K1.to_vec(); 500])));
+    rows.row("800 cards", Kind::Program, move || Some(printing(cards())));
+    rows.row("extreme cards but slow", Kind::Program, || {
+        Some(printing(extremes().into_iter().filter(|extreme| extreme.name != "slow").map(|extreme| extreme.card).collect()))
+    });
+
     rows.counts = false;
+    rows.group("growth with conditions, all of them opening ones (128 moves)");
+    for (first, second) in [(4, 4), (4, 8), (8, 8)] {
+        rows.row(&format!("{} conditions, listing", first * second), Kind::Listing, move || {
+            Some(listing(vec![conditions(first, second, 128)]))
+        });
+    }
     rows.group("growth with schemas (20 predicates, 3 objects, 20 facts)");
     for schemas in [1, 2, 4, 8, 16, 32] {
         rows.card(&format!("{schemas} schemas, "), family(schemas, 3, 20));
@@ -133,10 +160,56 @@ fn family(schemas: usize, objects: usize, facts: usize) -> Vec<u8> {
     examples::card(&text).expect("the family is within a card's bounds")
 }
 
+/// A space of `first` times `second` conditions, each of them the opening condition of one object: every object has one of the
+/// properties `a`, one of the properties `b`, and beside them, in front, all of the properties `c`, so that rows agree for long. There
+/// are so many distinct moves: those that exchange one `a`, those that exchange one `b`, and then those that exchange both at once.
+fn conditions(first: usize, second: usize, moves: usize) -> Vec<u8> {
+    let exchanges = |letter: char, count: usize| -> Vec<[String; 2]> {
+        let pairs = (0..count).flat_map(|from| (0..count).filter(move |&to| to != from).map(move |to| (from, to)));
+        pairs.map(|(from, to)| [format!("{letter}{from}(x)"), format!("{letter}{to}(x)")]).collect()
+    };
+    let (of_a, of_b) = (exchanges('a', first), exchanges('b', second));
+    let both = of_a.iter().flat_map(|a| of_b.iter().map(move |b| [0, 1].map(|side| format!("{} {}", a[side], b[side]))));
+    let mut single: Vec<_> = of_a.iter().chain(&of_b).cloned().collect();
+    let wanted = moves - single.len();
+    let mut double: Vec<_> = both.step_by(of_a.len() * of_b.len() / wanted).take(wanted).collect();
+    assert_eq!(double.len(), wanted, "there are enough moves");
+
+    let mut text = String::from("predicates c0/3 c1/3 c2/3 c3/3");
+    (0..8).for_each(|number| text += &format!(" a{number}/1 b{number}/1"));
+    text += "\nobjects";
+    (0..first * second).for_each(|object| text += &format!(" o{object}"));
+    // A rule that no condition allows brings the properties `c` into the space.
+    text += "\nschema joined x\npre c0(x,x,x) c1(x,x,x) c2(x,x,x) c3(x,x,x) a0(x) a1(x)";
+    text += "\ndel c0(x,x,x) c1(x,x,x) c2(x,x,x) c3(x,x,x) a0(x) a1(x)\nadd b0(x)";
+    // A schema has at most six roles and eight atoms a list: four moves of one atom and two of two, or four of two.
+    for schema in 0.. {
+        let singles = single.len().min(4);
+        let doubles = double.len().min((8 - singles) / 2);
+        if singles + doubles == 0 {
+            break;
+        }
+        let roles = single.drain(..singles).collect::<Vec<_>>().into_iter().chain(double.drain(..doubles).collect::<Vec<_>>());
+        let (mut header, mut taken, mut given) = (format!("\nschema s{schema}"), String::new(), String::new());
+        for (role, [start, finish]) in roles.enumerate() {
+            header += &format!(" x{role}");
+            taken += &format!(" {}", start.replace("(x)", &format!("(x{role})")));
+            given += &format!(" {}", finish.replace("(x)", &format!("(x{role})")));
+        }
+        text += &format!("{header}\npre{taken}\ndel{taken}\nadd{given}");
+    }
+    text += "\nfacts";
+    for object in 0..first * second {
+        (0..4).for_each(|number| text += &format!(" c{number}(o{object},o{object},o{object})"));
+        text += &format!(" a{}(o{object}) b{}(o{object})", object / second, object % second);
+    }
+    examples::card(&text).expect("the space is within a card's bounds")
+}
+
 // The work.
 
 fn decode(cards: Vec<Vec<u8>>) -> Work {
-    Box::new(move |calls| {
+    Box::new(move |Side { calls, .. }| {
         for card in &cards {
             let _ = black_box(calls.check(black_box(card)));
         }
@@ -146,7 +219,7 @@ fn decode(cards: Vec<Vec<u8>>) -> Work {
 /// All sections of each card, one call a section.
 fn listing(cards: Vec<Vec<u8>>) -> Work {
     let mut out = vec![0; reference::card::OUTPUT_LEN];
-    Box::new(move |calls| {
+    Box::new(move |Side { calls, .. }| {
         for card in &cards {
             let mut number = 0;
             while calls.section(black_box(card), number, &mut out).is_ok() {
@@ -156,12 +229,37 @@ fn listing(cards: Vec<Vec<u8>>) -> Work {
     })
 }
 
+/// The program run once on all of these cards, its output thrown away. Each card is a file of its own.
+fn printing(cards: Vec<Vec<u8>>) -> Work {
+    let room = std::env::temp_dir().join(format!("stakestalk-bench-{}-{}", std::process::id(), cards.len()));
+    std::fs::create_dir_all(&room).expect("a directory for cards");
+    let files: Vec<_> = (0..cards.len()).map(|number| room.join(number.to_string())).collect();
+    for (file, card) in files.iter().zip(&cards) {
+        std::fs::write(file, card).expect("a card is written");
+    }
+    let cleared = Cleared(room);
+    Box::new(move |Side { program, .. }| {
+        let _room = &cleared;
+        let ended = Command::new(program).args(&files).stdout(Stdio::null()).status().expect("the program starts");
+        assert!(ended.success(), "the program ends well");
+    })
+}
+
+/// A directory that is removed in the end.
+struct Cleared(PathBuf);
+
+impl Drop for Cleared {
+    fn drop(&mut self) {
+        let _ = std::fs::remove_dir_all(&self.0);
+    }
+}
+
 /// Four presses of K1 that bring the opening state back.
 fn ring() -> Work {
     let presses: [(usize, &[u8]); 4] = [(0, &[0]), (1, &[0, 2, 3]), (0, &[0]), (1, &[0, 3, 2])];
     let mut state = vec![0; STATE_LEN];
     let mut count = Reference.initial(&K1, &mut state).expect("the card is accepted");
-    Box::new(move |calls| {
+    Box::new(move |Side { calls, .. }| {
         for (schema, objects) in presses {
             count = calls.press(black_box(&K1), &mut state, count, schema, objects).expect("the press is accepted");
         }
@@ -172,7 +270,7 @@ fn ring() -> Work {
 fn stored_histories() -> Work {
     let histories = histories();
     let mut state = vec![0; STATE_LEN];
-    Box::new(move |calls| {
+    Box::new(move |Side { calls, .. }| {
         for history in &histories {
             let mut count = calls.initial(&history.card, &mut state).expect("the card is accepted");
             for press in &history.presses {
@@ -194,7 +292,7 @@ fn allowed_press(card: &[u8]) -> Option<Work> {
         state.copy_from_slice(&opening);
         Reference.press(&card, &mut state, count, press.schema, &press.objects).is_ok()
     })?;
-    Some(Box::new(move |calls| {
+    Some(Box::new(move |Side { calls, .. }| {
         state.copy_from_slice(&opening);
         let _ = black_box(calls.press(black_box(&card), &mut state, count, press.schema, &press.objects));
     }))
@@ -233,7 +331,7 @@ fn table(seconds: f64) {
             continue;
         };
         let seconds = times(&mut work, least);
-        let instructions = if counting { instructions(number, seconds) } else { None };
+        let instructions = if counting && row.kind != Kind::Program { instructions(number, seconds) } else { None };
         let counts = instructions.map_or(String::new(), |counts| shown(counts, in_thousands));
         println!("  {:<24}{}{counts}", row.name, shown(seconds, duration));
         costs.push((row, Cost { seconds, instructions }));
@@ -256,10 +354,11 @@ fn ratio(pair: [f64; 2]) -> f64 {
 /// The rows that a mean is taken over.
 type Choice = fn(&Row) -> bool;
 
-const MEANS: [(&str, Choice); 4] = [
+const MEANS: [(&str, Choice); 5] = [
     ("decode", |row| row.counts && row.kind == Kind::Decode),
     ("press", |row| row.counts && row.kind == Kind::Press),
     ("listing", |row| row.counts && row.kind == Kind::Listing),
+    ("program", |row| row.counts && row.kind == Kind::Program),
     ("listing of slow", |row| row.group == "slow" && row.kind == Kind::Listing),
 ];
 
@@ -290,12 +389,12 @@ fn geometric_mean(ratios: &[f64]) -> f64 {
 
 /// The medians. The two are timed in turn, so that whatever else the machine does meets both.
 fn times(work: &mut Work, least: Duration) -> [f64; 2] {
-    let batches = SIDES.map(|calls| (0.001 / time(1, &mut || work(calls)).max(1e-9)).clamp(1.0, 1e6) as u32);
+    let batches = SIDES.map(|side| (0.001 / time(1, &mut || work(&side)).max(1e-9)).clamp(1.0, 1e6) as u32);
     let mut times = [Vec::new(), Vec::new()];
     let started = Instant::now();
     while times[0].len() < 5 || started.elapsed() < least * 2 {
         for side in 0..2 {
-            times[side].push(time(batches[side], &mut || work(SIDES[side])));
+            times[side].push(time(batches[side], &mut || work(&SIDES[side])));
         }
     }
     times.map(median)

@@ -1,4 +1,5 @@
 //! Reads a description in the format of crates/examples/data from standard input and writes its card.
+//! What no card can carry is said on standard error, with the number of the line; then the status is 1 and nothing is written.
 
 use reference::examples::card;
 use std::io::{read_to_string, stdin, stdout, Write};

@@ -35,7 +35,9 @@ print-with-requires c κs =
     )
 
 returns : tie.Need-returns
-returns c = c .before .before .before .before .before .before .print-with .ensures .1 .buffer
+returns c =
+    let printed = c .before .before .before .before .before .before .print-with .ensures .1 in
+    (printed .0, printed .1 .buffer)
 
 pub print-listing-spec : {M : Type 1} → statement M
 print-listing-spec =

@@ -33,13 +33,13 @@ same-length-4 : tie.Need-same-length-4
 same-length-4 c = preparing (c .before .before .before .before .before .before) .prepare .kept .1 .1 .1 .1 .0
 
 same-length-5 : tie.Need-same-length-5
-same-length-5 c = c .before .before .before .before .before .before .print-sections .ensures .origins-sized
+same-length-5 c = c .before .before .before .before .before .before .print-sections .ensures .1 .origins-sized
 
 same-length-6 : tie.Need-same-length-6
-same-length-6 c = c .before .before .before .before .before .before .print-sections .ensures .targets-sized
+same-length-6 c = c .before .before .before .before .before .before .print-sections .ensures .1 .targets-sized
 
 same-length-7 : tie.Need-same-length-7
-same-length-7 c = c .before .before .before .before .before .before .print-sections .ensures .out-sized
+same-length-7 c = c .before .before .before .before .before .before .print-sections .ensures .1 .out-sized
 
 returns : tie.Need-returns
 returns c =

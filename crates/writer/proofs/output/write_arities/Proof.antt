@@ -6,26 +6,26 @@ use lib.ListN.{length, take, getD}
 use mathlib.Core.List.{List, [], _∷_, _++_}
 use lib.Seq.{take-suc, take-all}
 use native.Mathlib.Numerals.{add-one}
-use Rattle.writer.specs.Bytes.{Writes}
+use Rattle.writer.specs.Bytes.{WritesAt}
 use Rattle.writer.proofs.WriteLaws.{writes-none, writes-then}
 use Rattle.writer.proofs.output.write_arities.Statement.{statement}
 use Rattle.writer.proofs.output.write_arities.Tie as tie
 
 module _ (arities x : List ℕ) (at i : ℕ) (fits : at + length arities ≤ length x) (y : List ℕ) (m : ℕ)
-    (copied : Writes i at (take i arities) x y m) where
-  copied-more : i < length arities → (z : List ℕ) (n : ℕ) → Writes 1 m (getD arities i 0 ∷ []) y z n → Writes (i + 1) at (take (i + 1) arities) x z n
+    (copied : WritesAt i at (take i arities) x y m) where
+  copied-more : i < length arities → (z : List ℕ) (n : ℕ) → WritesAt 1 m (getD arities i 0 ∷ []) y z n → WritesAt (i + 1) at (take (i + 1) arities) x z n
   copied-more h z n w =
       let one-more : take (i + 1) arities ≡ take i arities ++ (getD arities i 0 ∷ []) = rw add-one (take-suc arities i 0 h) in
       rw one-more (writes-then i 1 at _ _ x y z m n copied w (omega arith))
 
-  copied-all : length arities ≤ i → i ≤ length arities → Writes (length arities) at arities x y m
+  copied-all : length arities ≤ i → i ≤ length arities → WritesAt (length arities) at arities x y m
   copied-all h k =
       let there : i ≡ length arities = omega arith in
       rw (there, take-all (length arities) arities (omega arith)) at copied
 
 abbrev Inv-loop : tie.InvT-loop
 Inv-loop out₀ at arities next₀ i₀ out next i =
-    (i ≤ length arities) × (length out ≡ length out₀) × Writes i at (take i arities) out₀ out next
+    (i ≤ length arities) × (length out ≡ length out₀) × WritesAt i at (take i arities) out₀ out next
 
 abbrev μ-loop : tie.MeasureT-loop
 μ-loop out₀ at arities next₀ i₀ out next i = length arities - i

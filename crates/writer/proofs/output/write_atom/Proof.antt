@@ -8,7 +8,7 @@ use lib.Seq.{take-nil}
 use Rattle.model.specs.Writer.{atomBytes}
 use Rattle.card.specs.Represents.{atomOf}
 use Rattle.card.specs.declared.Atom.{Atom}
-use Rattle.writer.specs.Bytes.{atomRoom, Writes}
+use Rattle.writer.specs.Bytes.{atomRoom, WritesAt}
 use Rattle.writer.proofs.WriteLaws.{stores-1, stores-2, stores-3, stores-4}
 use borrow.Author.Needs.{needs}
 use Rattle.writer.proofs.output.write_atom.Statement.{statement}
@@ -16,21 +16,21 @@ use Rattle.writer.proofs.output.write_atom.Tie as tie
 
 -- as many arguments as the arity n says
 module _ (arities : List ℕ) (a : Atom) (n at : ℕ) (x : List ℕ) (fits : at + atomRoom ≤ length x) (arity : n ≡ getD arities (a .predicate) 0) where
-  written-none : n ≡ 0 → Writes atomRoom at (atomBytes (atomOf arities a)) x (set x at (a .predicate)) (at + 1)
+  written-none : n ≡ 0 → WritesAt atomRoom at (atomBytes (atomOf arities a)) x (set x at (a .predicate)) (at + 1)
   unfolding atomBytes atomOf
   written-none z = rw (← arity, z) (stores-1 atomRoom at x fits _ 0 0 0 (omega arith))
 
-  written-one : n ≡ 1 → Writes atomRoom at (atomBytes (atomOf arities a)) x (set (set x at (a .predicate)) (at + 1) (a .first)) (at + 2)
+  written-one : n ≡ 1 → WritesAt atomRoom at (atomBytes (atomOf arities a)) x (set (set x at (a .predicate)) (at + 1) (a .first)) (at + 2)
   unfolding atomBytes atomOf
   written-one z = rw (← arity, z) (stores-2 atomRoom at x fits _ _ 0 0 (omega arith))
 
   written-two : n ≡ 2
-      → Writes atomRoom at (atomBytes (atomOf arities a)) x (set (set (set x at (a .predicate)) (at + 1) (a .first)) (at + 2) (a .second)) (at + 3)
+      → WritesAt atomRoom at (atomBytes (atomOf arities a)) x (set (set (set x at (a .predicate)) (at + 1) (a .first)) (at + 2) (a .second)) (at + 3)
   unfolding atomBytes atomOf
   written-two z = rw (← arity, z) (stores-3 atomRoom at x fits _ _ _ 0 (omega arith))
 
   written-three : (n ≡ 0 → ⊥) → (n ≡ 1 → ⊥) → (n ≡ 2 → ⊥)
-      → Writes atomRoom at (atomBytes (atomOf arities a)) x
+      → WritesAt atomRoom at (atomBytes (atomOf arities a)) x
       (set (set (set (set x at (a .predicate)) (at + 1) (a .first)) (at + 2) (a .second)) (at + 3) (a .third)) (at + 4)
   unfolding atomBytes atomOf
   written-three d e f = rw (← arity, all-three n d e f) (stores-4 atomRoom at x fits _ _ _ _ (omega arith))

@@ -7,7 +7,7 @@ use lib.ListN.{length, take}
 use Rattle.model.specs.Writer.{atomBytes}
 use Rattle.card.specs.Represents.{blankAtom}
 use Rattle.writer_checks.specs.Tables.{atomTable}
-use Rattle.writer.specs.Bytes.{atomRoom, Writes}
+use Rattle.writer.specs.Bytes.{atomRoom, WritesAt}
 use Rattle.writer.proofs.WriteLaws.{writes-none, item-written, items-written}
 use Rattle.writer.proofs.output.write_atoms.Statement.{statement}
 use Rattle.writer.proofs.output.write_atoms.Tie as tie
@@ -15,7 +15,7 @@ use Rattle.writer.proofs.output.write_atoms.Tie as tie
 abbrev Inv-loop : tie.InvT-loop
 Inv-loop out₀ at arities list count next₀ i₀ out next i =
     (i ≤ list .count) × (length out ≡ length out₀)
-    × Writes (atomRoom * i) at (flatMap atomBytes (take i (atomTable arities list))) out₀ out next
+    × WritesAt (atomRoom * i) at (flatMap atomBytes (take i (atomTable arities list))) out₀ out next
 
 abbrev μ-loop : tie.MeasureT-loop
 μ-loop out₀ at arities list count next₀ i₀ out next i = count - i

@@ -8,7 +8,7 @@ use Rattle.model.specs.Writer.{schemaBytes}
 use Rattle.card.specs.Represents.{blankSchema}
 use Rattle.card.specs.declared.SchemaList.{SchemaList}
 use Rattle.writer_checks.specs.Tables.{entries, schemaTable}
-use Rattle.writer.specs.Bytes.{schemaRoom, Writes}
+use Rattle.writer.specs.Bytes.{schemaRoom, WritesAt}
 use Rattle.writer_checks.proofs.Entries.{default-alike}
 use Rattle.writer_checks.proofs.SchemaLaws.{zeros, zeros-blank}
 use Rattle.writer.proofs.CardBytes.{schema-fits}
@@ -19,11 +19,11 @@ use Rattle.writer.proofs.output.write_schemas.Tie as tie
 -- the schemas before place i are written
 abbrev Written : List ℕ → SchemaList → ℕ → List ℕ → ℕ → List ℕ → ℕ → Type 0
 Written arities list at x i y m =
-    Writes (schemaRoom * i) at (flatMap schemaBytes (take i (map (schemaTable arities) (entries (list .count) blankSchema (list .schemas))))) x y m
+    WritesAt (schemaRoom * i) at (flatMap schemaBytes (take i (map (schemaTable arities) (entries (list .count) blankSchema (list .schemas))))) x y m
 
 schema-written : (arities : List ℕ) (list : SchemaList) (at i : ℕ) (x y z : List ℕ) (m n : ℕ) → i < list .count
     → at + schemaRoom * list .count ≤ length x → Written arities list at x i y m
-    → Writes schemaRoom m (schemaBytes (schemaTable arities (getD (list .schemas) i zeros))) y z n → Written arities list at x (i + 1) z n
+    → WritesAt schemaRoom m (schemaBytes (schemaTable arities (getD (list .schemas) i zeros))) y z n → Written arities list at x (i + 1) z n
 schema-written arities list at i x y z m n h fits v w =
     item-written schemaBytes (schemaTable arities) (list .count) blankSchema (list .schemas) schemaRoom at x i y z m n h fits v
     (rw (default-alike (schemaTable arities) zeros blankSchema (zeros-blank arities) (list .schemas) i) at w)

@@ -11,30 +11,33 @@ use Rattle.model.proofs.CheckParts.{between-below, between-above, between-intro
 use Rattle.writer_checks.proofs.Loops.{all-failed, all-next}
 use borrow.Author.Needs.{needs}
 use Rattle.laws.specs.Lists.{all}
-use Rattle.model.specs.Card.{between}
+use Rattle.model.specs.Card.{inRange}
 use Rattle.writer_checks.proofs.checking.arities_within.Statement.{statement}
 use Rattle.writer_checks.proofs.checking.arities_within.Tie as tie
 
 -- whether all are within is whether all that are left are
 abbrev Left : List ℕ → ℕ → Type 0
-Left arities i = all (between 1 3) (drop i arities) ≡ all (between 1 3) arities
+Left arities i = inRange (drop i arities) ≡ inRange arities
 
 module _ (arities : List ℕ) (i : ℕ) (left : Left arities i) where
   module _ (at : i < length arities) where
-    taken-apart : all (between 1 3) (getD arities i 0 ∷ drop (i + 1) arities) ≡ all (between 1 3) arities
+    taken-apart : inRange (getD arities i 0 ∷ drop (i + 1) arities) ≡ inRange arities
     taken-apart = rw add-one (rw (drop-cons arities i 0 at) at left)
 
-    low : getD arities i 0 < 1 → false ≡ all (between 1 3) arities
+    low : getD arities i 0 < 1 → false ≡ inRange arities
+    unfolding inRange
     low h = all-failed _ _ _ _ taken-apart (between-below 1 3 _ h)
 
-    high : 3 < getD arities i 0 → false ≡ all (between 1 3) arities
+    high : 3 < getD arities i 0 → false ≡ inRange arities
+    unfolding inRange
     high h = all-failed _ _ _ _ taken-apart (between-above 1 3 _ h)
 
     within : 1 ≤ getD arities i 0 → getD arities i 0 ≤ 3 → Left arities (i + 1)
+    unfolding inRange
     within h k = all-next _ _ _ _ taken-apart (between-intro 1 3 _ h k)
 
-  ended : length arities ≤ i → true ≡ all (between 1 3) arities
-  unfolding all
+  ended : length arities ≤ i → true ≡ inRange arities
+  unfolding inRange all
   ended h = rw (drop-of-length-le arities {i = i} h) at left
 
 abbrev Inv-loop : tie.InvT-loop

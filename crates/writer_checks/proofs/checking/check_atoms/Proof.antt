@@ -6,23 +6,24 @@ use mathlib.Core.Option.{none}
 use lib.ListN.{drop}
 use borrow.Author.Needs.{needs}
 use Rattle.model.specs.Writer.{each, checkSchemaAtom}
-use Rattle.card.specs.Represents.{atomOf, blankAtom}
+use Rattle.card.specs.Fields.{fieldTest, fieldRefusal}
+use Rattle.card.specs.Represents.{atomOf, blankAtom, refusalNumber}
 use Rattle.writer_checks.specs.Tables.{atomTable}
-use Rattle.writer_checks.specs.Checking.{previous, placeTest, placeNumber}
+use Rattle.writer_checks.specs.Checking.{previous}
 use Rattle.writer_checks.proofs.Loops.{item-refused, item-passed, items-passed}
 use Rattle.writer_checks.proofs.checking.check_atoms.Statement.{statement}
 use Rattle.writer_checks.proofs.checking.check_atoms.Tie as tie
 
 abbrev Inv-loop : tie.InvT-loop
-Inv-loop arities parameters place preconditions list count before₀ i₀ before i =
+Inv-loop arities parameters field preconditions list count before₀ i₀ before i =
     (i ≤ list .count)
-    × (each (checkSchemaAtom arities parameters (placeTest place (atomTable arities preconditions)) (placeNumber place))
+    × (each (checkSchemaAtom arities parameters (fieldTest field (atomTable arities preconditions)) (refusalNumber (fieldRefusal field)))
     (previous i (atomOf arities before)) (drop i (atomTable arities list))
-    ≡ each (checkSchemaAtom arities parameters (placeTest place (atomTable arities preconditions)) (placeNumber place)) none
+    ≡ each (checkSchemaAtom arities parameters (fieldTest field (atomTable arities preconditions)) (refusalNumber (fieldRefusal field))) none
     (atomTable arities list))
 
 abbrev μ-loop : tie.MeasureT-loop
-μ-loop arities parameters place preconditions list count before₀ i₀ before i = count - i
+μ-loop arities parameters field preconditions list count before₀ i₀ before i = count - i
 
 element-copy-out-before : tie.Need-element-copy-out-before Inv-loop μ-loop
 element-copy-out-before c = omega arith

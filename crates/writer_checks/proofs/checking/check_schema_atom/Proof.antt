@@ -34,8 +34,8 @@ returns : tie.Need-returns
 unfolding refusalNumber
 returns c = rw split (search then-refused)
 
-check-place-requires : tie.Need-check-place-requires
-check-place-requires c κs = search needs
+check-field-requires : tie.Need-check-field-requires
+check-field-requires c κs = search needs
 
 returns-2 : tie.Need-returns-2
 unfolding refusalNumber
@@ -44,4 +44,4 @@ returns-2 c = rw split (search then-passed)
 pub check-schema-atom-spec : {M : Type 1} → statement M
 check-schema-atom-spec =
     tie.close
-    (tie.spec check-atom-requires enum-told enum-told-2 returns check-place-requires returns-2)
+    (tie.spec check-atom-requires enum-told enum-told-2 returns check-field-requires returns-2)

@@ -1,65 +1,41 @@
--- The definition of applying an action, stage by stage, with what each stage leaves in the buffer; and what each stage may rely on.
+-- What applying an action leaves in the buffer, the numbers of the next state, and what each function relies on.
 use Prim.Native.Nat.{ℕ, _+_, _≤_}
 use mathlib.Core.Path.{_≡_}
-use mathlib.Core.Bool.{Bool, true, _&&_}
+use mathlib.Core.Bool.{Bool, true}
 use mathlib.Core.List.{List, map}
-use lib.Dec.{leb, ltb, eqb}
+use lib.Dec.{leb, ltb}
 use lib.ListN.{length}
-use Rattle.laws.specs.Lists.{all, member, distinct}
+use Rattle.laws.specs.Lists.{all, member}
 use Rattle.model.specs.Answer.{Answer, accepted, _>>=_, _>>_, need}
 use Rattle.model.specs.Card as model
 use Rattle.model.specs.Writer.{checkSchema}
-use Rattle.model.specs.Strips.{State, Action, mostFacts, factsIn, wellFormed, ground, applicable, takenOut, putIn, successor, apply}
+use Rattle.model.specs.Strips.{State, mostFacts, wellFormed, ground, takenOut, putIn, checkObjects, progress}
 use Rattle.model.specs.Calls.{Call, finish, store}
 use Rattle.card.specs.Represents.{schemaOf}
 use Rattle.card.specs.declared.AtomList.{AtomList}
 use Rattle.card.specs.declared.Schema.{Schema}
-use Rattle.sets.specs.Numbers.{withoutAll, insertedAll, Holds}
-use Rattle.state.specs.Rows.{factNumber, stored, signature, Shape}
+use Rattle.sets.specs.Numbers.{withoutAll, insertedAll, SetKept}
+use Rattle.state.specs.Rows.{factNumber, stored, Shape}
 use Rattle.actions.specs.Grounds.{Bound}
 
--- the next state is stored; a refusal alters no byte
-unfoldable pub leaving : List ℕ → Answer State → Call
-leaving buffer answer = finish buffer (answer >>= (λ next. accepted (store next buffer)))
+-- 17 to 20: a schema with these objects on a state; the task has `known` objects
+abbrev pub applySchema : ℕ → model.Schema → List ℕ → State → Answer State
+applySchema known schema objects state = do
+  checkObjects known schema objects
+  progress schema objects state
 
--- 20: the numbers of a state are stored, unless they are too many
-unfoldable pub replaced : List ℕ → List ℕ → Call
-replaced numbers buffer =
+-- the state that is answered is stored; a refusal alters no byte
+unfoldable pub storing : List ℕ → Answer State → Call
+storing buffer answer = finish buffer (answer >>= (λ next. accepted (store next buffer)))
+
+-- 20, on a state's numbers: they are stored, unless they are too many
+unfoldable pub storingNumbers : List ℕ → List ℕ → Call
+storingNumbers buffer numbers =
     finish buffer (do
       need (leb (length numbers) mostFacts) 20
       accepted (record { answer = accepted (length numbers); buffer = stored numbers buffer }))
 
--- 19 and 20
-unfoldable pub changed : model.Schema → List ℕ → State → Answer State
-changed schema objects state = do
-  need (applicable schema objects state) 19
-  let next = successor schema objects state in do
-    need (leb (length next) mostFacts) 20
-    accepted next
-
--- 17 to 20: the objects first
-unfoldable pub bound : ℕ → model.Schema → List ℕ → State → Answer State
-bound known schema objects state = do
-  need (eqb (length objects) (schema .parameters) && all (λ o. ltb o known) objects) 17
-  need (distinct objects) 18
-  changed schema objects state
-
--- 15 to 20, for a task
-unfoldable pub pressTask : model.Task → List ℕ → ℕ → Action → Call
-pressTask t buffer count action =
-    finish buffer (do
-      need (wellFormed t buffer count) 15
-      next ← apply t action (factsIn (t .arities) count buffer)
-      accepted (store next buffer))
-
--- 15 of the opening call, for a task
-unfoldable pub initialTask : model.Task → List ℕ → Call
-initialTask t buffer =
-    finish buffer (do
-      need (leb 4096 (length buffer)) 15
-      accepted (store (t .facts) buffer))
-
--- every precondition's number is among those of the state
+-- the number of every precondition is among the state's numbers
 unfoldable pub allHeld : model.Schema → List ℕ → List ℕ → Bool
 allHeld schema objects numbers = all (λ n. member n numbers) (map factNumber (map (ground objects) (schema .preconditions)))
 
@@ -84,16 +60,16 @@ pub record SchemaKept (arities : List ℕ) (schema : Schema) : Type 0 where
 pub record NextReady (arities objects : List ℕ) (schema : Schema) (numbers : List ℕ) (count : ℕ) : Type 0 where
   pub deletes : Bound arities objects (schema .deletes)
   pub adds : Bound arities objects (schema .adds)
-  pub holds : Holds count numbers
+  pub set : SetKept count numbers
   pub room : count + 8 ≤ length numbers
 
 -- A well-formed state of a task of this shape.
 pub record StateKept (arities : List ℕ) (objects : ℕ) (buffer : List ℕ) (count : ℕ) : Type 0 where
   pub shape : Shape arities objects
-  pub well : wellFormed (signature arities objects) buffer count ≡ true
+  pub well : wellFormed arities objects buffer count ≡ true
 
 -- One known object for each parameter, and a well-formed state.
-pub record Ready (arities objects : List ℕ) (schema : Schema) (buffer : List ℕ) (count : ℕ) : Type 0 where
+pub record ActionReady (arities objects : List ℕ) (schema : Schema) (buffer : List ℕ) (count : ℕ) : Type 0 where
   pub known-objects : ℕ
   pub state : StateKept arities known-objects buffer count
   pub schema-kept : SchemaKept arities schema

@@ -1,10 +1,11 @@
--- `checking::check_place` meets its contract: a case for each list that the atom may stand on.
+-- `checking::check_field` meets its contract: a case for each list that the atom may stand on.
 use borrow.Author.Needs.{needs}
 use Rattle.model.specs.Answer.{need}
+use Rattle.card.specs.Fields.{fieldTest}
 use Rattle.card.specs.Represents.{refusalNumber}
-use Rattle.writer_checks.specs.Checking.{checkedSays, placeTest, placeNumber}
-use Rattle.writer_checks.proofs.checking.check_place.Statement.{statement}
-use Rattle.writer_checks.proofs.checking.check_place.Tie as tie
+use Rattle.writer_checks.specs.Checking.{checkedSays}
+use Rattle.writer_checks.proofs.checking.check_field.Statement.{statement}
+use Rattle.writer_checks.proofs.checking.check_field.Tie as tie
 
 enum-told : tie.Need-enum-told
 enum-told c = search needs
@@ -22,27 +23,27 @@ has-atom-requires-2 : tie.Need-has-atom-requires-2
 has-atom-requires-2 c κs = search needs
 
 returns : tie.Need-returns
-unfolding checkedSays need placeTest placeNumber refusalNumber
+unfolding checkedSays need fieldTest refusalNumber
 returns c = rw (c .enum-told .given .1)
 
 returns-2 : tie.Need-returns-2
-unfolding checkedSays need placeTest placeNumber refusalNumber
+unfolding checkedSays need fieldTest refusalNumber
 returns-2 c = rw (c .before .before .enum-told2 .given .1, ← c .before .has-atom .ensures, c .if1 .taken)
 
 returns-3 : tie.Need-returns-3
-unfolding checkedSays need placeTest placeNumber refusalNumber
+unfolding checkedSays need fieldTest refusalNumber
 returns-3 c = rw (c .before .before .enum-told2 .given .1, ← c .before .has-atom .ensures, c .if1 .left)
 
 returns-4 : tie.Need-returns-4
-unfolding checkedSays need placeTest placeNumber refusalNumber
+unfolding checkedSays need fieldTest refusalNumber
 returns-4 c = rw (c .before .before .enum-told3 .given .1, ← c .before .has-atom2 .ensures, c .if2 .taken)
 
 returns-5 : tie.Need-returns-5
-unfolding checkedSays need placeTest placeNumber refusalNumber
+unfolding checkedSays need fieldTest refusalNumber
 returns-5 c = rw (c .before .before .enum-told3 .given .1, ← c .before .has-atom2 .ensures, c .if2 .left)
 
-pub check-place-spec : {M : Type 1} → statement M
-check-place-spec =
+pub check-field-spec : {M : Type 1} → statement M
+check-field-spec =
     tie.close
     (tie.spec
     enum-told

@@ -1,0 +1,79 @@
+-- The facts that are left are the measure.
+use Prim.Native.Nat.{_≤_, _-_}
+use native.Mathlib.Omega.{arith}
+use borrow.Author.Needs.{needs}
+use Rattle.tables.proofs.facts_in.Statement.{statement}
+use Rattle.tables.proofs.facts_in.Tie as tie
+
+abbrev Inv-loop : tie.InvT-loop
+Inv-loop bytes high low facts₀ i₀ facts i = i ≤ 512
+
+abbrev μ-loop : tie.MeasureT-loop
+μ-loop bytes high low facts₀ i₀ facts i = 512 - i
+
+number-at-requires : tie.Need-number-at-requires Inv-loop μ-loop
+number-at-requires c κs = tt
+
+number-at-requires-2 : tie.Need-number-at-requires-2 Inv-loop μ-loop
+number-at-requires-2 c κs = tt
+
+atom-at-requires : tie.Need-atom-at-requires Inv-loop μ-loop
+atom-at-requires c κs = omega arith
+
+loop-holds : tie.Need-loop-holds Inv-loop μ-loop
+loop-holds c = search needs
+
+mul-atom-at : tie.Need-mul-atom-at Inv-loop μ-loop
+mul-atom-at c = search needs
+
+add-atom-at : tie.Need-add-atom-at Inv-loop μ-loop
+add-atom-at c = search needs
+
+atom-at-requires-2 : tie.Need-atom-at-requires-2 Inv-loop μ-loop
+atom-at-requires-2 c κs = omega arith
+
+mul-facts : tie.Need-mul-facts Inv-loop μ-loop
+mul-facts c = search needs
+
+array-set-from-facts : tie.Need-array-set-from-facts Inv-loop μ-loop
+array-set-from-facts c = search needs
+
+add-i : tie.Need-add-i Inv-loop μ-loop
+add-i c = search needs
+
+loop-less : tie.Need-loop-less Inv-loop μ-loop
+loop-less c = search needs
+
+loop-again : tie.Need-loop-again Inv-loop μ-loop
+loop-again c = search needs
+
+mul-t14 : tie.Need-mul-t14 Inv-loop μ-loop
+mul-t14 c = search needs
+
+add-t15 : tie.Need-add-t15 Inv-loop μ-loop
+add-t15 c = search needs
+
+returns : tie.Need-returns Inv-loop μ-loop
+returns c = search needs
+
+pub facts-in-spec : {M : Type 1} → statement M
+facts-in-spec =
+    tie.close
+    (tie.spec
+    Inv-loop
+    μ-loop
+    number-at-requires
+    number-at-requires-2
+    atom-at-requires
+    loop-holds
+    mul-atom-at
+    add-atom-at
+    atom-at-requires-2
+    mul-facts
+    array-set-from-facts
+    add-i
+    loop-less
+    loop-again
+    mul-t14
+    add-t15
+    returns)
