@@ -1,5 +1,6 @@
 pub mod Firsts
 pub mod Rows
+pub mod RowTables
 pub mod Tally
 pub mod Predicates
 pub mod ParameterBag
