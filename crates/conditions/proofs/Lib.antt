@@ -4,3 +4,4 @@ pub mod RowTests
 pub mod RowLists
 pub mod Gathering
 pub mod RowTables
+pub mod Compared
