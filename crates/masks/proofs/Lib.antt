@@ -1,0 +1,6 @@
+pub mod Ascending
+pub mod Kept
+pub mod Lowest
+pub mod Members
+pub mod Operations
+pub mod Walking
