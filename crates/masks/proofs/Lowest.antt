@@ -46,6 +46,10 @@ first {o = o} (ascends h later) =
     record { above = r .0; rest = r .1; whole = ap (λ (x : ℕ). 2 ^ o + x) (r .1) ∙ add-comm (2 ^ o) (r .0 * 2 ^ suc o) }
 
 -- only the mask of no number is 0
+pub mask-none : maskOf [] ≡ 0
+unfolding maskOf sum
+mask-none = refl
+
 pub mask-some : (o : ℕ) (os : List ℕ) → 0 < maskOf (o ∷ os)
 unfolding maskOf sum
 mask-some o os = let one = pow-pos o in omega arith

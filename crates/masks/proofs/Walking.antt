@@ -10,7 +10,7 @@ use lib.ListN.{length, getD, drop}
 use Rattle.laws.specs.Lists.{keep, upTo, sum}
 use Rattle.masks.specs.Sets.{isMember, membersOf, maskOf, firstMember, withoutFirst}
 use Rattle.masks.proofs.Ascending.{Ascending, ends, ascends, Below, below-first, below-rest}
-use Rattle.masks.proofs.Lowest.{mask-some, mask-smaller, trailing-mask, without-lowest, ones-mask}
+use Rattle.masks.proofs.Lowest.{mask-none, mask-smaller, trailing-mask, without-lowest, ones-mask}
 use Rattle.masks.proofs.Operations.{none-member}
 use Rattle.masks.proofs.Members.{members-ascend, members-below, mask-members, members-mask, mask-small}
 
@@ -22,10 +22,6 @@ pub record Walk (m : ℕ) : Type 0 where
   pub small : withoutFirst m < 2 ^ 64
   pub trailing : trailingZeros 64 m ≡ firstMember m
   pub without : bitAnd m (m - 1) ≡ withoutFirst m
-
-mask-none : maskOf [] ≡ 0
-unfolding maskOf sum
-mask-none = refl
 
 -- for the mask of an ascending list
 walk-list : {n m : ℕ} {os : List ℕ} → Ascending n os → Below 64 os → membersOf m ≡ os → m ≡ maskOf os → 0 < m → Walk m
