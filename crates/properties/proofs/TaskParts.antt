@@ -2,15 +2,11 @@
 use Prim.Native.Nat.{ℕ, _<_}
 use native.Mathlib.Omega.{arith}
 use mathlib.Core.Path.{_≡_, ap, _∙_, subst}
-use mathlib.Core.Bool.{Bool, true, _&&_}
+use mathlib.Core.Bool.{Bool, true}
 use mathlib.Core.List.{List, [], map}
-use lib.Dec.{ltb, eqb}
 use lib.ListN.{length, getD, take, length-map, List·getD-map}
 use lib.Seq.{getD-take}
-use borrow.Author.Tests.{ltb-true}
-use Rattle.laws.specs.Lists.{all}
-use Rattle.laws.proofs.Tests.{and-left}
-use Rattle.laws.proofs.Lists.{all-at, all-intro, mem-getD}
+use Rattle.laws.proofs.Lists.{mem-getD}
 use Rattle.laws.proofs.Mapped.{getD-map}
 use Rattle.model.specs.Card as model
 use Rattle.model.specs.Writer.{known}
@@ -19,31 +15,17 @@ use Rattle.card.specs.declared.Atom.{Atom}
 use Rattle.card.specs.declared.Schema.{Schema}
 use Rattle.card.specs.declared.AtomList.{AtomList}
 use Rattle.card.specs.declared.Task.{Task}
-use Rattle.card.specs.Represents.{taskFor, atomOf, schemasFor, schemaFor, atomsFor, padded, blankSchema, Represented}
+use Rattle.card.specs.Represents.{taskFor, atomOf, schemasFor, schemaFor, atomsFor, blankSchema, Represented}
 use Rattle.card.specs.Represents.{taskOf, schemasOf, aritiesOf, schemaOf, atomsOf, factsOf}
 use Rattle.card.proofs.Padded.{padded-at}
-use Rattle.card.proofs.Counts.{right, predicates-few, schema-count, fact-count, facts-inside}
-use Rattle.properties.specs.Represented.{AritiesRight, AtomsRight, SchemaRight, firstProperties}
-use Rattle.properties.proofs.Predicates.{Placed, placed, atom-at}
-
--- a known atom's predicate is known
-predicate-known : (arities : List ℕ) (bound : ℕ) (atoms : List model.Atom) → all (known arities bound) atoms ≡ true
-    → all (λ a. ltb (a .predicate) (length arities)) atoms ≡ true
-unfolding known
-predicate-known arities bound atoms e =
-    all-intro (λ a. ltb (a .predicate) (length arities)) atoms
-    (λ a m.
-    and-left (ltb (a .predicate) (length arities)) (eqb (length (a .arguments)) (getD arities (a .predicate) 0))
-    (and-left (ltb (a .predicate) (length arities) && eqb (length (a .arguments)) (getD arities (a .predicate) 0))
-    (all (λ x. ltb x bound) (a .arguments)) (all-at (known arities bound) atoms e a m)))
+use Rattle.card.proofs.Counts.{right, predicates-few, schema-count, facts-inside}
+use Rattle.properties.specs.Represented.{AritiesRight, AtomsRight, SchemaRight}
+use Rattle.properties.proofs.Predicates.{atom-known}
 
 -- a list of atoms that passed, with its count beside it
-atoms-right : (arities : List ℕ) (bound : ℕ) (test : model.Atom → Bool) (l : AtomList) → l .count ≡ length (atomsOf arities l)
-    → CheckedList arities bound test (atomsOf arities l) → AtomsRight arities l
-atoms-right arities bound test l e c = record {
-  few = let h = c .few in omega arith;
-  predicates-known = predicate-known arities bound (atomsOf arities l) (c .atoms-known);
-}
+atoms-right : (arities : List ℕ) (parameters : ℕ) (test : model.Atom → Bool) (l : AtomList) → l .count ≡ length (atomsOf arities l)
+    → CheckedList arities parameters test (atomsOf arities l) → AtomsRight arities parameters l
+atoms-right arities parameters test l e c = record { few = let h = c .few in omega arith; atoms-known = c .atoms-known }
 
 -- what stands past the schemas
 abbrev pub noSchema : Schema
@@ -114,24 +96,5 @@ module _ (task : Task) (r : Represented task (taskOf task)) where
       → known (aritiesOf (task .predicates)) (task .objects) (atomOf (aritiesOf (task .predicates)) (getD (task .facts .facts) i d)) ≡ true
   unfolding taskOf factsOf
   fact-known i d h =
-      let arities = aritiesOf (task .predicates) in
-      subst (λ (a : model.Atom). known arities (task .objects) a ≡ true)
-      (atom-at arities (task .facts .facts) (task .facts .count) (facts-inside task r) i d h)
-      (all-at (known arities (task .objects)) (taskOf task .facts) (right task r .facts-right .facts-known)
-      (getD (taskOf task .facts) i (atomOf arities d)) (mem-getD (taskOf task .facts) i (atomOf arities d) (omega (arith, h, fact-count task r))))
-
-  -- of a predicate whose properties have their places
-  pub fact-placed : (firsts : List ℕ) → firsts ≡ padded 20 0 (firstProperties (aritiesOf (task .predicates)))
-      → length (task .predicates .arities) ≡ 20 → (i : ℕ) (d : Atom) → i < task .facts .count
-      → (getD (task .facts .facts) i d .predicate < length (aritiesOf (task .predicates)))
-      × Placed (task .predicates) firsts (getD (task .facts .facts) i d .predicate)
-  unfolding atomOf known
-  fact-placed firsts numbered e i d h =
-      let arities = aritiesOf (task .predicates) in
-      let a = atomOf arities (getD (task .facts .facts) i d) in
-      let p : a .predicate < length arities =
-      ltb-true (a .predicate) (length arities)
-      (and-left (ltb (a .predicate) (length arities)) (eqb (length (a .arguments)) (getD arities (a .predicate) 0))
-      (and-left (ltb (a .predicate) (length arities) && eqb (length (a .arguments)) (getD arities (a .predicate) 0))
-      (all (λ x. ltb x (task .objects)) (a .arguments)) (fact-known i d h))) in
-      (p, placed (task .predicates) firsts (arities-right task r) e numbered (a .predicate) p)
+      atom-known (aritiesOf (task .predicates)) (task .facts .facts) (task .facts .count) (facts-inside task r) (task .objects)
+      (right task r .facts-right .facts-known) i d h

@@ -1,5 +1,5 @@
 -- A fact of one, two or three arguments is entered argument by argument.
-use Rattle.properties.proofs.ObjectTable.{entered-one, entered-two, entered-three, enter-one, enter-two, enter-three}
+use Rattle.properties.proofs.Entering.{entered-one, entered-two, entered-three, enter-one, enter-two, enter-three}
 use native.Mathlib.Omega.{arith}
 use borrow.Author.Needs.{needs}
 use Rattle.properties.proofs.enter_fact.Statement.{statement}
@@ -13,7 +13,7 @@ abbrev one : tie.After-enter-argument2 → tie.After-enter-argument
 one c = c .before .before .before .before .before
 
 enter-argument-requires : tie.Need-enter-argument-requires
-enter-argument-requires c κs = enter-one _ _ _ _ _ _ (c .before .before .pre .0 .0) (c .before .before .pre .1)
+enter-argument-requires c κs = enter-one _ _ _ _ _ _ _ (c .before .before .pre .0 .0) (c .before .before .pre .1)
 
 same-length : tie.Need-same-length
 same-length c = search needs
@@ -29,7 +29,7 @@ add-enter-argument c = search needs
 enter-argument-requires-2 : tie.Need-enter-argument-requires-2
 enter-argument-requires-2 c κs =
     let first = c .before .before .before .before in
-    enter-two _ _ _ _ _ (entry first .args .arity) (omega arith) (entry first .pre .1) _ (first .enter-argument .ensures)
+    enter-two _ _ _ _ _ _ (entry first .args .arity) (omega arith) (entry first .pre .1) _ (first .enter-argument .ensures)
 
 same-length-2 : tie.Need-same-length-2
 same-length-2 c = search needs
@@ -46,7 +46,7 @@ enter-argument-requires-3 : tie.Need-enter-argument-requires-3
 enter-argument-requires-3 c κs =
     let second = c .before .before .before .before in
     let s = entry (one second) in
-    enter-three _ _ _ _ _ (s .args .arity) (omega arith) (s .pre .1) _ _ (one second .enter-argument .ensures) (second .enter-argument2 .ensures)
+    enter-three _ _ _ _ _ _ (s .args .arity) (omega arith) (s .pre .1) _ _ (one second .enter-argument .ensures) (second .enter-argument2 .ensures)
 
 same-length-3 : tie.Need-same-length-3
 same-length-3 c = search needs

@@ -1,4 +1,4 @@
--- The table of all objects' bags: a fact entered for each of its objects counts in each object's own row.
+-- A table of the bags of all objects, or of all parameters: an atom entered for each of its arguments counts in each argument's own row.
 use Prim.Native.Nat.{ℕ, zero, suc, _+_, _*_, _≤_, _<_}
 use native.Mathlib.Nat.{le-refl, mul-suc, not-suc-le-zero, le-of-suc-le-suc}
 use native.Mathlib.Numerals.{add-one, add-two}
@@ -89,42 +89,42 @@ row-raised o y c table hc hy ho =
             ∙ sym (marked-here o y c (rowOf o table) (omega (arith, sized))
             ∙ ap (λ (b : Bool). getD (rowOf o table) c 0 + cond b 1 0) e ∙ omega arith)))
 
--- ---- a fact entered
+-- ---- an atom entered
 
 -- room for the first argument, and for the others after it
-module _ (first y : ℕ) (ys table : List ℕ) (fits : Enterable first (y ∷ ys) table) where
-  pub enter-here : (60 * y + first < length table) × (getD table (60 * y + first) 0 < 65535)
+module _ (most first y : ℕ) (ys table : List ℕ) (fits : Enterable most first (y ∷ ys) table) where
+  pub enter-here : (60 * y + first < length table) × (getD table (60 * y + first) 0 < most)
   enter-here =
       let one = fits .one-row in
       let there = fits .rows-there y (List·Memᴰ·head refl) in
       (omega arith, fits .small y first (List·Memᴰ·head refl) (le-refl first) (omega arith))
 
-  pub enter-next : Enterable (suc first) ys (raised table (60 * y + first))
+  pub enter-next : Enterable most (suc first) ys (raised table (60 * y + first))
   enter-next = record {
     one-row = let one = fits .one-row in omega arith;
     rows-there =
         λ o m. let there = fits .rows-there o (List·Memᴰ·tail m) in omega (arith, there, length-raised table (60 * y + first));
     small =
-        λ o c m h k. subst (λ (n : ℕ). n < 65535) (sym (raised-elsewhere table (60 * y + first) (60 * o + c) (other o c h k)))
+        λ o c m h k. subst (λ (n : ℕ). n < most) (sym (raised-elsewhere table (60 * y + first) (60 * o + c) (other o c h k)))
         (fits .small o c (List·Memᴰ·tail m) (omega arith) k);
   }
     where
       other : (o c : ℕ) → suc first ≤ c → c < 60 → 60 * o + c ≡ 60 * y + first → ⊥
       other o c h k p = let one = fits .one-row in omega arith
 
--- the length stays, each object's row counts the fact, and the rows of no object stay
+-- the length stays, the row of each argument counts the atom, and rows of no argument stay
 pub length-entered : (first : ℕ) (ys table : List ℕ) → length (entered first ys table) ≡ length table
 unfolding entered
 length-entered first [] table = refl
 length-entered first (y ∷ ys) table =
     length-entered (suc first) ys (raised table (60 * y + first)) ∙ length-raised table (60 * y + first)
 
-pub row-entered : (o first : ℕ) (ys table : List ℕ) → Enterable first ys table → 60 * o + 60 ≤ length table
+pub row-entered : (most o first : ℕ) (ys table : List ℕ) → Enterable most first ys table → 60 * o + 60 ≤ length table
     → rowOf o (entered first ys table) ≡ tallied o first ys (rowOf o table)
 unfolding entered tallied
-row-entered o first [] table fits h = refl
-row-entered o first (y ∷ ys) table fits h =
-    row-entered o (suc first) ys (raised table (60 * y + first)) (enter-next first y ys table fits)
+row-entered most o first [] table fits h = refl
+row-entered most o first (y ∷ ys) table fits h =
+    row-entered most o (suc first) ys (raised table (60 * y + first)) (enter-next most first y ys table fits)
     (omega (arith, h, length-raised table (60 * y + first)))
     ∙ ap (tallied o (suc first) ys)
     (row-raised o y first table (let one = fits .one-row in omega arith) (fits .rows-there y (List·Memᴰ·head refl)) h)
@@ -145,10 +145,6 @@ pub record BagTable (bag : ℕ → Bag) (n : ℕ) (before table : List ℕ) : Ty
   pub kept : length table ≡ length before
   pub rows-are : (o : ℕ) → o < n → rowOf o table ≡ row (bag o)
   pub beyond : drop (60 * n) table ≡ drop (60 * n) before
-
--- what stood there is asked for only behind the rows
-pub from-here : (bag : ℕ → Bag) (n : ℕ) (before table : List ℕ) → BagTable bag n before table → BagTable bag n table table
-from-here bag n before table t = record { kept = refl; rows-are = t .rows-are; beyond = refl }
 
 -- the rows one after the other
 front-rows : (bag : ℕ → Bag) (table : List ℕ) (m : ℕ) → ((o : ℕ) → o < m → rowOf o table ≡ row (bag o))
@@ -203,26 +199,27 @@ module _ (first y z w : ℕ) (table : List ℕ) where
       ∙ ap (λ (l : List ℕ). raised l (60 * w + suc (suc first)))
       (q ∙ ap (λ (n : ℕ). raised a (60 * z + n)) (add-one first) ∙ ap (λ (l : List ℕ). raised l (60 * z + suc first)) p))
 
-  -- each has room when its turn comes
-  pub enter-one : (arity : ℕ) → 1 ≤ arity → Enterable first (take arity (y ∷ z ∷ w ∷ [])) table
-      → (60 * y + first < length table) × (getD table (60 * y + first) 0 < 65535)
+-- each has room when its turn comes
+module _ (most first y z w : ℕ) (table : List ℕ) where
+  pub enter-one : (arity : ℕ) → 1 ≤ arity → Enterable most first (take arity (y ∷ z ∷ w ∷ [])) table
+      → (60 * y + first < length table) × (getD table (60 * y + first) 0 < most)
   enter-one zero h fits = absurd (not-suc-le-zero h)
-  enter-one (suc arity) h fits = enter-here first y (take arity (z ∷ w ∷ [])) table fits
+  enter-one (suc arity) h fits = enter-here most first y (take arity (z ∷ w ∷ [])) table fits
 
-  pub enter-two : (arity : ℕ) → 2 ≤ arity → Enterable first (take arity (y ∷ z ∷ w ∷ [])) table
-      → (a : List ℕ) → a ≡ raised table (60 * y + first) → (60 * z + (first + 1) < length a) × (getD a (60 * z + (first + 1)) 0 < 65535)
+  pub enter-two : (arity : ℕ) → 2 ≤ arity → Enterable most first (take arity (y ∷ z ∷ w ∷ [])) table
+      → (a : List ℕ) → a ≡ raised table (60 * y + first) → (60 * z + (first + 1) < length a) × (getD a (60 * z + (first + 1)) 0 < most)
   enter-two zero h fits a e = absurd (not-suc-le-zero h)
   enter-two (suc zero) h fits a e = absurd (not-suc-le-zero (le-of-suc-le-suc h))
   enter-two (suc (suc arity)) h fits a e =
       rw (e, add-one)
-      (enter-here (suc first) z (take arity (w ∷ [])) (raised table (60 * y + first))
-      (enter-next first y (z ∷ take arity (w ∷ [])) table fits))
+      (enter-here most (suc first) z (take arity (w ∷ [])) (raised table (60 * y + first))
+      (enter-next most first y (z ∷ take arity (w ∷ [])) table fits))
 
-  pub enter-three : (arity : ℕ) → arity ≡ 3 → Enterable first (take arity (y ∷ z ∷ w ∷ [])) table
+  pub enter-three : (arity : ℕ) → arity ≡ 3 → Enterable most first (take arity (y ∷ z ∷ w ∷ [])) table
       → (a b : List ℕ) → a ≡ raised table (60 * y + first) → b ≡ raised a (60 * z + (first + 1))
-      → (60 * w + (first + 2) < length b) × (getD b (60 * w + (first + 2)) 0 < 65535)
+      → (60 * w + (first + 2) < length b) × (getD b (60 * w + (first + 2)) 0 < most)
   enter-three arity k fits a b e f =
-      let whole : Enterable first (y ∷ z ∷ w ∷ []) table = subst (λ (n : ℕ). Enterable first (take n (y ∷ z ∷ w ∷ [])) table) k fits in
+      let whole : Enterable most first (y ∷ z ∷ w ∷ []) table = subst (λ (n : ℕ). Enterable most first (take n (y ∷ z ∷ w ∷ [])) table) k fits in
       rw (f, e, add-one, add-two)
-      (enter-here (suc (suc first)) w [] (raised (raised table (60 * y + first)) (60 * z + suc first))
-      (enter-next (suc first) z (w ∷ []) (raised table (60 * y + first)) (enter-next first y (z ∷ w ∷ []) table whole)))
+      (enter-here most (suc (suc first)) w [] (raised (raised table (60 * y + first)) (60 * z + suc first))
+      (enter-next most (suc first) z (w ∷ []) (raised table (60 * y + first)) (enter-next most first y (z ∷ w ∷ []) table whole)))
