@@ -5,7 +5,7 @@ use native.Mathlib.Omega.{arith}
 use Rattle.model.specs.Lines.{state}
 use Rattle.model.specs.Text.{text}
 use Rattle.properties.specs.Tables.{bagsIn}
-use Rattle.conditions.proofs.Rows.{bagsFrom}
+use Rattle.properties.proofs.RowTables.{bagsFrom}
 use Rattle.sections.proofs.LinesLeft.{states-start, states-next, states-end}
 use Rattle.text.proofs.Writing.{Remains, remains-as, start, next-fits, next, finish}
 use borrow.Author.Needs.{needs}

@@ -8,8 +8,8 @@ use Rattle.model.specs.Text.{text}
 use Rattle.sections.proofs.LinesLeft.{memberships-next, memberships-end}
 use Rattle.text.proofs.Writing.{Remains, start, next-fits, next, finish}
 use borrow.Author.Needs.{needs}
-use Rattle.sections.proofs.memberships.write_memberships.Statement.{statement}
-use Rattle.sections.proofs.memberships.write_memberships.Tie as tie
+use Rattle.sections.proofs.minimal.write_memberships.Statement.{statement}
+use Rattle.sections.proofs.minimal.write_memberships.Tie as tie
 
 abbrev Inv-loop : tie.InvT-loop
 Inv-loop out₀ indices at₀ k₀ out at k =

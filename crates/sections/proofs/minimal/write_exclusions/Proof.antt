@@ -2,25 +2,24 @@
 use Prim.Native.Nat.{_-_, _≤_}
 use native.Mathlib.Omega.{arith}
 use lib.ListN.{length, drop}
-use Rattle.model.specs.Lines.{exclusions}
 use Rattle.model.specs.Text.{text}
-use Rattle.properties.specs.Tables.{bagsIn}
+use Rattle.sections.specs.Exclusions.{exclusionsBy}
 use Rattle.sections.proofs.LinesLeft.{pairs-next, pairs-end, index-below, all-lent}
 use Rattle.text.proofs.Writing.{Remains, start, next-fits, next, finish}
 use borrow.Author.Needs.{needs}
-use Rattle.sections.proofs.exclusions.write_exclusions.Statement.{statement}
-use Rattle.sections.proofs.exclusions.write_exclusions.Tie as tie
+use Rattle.sections.proofs.minimal.write_exclusions.Statement.{statement}
+use Rattle.sections.proofs.minimal.write_exclusions.Tie as tie
 
 abbrev Inv-loop : tie.InvT-loop
-Inv-loop out₀ table count size indices at₀ k₀ out at k =
-    Remains (text (exclusions (bagsIn size count table) indices)) (text (exclusions (bagsIn size count table) (drop k indices))) out₀ out at
+Inv-loop out₀ containing indices at₀ k₀ out at k =
+    Remains (text (exclusionsBy containing indices)) (text (exclusionsBy containing (drop k indices))) out₀ out at
     × (k ≤ length indices)
 
 abbrev μ-loop : tie.MeasureT-loop
-μ-loop out₀ table count size indices at₀ k₀ out at k = length indices - k
+μ-loop out₀ containing indices at₀ k₀ out at k = length indices - k
 
 loop-holds : tie.Need-loop-holds Inv-loop μ-loop
-loop-holds c = (start (c .before .before .before .pre .2), omega arith)
+loop-holds c = (start (c .before .before .before .pre .1), omega arith)
 
 shared-slice-read-i : tie.Need-shared-slice-read-i Inv-loop μ-loop
 shared-slice-read-i c = search needs
@@ -54,7 +53,7 @@ write-exclusions-of-requires c κs =
     let h = c .before .before .before .before .before .before .before .before .pre in
     let l = c .before .before .before .before .loop in
     let k = c .before .before .before .loop-test .taken in
-    (h .0, index-below _ _ _ (h .1) k, all-lent _ _ _ (h .1), next-fits (l .inv .0) (pairs-next _ _ (l .k) k))
+    (index-below _ _ _ (h .0) k, all-lent _ _ _ (h .0), next-fits (l .inv .0) (pairs-next _ _ (l .k) k))
 
 loop-less : tie.Need-loop-less Inv-loop μ-loop
 loop-less c = search needs
