@@ -1,23 +1,28 @@
--- A space's section is shorter than 65,536 bytes.
+-- A space's section is no longer than 65,536 bytes.
 use Prim.Native.Nat.{ℕ, _+_, _*_, _≤_, _<_}
 use native.Mathlib.Omega.{arith}
-use mathlib.Core.Path.{refl, sym, subst, _∙_}
-use mathlib.Core.Bool.{Bool, true, false, cond, not}
+use mathlib.Core.Path.{_≡_, refl, sym, ap, subst, _∙_}
+use mathlib.Core.Bool.{Bool, true, false, cond}
 use mathlib.Core.List.{List, [], _∷_, map, List·Memᴰ, List·Memᴰ·head, List·Memᴰ·tail, Memᴰ·of-map}
 use lib.Dec.{eqb}
-use lib.ListN.{length, getD, drop, length-take}
+use lib.ListN.{length, getD, drop, length-append, length-take}
 use lib.Seq.{getD-drop}
-use Rattle.laws.specs.Bags.{Bag, strictlyContains}
-use Rattle.laws.specs.Lists.{any, upTo}
-use Rattle.laws.proofs.Lists.{keep-at, upTo-at, place-of, mem-take}
-use Rattle.laws.proofs.Walks.{keep-few}
-use Rattle.model.specs.Lines.{minimal, largest, countOf}
+use Rattle.laws.specs.Bags.{Bag}
+use Rattle.laws.specs.Lists.{upTo}
+use Rattle.laws.proofs.Lists.{place-of, mem-take}
+use Rattle.masks.specs.Sets.{membersOf}
+use Rattle.masks.proofs.Members.{members-below, members-few}
+use Rattle.model.specs.Lines.{largest, countOf}
+use Rattle.model.specs.Spaces.{Kind}
 use Rattle.model.specs.Text.{text}
 use Rattle.properties.specs.Tables.{stride, bagAt, bagsIn}
-use Rattle.sections.proofs.SectionLengths.{states-length, limits-length, memberships-length, exclusions-length}
-use Rattle.text.proofs.Lengths.{AllBelow}
-use Rattle.space_lines.specs.Listed.{conditionLines}
-use Rattle.space_lines.proofs.Parts.{parts-length}
+use Rattle.properties.proofs.RowTables.{length-bagsIn}
+use Rattle.sections.proofs.SectionLengths.{states-length, limits-length, minimal-length}
+use Rattle.text.specs.Room.{Room}
+use Rattle.text.proofs.Lengths.{AllBelow, space-length}
+use Rattle.text.proofs.Writing.{Begins}
+use Rattle.space_lines.specs.OwnLines.{conditionLines, ownLines, Listable}
+use Rattle.space_lines.proofs.Parts.{limits-first, states-first, space-first}
 
 -- ---- numbers below a bound
 
@@ -47,7 +52,7 @@ module _ (bound : ℕ) (some : 0 < bound) where
       subst (λ (x : ℕ). x < bound) (p .2) (count-below properties c (p .0) (h (p .0) (p .1))))
 
 -- the bags of a table: no longer than their size, with the table's counts
-pub bag-of-table : (bound size count : ℕ) (table : List ℕ) → ((i : ℕ) → getD table i 0 < bound)
+bag-of-table : (bound size count : ℕ) (table : List ℕ) → ((i : ℕ) → getD table i 0 < bound)
     → (b : Bag) → List·Memᴰ b (bagsIn size count table) → (length b ≤ size) × AllBelow bound b
 unfolding bagsIn bagAt
 bag-of-table bound size count table h b m =
@@ -59,30 +64,42 @@ bag-of-table bound size count table h b m =
           subst (λ (x : ℕ). x < bound) (sym (getD-drop (stride * p .0) table (q .0) 0) ∙ q .2) (h (stride * p .0 + q .0)),
     )
 
--- ---- the lines of the conditions
+-- ---- the lines of a section
 
-module _ (bags : List Bag) where
-  -- indices of conditions are below their number, and no more
-  pub minimal-below : (i : ℕ) → List·Memᴰ i (minimal bags) → i < length bags
-  unfolding minimal
-  minimal-below i m = upTo-at (length bags) i (keep-at _ (upTo (length bags)) i m .0)
+parts-length : {whole front back : List ℕ} → Begins whole front back → length whole ≡ length front + length back
+parts-length {front = front} {back = back} b = ap length (b .path) ∙ length-append front back
 
-  minimal-few : length (minimal bags) ≤ length bags
-  unfolding minimal
-  minimal-few = keep-few (λ i. not (any (strictlyContains (getD bags i [])) bags)) (length bags)
+-- the lines of at most 64 conditions over at most 60 properties
+conditions-length : (arities own : List ℕ) (bags : List Bag) → length bags ≤ 64 → length own ≤ 60 → AllBelow 100 own
+    → ((b : Bag) → List·Memᴰ b bags → (length b ≤ 60) × AllBelow 100000 b)
+    → length (text (conditionLines arities own bags)) ≤ 57044
+conditions-length arities own bags few narrow below small =
+    omega (
+      arith,
+      parts-length (states-first arities own bags),
+      parts-length (limits-first arities own bags),
+      states-length bags small,
+      limits-length arities own bags below (most-below 100000 (omega arith) own bags (λ b m. small b m .1)),
+      minimal-length bags few,
+    )
 
-  -- the lines of at most 64 conditions over at most 60 properties
-  pub conditions-length : (arities properties : List ℕ) → length bags ≤ 64 → length properties ≤ 60 → AllBelow 100 properties
-      → ((b : Bag) → List·Memᴰ b bags → (length b ≤ 60) × AllBelow 100000 b)
-      → length (text (conditionLines arities properties bags)) ≤ 57044
-  conditions-length arities properties few narrow below small =
-      let indices : AllBelow 100 (minimal bags) = λ i m. omega (arith, minimal-below i m) in
-      omega (
-        arith,
-        parts-length arities properties bags,
-        states-length bags small,
-        limits-length arities properties bags below (most-below 100000 (omega arith) properties bags (λ b m. small b m .1)),
-        memberships-length (minimal bags) indices,
-        exclusions-length bags (minimal bags) indices (omega (arith, minimal-few)),
-        minimal-few,
-      )
+-- so there is room for the whole section
+pub section-fits : {own arities table : List ℕ} {count : ℕ} (number : ℕ) (kind : Kind) (members : ℕ) → Listable own arities table count
+    → number < 100 → AllBelow 100 own → ((i : ℕ) → getD table i 0 < 65536) → (out : List ℕ) → 65536 ≤ length out
+    → Room (text (ownLines number kind own (membersOf members) arities (bagsIn (length own) count table))) out
+section-fits {own} {arities} {table} {count} number kind members l h below small out room =
+    let bags = bagsIn (length own) count table in
+    record {
+      fits =
+          omega (
+            arith,
+            parts-length (space-first arities own bags number kind (membersOf members)),
+            space-length number kind own (membersOf members) h below (λ o m. omega (arith, members-below members o m)),
+            l .rows .narrow,
+            members-few members,
+            conditions-length arities own bags (omega (arith, length-bagsIn (length own) count table, l .few)) (l .rows .narrow) below
+                (λ b m.
+                let s = bag-of-table 65536 (length own) count table small b m in
+                (omega (arith, s .0, l .rows .narrow), λ n k. omega (arith, s .1 n k))),
+          );
+    }
