@@ -40,7 +40,7 @@ module _ (table : List ℕ) (count column : ℕ) where
   largest-end most i h l = let m = rw (left-none i count h) at l in omega arith
 
 -- of distinct properties, the count of the one at place k is the count at that place
-pub count-at : (own : List ℕ) (k : ℕ) (b : Bag) → distinct own ≡ true → k < length own → countOf own (getD own k 0) b ≡ getD b k 0
+count-at : (own : List ℕ) (k : ℕ) (b : Bag) → distinct own ≡ true → k < length own → countOf own (getD own k 0) b ≡ getD b k 0
 unfolding countOf distinct
 count-at [] k b d h = absurd (omega arith)
 count-at (c ∷ own) zero [] d h = refl
@@ -55,13 +55,11 @@ count-at (c ∷ own) (suc k) (n ∷ b) d h =
         member-not c own (not-true (member c own) (and-left (not (member c own)) (distinct own) d))
         (subst (λ (x : ℕ). List·Memᴰ x own) e (mem-getD own k 0 l))
 
--- the largest count of a property over the bags of a table is that of its column
-pub largest-column : (properties : List ℕ) (c size count column : ℕ) (table : List ℕ) → HasRows size count table → column < size
-    → ((b : Bag) → countOf properties c b ≡ getD b column 0)
-    → largest (map (countOf properties c) (bagsIn size count table)) ≡ largest (columnOf table count column)
+-- the counts of a property over the bags of a table are its column
+pub column-is : (own : List ℕ) (count : ℕ) (table : List ℕ) (k : ℕ) → HasRows (length own) count table → distinct own ≡ true → k < length own
+    → map (countOf own (getD own k 0)) (bagsIn (length own) count table) ≡ columnOf table count k
 unfolding bagsIn columnOf
-largest-column properties c size count column table h inside counts-are =
-    ap largest
-    (map-map (countOf properties c) (bagAt size table) (upTo count)
+column-is own count table k rows apart h =
+    map-map (countOf own (getD own k 0)) (bagAt (length own) table) (upTo count)
     ∙ map-ext _ _ (upTo count)
-    (λ i m. counts-are (bagAt size table i) ∙ getD-bagAt (has-row size count table h i (upTo-at count i m)) column inside))
+    (λ i m. count-at own k (bagAt (length own) table i) apart h ∙ getD-bagAt (has-row (length own) count table rows i (upTo-at count i m)) k h)

@@ -18,7 +18,7 @@ use Rattle.model.specs.Text.{lineText, text}
 use Rattle.sections.specs.Limits.{limitsBy, columnOf}
 use Rattle.properties.specs.Tables.{bagsIn, HasRows}
 use Rattle.properties.proofs.RowTables.{length-bagsIn}
-use Rattle.sections.proofs.Columns.{count-at, largest-column}
+use Rattle.sections.proofs.Columns.{column-is}
 use Rattle.sections.proofs.LinesLeft.{no-lines}
 use Rattle.text.specs.Room.{Room}
 use Rattle.text.specs.Written.{Writes}
@@ -104,7 +104,7 @@ module _ (arities own : List ℕ) (count : ℕ) (table : List ℕ) where
         path =
             ap (limitsOf arities own bags) (drop-cons own k 0 h ∙ ap (λ (n : ℕ). getD own k 0 ∷ drop n own) (sym (add-one k)))
             ∙ limits-next arities own bags (getD own k 0) (drop (k + 1) own)
-            (largest-column own (getD own k 0) (length own) count k table rows h (λ b. count-at own k b apart h)) .path;
+            (ap largest (column-is own count table k rows apart h)) .path;
       }
 
   pub limits-end : (k : ℕ) → length own ≤ k → limitsFrom k ≡ []
