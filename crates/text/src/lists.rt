@@ -23,8 +23,8 @@ pub fn write_state(out: &mut [u8], counts: &[u16]) -> usize
     ensures { λ r. ⌜ Writes (lineText (state (now (counts .entry)))) (now (out .entry)) (now (out .exit)) r ⌝ }
 {
     let at = write_byte(out, b'T');
-    let n = write_last_counts(&mut out[at..], counts);
-    at + n
+    let list = write_last_counts(&mut out[at..], counts);
+    at + list
 }
 
 // `R`: a schema, a parameter and the objects that it may stand for, as a mask.
