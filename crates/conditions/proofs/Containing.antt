@@ -16,8 +16,8 @@ use Rattle.laws.proofs.Lists.{same-eq, same-refl, upTo-at, length-upTo, getD-up
 use Rattle.laws.proofs.Mapped.{getD-map, keep-ext, any-ext, any-map}
 use Rattle.laws.proofs.Tests.{by-test, and-false-right}
 use Rattle.laws.proofs.Walks.{listed}
-use Rattle.masks.specs.Sets.{maskOf, isMember, commonOf}
-use Rattle.masks.proofs.Joining.{kept-empty}
+use Rattle.masks.specs.Sets.{maskOf, isMember, commonOf, unionOf, singleOf}
+use Rattle.masks.proofs.Joining.{kept-start, kept-joined, kept-skipped, kept-empty}
 use Rattle.masks.proofs.Kept.{common-kept}
 use Rattle.masks.proofs.Operations.{kept-member}
 use Rattle.model.specs.Lines.{minimal, excluded}
@@ -79,27 +79,39 @@ module _ (masks : List ℕ) (i j : ℕ) where
   unfolding strictlyBy
   strictly-contained e f g h = ap₂ (λ (a b : Bool). a && not b) (sym e ∙ f) (sym g ∙ h)
 
--- ---- the masks of the rows of a table
+-- ---- the mask of the rows that contain row i, made row by row
 
-module _ (size count : ℕ) (table : List ℕ) where
-  abbrev bags : List Bag
-  bags = bagsIn size count table
+abbrev inRow : ℕ → List ℕ → ℕ → ℕ → Bool
+inRow size table i k = contains (bagAt size table k) (bagAt size table i)
 
-  -- the mask of those that contain row i, by the rows
-  abbrev pub inRow : ℕ → ℕ → Bool
-  inRow i k = contains (bagAt size table k) (bagAt size table i)
+-- The mask of those below row k.
+pub record MaskedTo (size count : ℕ) (table : List ℕ) (i mask k : ℕ) : Type 0 where
+  pub within : k ≤ count
+  is : mask ≡ maskOf (keep (inRow size table i) (upTo k))
 
-  containing-rows : (i : ℕ) → i < count → maskOf (keep (inRow i) (upTo count)) ≡ containingAt bags i
+pub masked-start : {size count : ℕ} {table : List ℕ} {i : ℕ} → MaskedTo size count table i 0 0
+masked-start = record { within = omega arith; is = kept-start _ }
+
+module _ {size count : ℕ} {table : List ℕ} {i mask k : ℕ} (m : MaskedTo size count table i mask k) where
+  -- the next contains row i and joins them, or does not
+  pub masked-joined : {r : Bool} {one new : ℕ} → k < count → r ≡ inRow size table i k → r ≡ true → one ≡ singleOf k → new ≡ unionOf mask one
+      → MaskedTo size count table i new (k + 1)
+  masked-joined h e f single union =
+      record { within = omega arith; is = union ∙ ap₂ unionOf (m .is) single ∙ kept-joined (inRow size table i) k (sym e ∙ f) }
+
+  pub masked-skipped : {r : Bool} → k < count → r ≡ inRow size table i k → r ≡ false → MaskedTo size count table i mask (k + 1)
+  masked-skipped h e f = record { within = omega arith; is = m .is ∙ kept-skipped (inRow size table i) k (sym e ∙ f) }
+
+  -- at the end it is the mask of all that contain condition i
+  pub masked-all : i < count → count ≤ k → mask ≡ containingAt (bagsIn size count table) i
   unfolding containingAt
-  containing-rows i h =
-      ap maskOf (keep-ext (inRow i) (λ k. contains (getD bags k []) (getD bags i [])) (upTo count)
-      (λ k m. ap₂ contains (sym (getD-bagsIn size count table k (upTo-at count k m))) (sym (getD-bagsIn size count table i h))))
-      ∙ ap (λ (n : ℕ). maskOf (keep (λ k. contains (getD bags k []) (getD bags i [])) (upTo n))) (sym (length-bagsIn size count table))
-
-  pub containing-found : (i : ℕ) {mask k : ℕ} → i < count → k ≤ count → count ≤ k → mask ≡ maskOf (keep (inRow i) (upTo k))
-      → mask ≡ containingAt bags i
-  containing-found i h few all e =
-      e ∙ ap (λ (n : ℕ). maskOf (keep (inRow i) (upTo n))) (le-antisymm few all) ∙ containing-rows i h
+  masked-all h all =
+      let bags = bagsIn size count table in
+      m .is
+      ∙ ap (λ (n : ℕ). maskOf (keep (inRow size table i) (upTo n))) (le-antisymm (m .within) all)
+      ∙ ap maskOf (keep-ext (inRow size table i) (λ n. contains (getD bags n []) (getD bags i [])) (upTo count)
+      (λ n l. ap₂ contains (sym (getD-bagsIn size count table n (upTo-at count n l))) (sym (getD-bagsIn size count table i h))))
+      ∙ ap (λ (n : ℕ). maskOf (keep (λ j. contains (getD bags j []) (getD bags i [])) (upTo n))) (sym (length-bagsIn size count table))
 
 -- ---- the masks of all conditions of a list
 

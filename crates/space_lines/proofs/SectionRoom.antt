@@ -19,15 +19,15 @@ use Rattle.properties.specs.Tables.{stride, bagAt, bagsIn}
 use Rattle.properties.proofs.RowTables.{length-bagsIn}
 use Rattle.sections.proofs.SectionLengths.{states-length, limits-length, minimal-length}
 use Rattle.text.specs.Room.{Room}
-use Rattle.text.proofs.Lengths.{AllBelow, space-length}
-use Rattle.text.proofs.Writing.{Begins}
+use Rattle.masks.proofs.Ascending.{Below}
+use Rattle.text.proofs.Lengths.{parts-length, space-length}
 use Rattle.space_lines.specs.OwnLines.{conditionLines, ownLines, Listable}
 use Rattle.space_lines.proofs.Parts.{limits-first, states-first, space-first}
 
 -- ---- numbers below a bound
 
 module _ (bound : ℕ) (some : 0 < bound) where
-  count-below : (properties : List ℕ) (c : ℕ) (b : Bag) → AllBelow bound b → countOf properties c b < bound
+  count-below : (properties : List ℕ) (c : ℕ) (b : Bag) → Below bound b → countOf properties c b < bound
   unfolding countOf
   count-below [] c b h = some
   count-below (d ∷ ds) c [] h = some
@@ -37,13 +37,13 @@ module _ (bound : ℕ) (some : 0 < bound) where
       go true p q = p
       go false p q = q
 
-  largest-below : (ns : List ℕ) → AllBelow bound ns → largest ns < bound
+  largest-below : (ns : List ℕ) → Below bound ns → largest ns < bound
   unfolding largest
   largest-below [] h = some
   largest-below (n ∷ ns) h = omega (arith, h n (List·Memᴰ·head refl), largest-below ns (λ m k. h m (List·Memᴰ·tail k)))
 
   -- so is the largest count of any property over bags of such counts
-  most-below : (properties : List ℕ) (bags : List Bag) → ((b : Bag) → List·Memᴰ b bags → AllBelow bound b)
+  most-below : (properties : List ℕ) (bags : List Bag) → ((b : Bag) → List·Memᴰ b bags → Below bound b)
       → (c : ℕ) → largest (map (countOf properties c) bags) < bound
   most-below properties bags h c =
       largest-below (map (countOf properties c) bags)
@@ -53,11 +53,11 @@ module _ (bound : ℕ) (some : 0 < bound) where
 
 -- the bags of a table: no longer than their size, with the table's counts
 bag-of-table : (bound size count : ℕ) (table : List ℕ) → ((i : ℕ) → getD table i 0 < bound)
-    → (b : Bag) → List·Memᴰ b (bagsIn size count table) → (length b ≤ size) × AllBelow bound b
+    → (b : Bag) → List·Memᴰ b (bagsIn size count table) → (length b ≤ size) × Below bound b
 unfolding bagsIn bagAt
 bag-of-table bound size count table h b m =
     let p = Memᴰ·of-map (bagAt size table) (upTo count) m in
-    subst (λ (x : Bag). (length x ≤ size) × AllBelow bound x) (p .2) (
+    subst (λ (x : Bag). (length x ≤ size) × Below bound x) (p .2) (
       omega (arith, length-take size (drop (stride * p .0) table)),
       λ n k.
           let q = place-of (drop (stride * p .0) table) n 0 (mem-take size (drop (stride * p .0) table) n k) in
@@ -66,12 +66,9 @@ bag-of-table bound size count table h b m =
 
 -- ---- the lines of a section
 
-parts-length : {whole front back : List ℕ} → Begins whole front back → length whole ≡ length front + length back
-parts-length {front = front} {back = back} b = ap length (b .path) ∙ length-append front back
-
 -- the lines of at most 64 conditions over at most 60 properties
-conditions-length : (arities own : List ℕ) (bags : List Bag) → length bags ≤ 64 → length own ≤ 60 → AllBelow 100 own
-    → ((b : Bag) → List·Memᴰ b bags → (length b ≤ 60) × AllBelow 100000 b)
+conditions-length : (arities own : List ℕ) (bags : List Bag) → length bags ≤ 64 → length own ≤ 60 → Below 100 own
+    → ((b : Bag) → List·Memᴰ b bags → (length b ≤ 60) × Below 100000 b)
     → length (text (conditionLines arities own bags)) ≤ 57044
 conditions-length arities own bags few narrow below small =
     omega (
@@ -85,7 +82,7 @@ conditions-length arities own bags few narrow below small =
 
 -- so there is room for the whole section
 pub section-fits : {own arities table : List ℕ} {count : ℕ} (number : ℕ) (kind : Kind) (members : ℕ) → Listable own arities table count
-    → number < 100 → AllBelow 100 own → ((i : ℕ) → getD table i 0 < 65536) → (out : List ℕ) → 65536 ≤ length out
+    → number < 100 → Below 100 own → ((i : ℕ) → getD table i 0 < 65536) → (out : List ℕ) → 65536 ≤ length out
     → Room (text (ownLines number kind own (membersOf members) arities (bagsIn (length own) count table))) out
 section-fits {own} {arities} {table} {count} number kind members l h below small out room =
     let bags = bagsIn (length own) count table in

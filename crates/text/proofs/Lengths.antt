@@ -5,6 +5,7 @@ use native.Mathlib.Omega.{arith}
 use mathlib.Core.Path.{_≡_, refl, ap, _∙_}
 use mathlib.Core.List.{List, [], _∷_, _++_, map, flatMap, List·Memᴰ, List·Memᴰ·head, List·Memᴰ·tail}
 use lib.ListN.{length, length-append}
+use Rattle.masks.proofs.Ascending.{Below}
 use Rattle.model.specs.Lines.{Line, space, state, limit, membership, exclusion, total, ceiling, types}
 use Rattle.model.specs.Text.{decimal, items, spaced, lineText, text}
 use Rattle.model.specs.Spaces.{Kind}
@@ -15,17 +16,13 @@ use Rattle.text.proofs.LineTexts.{one-number, two-numbers, state-parts,
 use Rattle.text.proofs.NumberRows.{first-number}
 use Rattle.text.proofs.Writing.{Begins}
 
--- every number of the list is below n
-abbrev pub AllBelow : ℕ → List ℕ → Type 0
-AllBelow n ns = (m : ℕ) → List·Memᴰ m ns → m < n
-
 -- a text is as long as its parts
-parts-length : {whole front back : List ℕ} → Begins whole front back → length whole ≡ length front + length back
+pub parts-length : {whole front back : List ℕ} → Begins whole front back → length whole ≡ length front + length back
 parts-length {front = front} {back = back} b = ap length (b .path) ∙ length-append front back
 
 module _ (most bound : ℕ) (short : (n : ℕ) → n < bound → length (decimal n) ≤ most) where
   -- numbers with so many digits
-  numbers-within : (ns : List ℕ) → AllBelow bound ns → length (numbers ns) ≤ suc most * length ns
+  numbers-within : (ns : List ℕ) → Below bound ns → length (numbers ns) ≤ suc most * length ns
   unfolding numbers flatMap
   numbers-within [] h = omega arith
   numbers-within (n ∷ ns) h =
@@ -38,10 +35,10 @@ module _ (most bound : ℕ) (short : (n : ℕ) → n < bound → length (decimal
       )
 
 -- numbers of two digits, as objects and properties have, and of five, as counts have
-pub two-digit-numbers : (ns : List ℕ) → AllBelow 100 ns → length (numbers ns) ≤ 3 * length ns
+pub two-digit-numbers : (ns : List ℕ) → Below 100 ns → length (numbers ns) ≤ 3 * length ns
 two-digit-numbers = numbers-within 2 100 two-digits
 
-pub five-digit-numbers : (ns : List ℕ) → AllBelow 100000 ns → length (numbers ns) ≤ 6 * length ns
+pub five-digit-numbers : (ns : List ℕ) → Below 100000 ns → length (numbers ns) ≤ 6 * length ns
 five-digit-numbers = numbers-within 5 100000 five-digits
 
 last-numbers-length : (ns : List ℕ) → length (lastNumbers ns) ≡ 3 + length (numbers ns)
@@ -59,7 +56,7 @@ pair-length : (letter a b : ℕ)
 pair-length letter a b = simp length-append (omega (arith, two-length letter a b))
 
 -- T: four bytes and at most six for each count
-pub state-length : (counts : List ℕ) → AllBelow 100000 counts → length (lineText (state counts)) ≤ 4 + 6 * length counts
+pub state-length : (counts : List ℕ) → Below 100000 counts → length (lineText (state counts)) ≤ 4 + 6 * length counts
 state-length counts h = omega (arith, parts-length (state-parts counts), last-numbers-length counts, five-digit-numbers counts h)
 
 -- M, D, X, F, C
@@ -83,7 +80,7 @@ unfolding lineText items
 ceiling-length p n h k = omega (arith, pair-length letterC p n, two-digits p h, five-digits n k)
 
 -- R: ten bytes and at most three for each object
-pub types-length : (schema parameter : ℕ) (objects : List ℕ) → schema < 100 → parameter < 100 → AllBelow 100 objects
+pub types-length : (schema parameter : ℕ) (objects : List ℕ) → schema < 100 → parameter < 100 → Below 100 objects
     → length (lineText (types schema parameter objects)) ≤ 10 + 3 * length objects
 types-length schema parameter objects h k o =
     omega (
@@ -97,7 +94,7 @@ types-length schema parameter objects h k o =
     )
 
 -- S: eleven bytes and at most three for each property and member
-pub space-length : (n : ℕ) (kind : Kind) (properties members : List ℕ) → n < 100 → AllBelow 100 properties → AllBelow 100 members
+pub space-length : (n : ℕ) (kind : Kind) (properties members : List ℕ) → n < 100 → Below 100 properties → Below 100 members
     → length (lineText (space n kind properties members)) ≤ 11 + 3 * length properties + 3 * length members
 space-length n kind properties members h p m =
     omega (

@@ -67,21 +67,5 @@ returns-3 c = compared-whole (c .before .before .loop .inv) (c .before .loop-tes
 pub compare-spec : {M : Type 1} → statement M
 compare-spec =
     tie.close
-    (tie.spec
-    Inv-loop
-    μ-loop
-    mul-first
-    mul-second
-    loop-holds
-    add-count
-    mul-count
-    shared-slice-read-count
-    add-other
-    mul-other
-    shared-slice-read-other
-    returns
-    add-k
-    loop-less
-    loop-again
-    returns-2
-    returns-3)
+    (tie.spec Inv-loop μ-loop mul-first mul-second loop-holds add-count mul-count shared-slice-read-count add-other mul-other shared-slice-read-other
+    returns add-k loop-less loop-again returns-2 returns-3)

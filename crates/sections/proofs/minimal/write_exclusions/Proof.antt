@@ -78,22 +78,6 @@ returns c = finish (c .before .loop .inv .0) (pairs-end _ _ _ (c .loop-test .lef
 pub write-exclusions-spec : {M : Type 1} → statement M
 write-exclusions-spec =
     tie.close
-    (tie.spec
-    Inv-loop
-    μ-loop
-    loop-holds
-    shared-slice-read-i
-    cast-i
-    add-k
-    sub-write-exclusions-of
-    part-write-exclusions-of-start
-    part-write-exclusions-of-end
-    sub-write-exclusions-of-2
-    part-write-exclusions-of-start-2
-    part-write-exclusions-of-end-2
-    write-exclusions-of-requires
-    add-at
-    loop-less
-    loop-again
-    same-length
-    returns)
+    (tie.spec Inv-loop μ-loop loop-holds shared-slice-read-i cast-i add-k sub-write-exclusions-of part-write-exclusions-of-start
+    part-write-exclusions-of-end sub-write-exclusions-of-2 part-write-exclusions-of-start-2 part-write-exclusions-of-end-2 write-exclusions-of-requires
+    add-at loop-less loop-again same-length returns)

@@ -66,19 +66,5 @@ returns c = finish (c .before .loop .inv .0) (memberships-end _ _ (c .loop-test 
 pub write-memberships-spec : {M : Type 1} → statement M
 write-memberships-spec =
     tie.close
-    (tie.spec
-    Inv-loop
-    μ-loop
-    loop-holds
-    sub-write-membership
-    part-write-membership-start
-    part-write-membership-end
-    shared-slice-read-write-membership
-    cast-write-membership
-    write-membership-requires
-    add-at
-    add-k
-    loop-less
-    loop-again
-    same-length
-    returns)
+    (tie.spec Inv-loop μ-loop loop-holds sub-write-membership part-write-membership-start part-write-membership-end shared-slice-read-write-membership
+    cast-write-membership write-membership-requires add-at add-k loop-less loop-again same-length returns)

@@ -31,12 +31,4 @@ returns c = and-then (c .before .before .before .before .before .before .write-b
 pub write-item-spec : {M : Type 1} → statement M
 write-item-spec =
     tie.close
-    (tie.spec
-    write-byte-requires
-    sub-write-decimal
-    part-write-decimal-start
-    part-write-decimal-end
-    write-decimal-requires
-    add-result
-    same-length
-    returns)
+    (tie.spec write-byte-requires sub-write-decimal part-write-decimal-start part-write-decimal-end write-decimal-requires add-result same-length returns)

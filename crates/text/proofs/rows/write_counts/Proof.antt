@@ -65,20 +65,5 @@ returns c = finish (c .before .loop .inv .0) (no-number _ _ (c .loop-test .left)
 pub write-counts-spec : {M : Type 1} → statement M
 write-counts-spec =
     tie.close
-    (tie.spec
-    Inv-loop
-    μ-loop
-    loop-holds
-    sub-write-item
-    part-write-item-start
-    part-write-item-end
-    mul-write-item
-    shared-slice-read-write-item
-    cast-write-item
-    write-item-requires
-    add-at
-    add-i
-    loop-less
-    loop-again
-    same-length
-    returns)
+    (tie.spec Inv-loop μ-loop loop-holds sub-write-item part-write-item-start part-write-item-end mul-write-item shared-slice-read-write-item
+    cast-write-item write-item-requires add-at add-i loop-less loop-again same-length returns)

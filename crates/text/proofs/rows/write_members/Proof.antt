@@ -76,18 +76,5 @@ returns c = finish (c .before .loop .inv .0) (no-member (c .loop-test .left))
 pub write-members-spec : {M : Type 1} → statement M
 write-members-spec =
     tie.close
-    (tie.spec
-    Inv-loop
-    μ-loop
-    loop-holds
-    first-member-requires
-    sub-write-item
-    part-write-item-start
-    part-write-item-end
-    write-item-requires
-    add-at
-    without-first-requires
-    loop-less
-    loop-again
-    same-length
-    returns)
+    (tie.spec Inv-loop μ-loop loop-holds first-member-requires sub-write-item part-write-item-start part-write-item-end write-item-requires add-at
+    without-first-requires loop-less loop-again same-length returns)

@@ -62,19 +62,5 @@ returns c = finish (c .before .loop .inv .0) (no-number _ _ (c .loop-test .left)
 pub write-numbers-spec : {M : Type 1} → statement M
 write-numbers-spec =
     tie.close
-    (tie.spec
-    Inv-loop
-    μ-loop
-    loop-holds
-    sub-write-item
-    part-write-item-start
-    part-write-item-end
-    mul-write-item
-    shared-slice-read-write-item
-    write-item-requires
-    add-at
-    add-i
-    loop-less
-    loop-again
-    same-length
-    returns)
+    (tie.spec Inv-loop μ-loop loop-holds sub-write-item part-write-item-start part-write-item-end mul-write-item shared-slice-read-write-item
+    write-item-requires add-at add-i loop-less loop-again same-length returns)
