@@ -10,3 +10,4 @@ pub mod FirstTotals
 pub mod TotalSteps
 pub mod Sizes
 pub mod OneTotal
+pub mod RowsHeld

@@ -4,11 +4,11 @@ use native.Mathlib.Numerals.{add-one}
 use native.Mathlib.Omega.{arith}
 use mathlib.Core.Path.{_≡_, refl, sym, ap, _∙_, subst}
 use mathlib.Core.List.{List, [], _∷_, _++_, map, flatMap, append-assoc, append-nil, Memᴰ·of-map}
-use lib.ListN.{length, getD, take, drop, length-map, length-append, length-take, length-drop}
-use lib.Seq.{take-all, take-at, drop-at, drop-drop, drop-length, take-suc}
+use lib.ListN.{length, getD, take, drop, length-map, length-append, length-take, length-drop, take-append-drop, List·getD-append}
+use lib.Seq.{take-all, take-at, drop-at, drop-drop, drop-length, drop-cons, take-suc, getD-append-add}
 use Rattle.laws.specs.Lists.{sum, upTo}
 use Rattle.laws.specs.Bags.{Bag}
-use Rattle.laws.proofs.Lists.{flatMap-at, flatMap-append, length-upTo}
+use Rattle.laws.proofs.Lists.{flatMap-at, flatMap-append, length-upTo, getD-upTo}
 use Rattle.laws.proofs.Columns.{length-flatMap, sum-at-most}
 use Rattle.laws.proofs.Fronts.{sum-take-next, sum-take-all}
 use Rattle.laws.proofs.Mapped.{getD-map}
@@ -104,6 +104,35 @@ bags-sized cs list schemas b m =
     let s = flatMap-at (λ s. bagsOver cs (list s) (s .parameters)) schemas b m in
     let k = Memᴰ·of-map (bagOf cs (list (s .0))) (upTo (s .0 .parameters)) (s .2) in
     sym (ap length (k .2)) ∙ length-bagOf cs (list (s .0)) (k .0)
+
+-- the bag of parameter k of schema i stands behind those of the schemas before it
+pub bag-of-parameter : (cs : List Property) (list : Schema → List Atom) (schemas : List Schema) (i k : ℕ) (s : Schema) → i < length schemas
+    → k < getD schemas i s .parameters
+    → getD (bagsOf cs list schemas) (sum (take i (sizesOf schemas)) + k) [] ≡ bagOf cs (list (getD schemas i s)) k
+unfolding bagsOf flatMap
+bag-of-parameter cs list schemas i k s h l =
+    let here = getD schemas i s in
+    let next = bagsOver cs (list here) (here .parameters) in
+    let front = bagsOf cs list (take i schemas) in
+    let back = bagsOf cs list (drop (suc i) schemas) in
+    ap (λ (n : ℕ). getD (bagsOf cs list schemas) (n + k) []) (sym (passed i))
+    ∙ ap (λ (l : List Schema). getD (bagsOf cs list l) (length front + k) []) (sym (take-append-drop i schemas))
+    ∙ ap (λ (l : List Schema). getD (bagsOf cs list (take i schemas ++ l)) (length front + k) []) (drop-cons schemas i s h)
+    ∙ ap (λ (l : List Bag). getD l (length front + k) [])
+    (flatMap-append (λ q. bagsOver cs (list q) (q .parameters)) (take i schemas) (here ∷ drop (suc i) schemas))
+    ∙ getD-append-add front (next ++ back) k []
+    ∙ List·getD-append next back [] k (omega (arith, length-bags-over cs (list here) (here .parameters)))
+    ∙ place
+  where
+    passed : (i : ℕ) → length (bagsOf cs list (take i schemas)) ≡ sum (take i (sizesOf schemas))
+    passed i = unfold together sizesOf in length-bags cs list (take i schemas) ∙ ap sum (sym (take-map i (λ q. q .parameters) schemas))
+
+    place : getD (bagsOver cs (list (getD schemas i s)) (getD schemas i s .parameters)) k [] ≡ bagOf cs (list (getD schemas i s)) k
+    place =
+        unfold bagsOver in
+        getD-map (bagOf cs (list (getD schemas i s))) (upTo (getD schemas i s .parameters)) k 0 []
+        (omega (arith, l, length-upTo (getD schemas i s .parameters)))
+        ∙ ap (bagOf cs (list (getD schemas i s))) (getD-upTo (getD schemas i s .parameters) k 0 l)
 
 -- the same schema under another name
 pub as-schema : {arities : List ℕ} {s q : Schema} {at : ℕ} {preconditions deletes adds p d a : List ℕ} → s ≡ q

@@ -1,4 +1,4 @@
--- `totals::total_of` meets its contract.
+-- `fixed::total_of` meets its contract.
 use Prim.Native.Nat.{_-_, _≤_}
 use native.Mathlib.Omega.{arith}
 use mathlib.Core.Path.{_≡_, refl}
@@ -6,8 +6,8 @@ use lib.ListN.{take, drop}
 use Rattle.closing.specs.Fixed.{firstSome}
 use Rattle.closing.proofs.FirstTotals.{position-found, position-passed, positions-end}
 use borrow.Author.Needs.{needs}
-use Rattle.closing.proofs.totals.total_of.Statement.{statement}
-use Rattle.closing.proofs.totals.total_of.Tie as tie
+use Rattle.closing.proofs.fixed.total_of.Statement.{statement}
+use Rattle.closing.proofs.fixed.total_of.Tie as tie
 
 abbrev Inv-loop : tie.InvT-loop
 Inv-loop fixed first arity i₀ i =

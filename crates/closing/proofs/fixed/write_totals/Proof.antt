@@ -1,4 +1,4 @@
--- `totals::write_totals` meets its contract.
+-- `fixed::write_totals` meets its contract.
 use Prim.Native.Nat.{ℕ, _-_, _+_, _≤_}
 use mathlib.Core.Path.{_≡_, refl, sym, ap, _∙_}
 use mathlib.Core.List.{[], _∷_, flatMap}
@@ -14,12 +14,12 @@ use Rattle.card.proofs.Counts.{predicate-count, predicates-few, predicates-insi
 use Rattle.properties.proofs.TaskParts.{arities-right}
 use Rattle.text.proofs.Writing.{Remains, remains-as, start, next-fits, next, finish}
 use Rattle.closing.specs.Fixed.{totalFound}
-use Rattle.closing.proofs.FirstTotals.{totals-found}
+use Rattle.closing.proofs.FirstTotals.{length-fixed, totals-found}
 use Rattle.closing.proofs.LineLoops.{room-as, writes-as, linesLeft, lines-start, line-next, no-line, lines-end}
 use Rattle.closing.proofs.TotalSteps.{begins-next, positions-inside, total-next, total-none}
 use borrow.Author.Needs.{needs}
-use Rattle.closing.proofs.totals.write_totals.Statement.{statement}
-use Rattle.closing.proofs.totals.write_totals.Tie as tie
+use Rattle.closing.proofs.fixed.write_totals.Statement.{statement}
+use Rattle.closing.proofs.fixed.write_totals.Tie as tie
 
 abbrev Inv-loop : tie.InvT-loop
 Inv-loop out₀ fixed predicates at₀ first₀ p₀ out at first p =
@@ -85,8 +85,8 @@ cast-arity c = omega (arith, inside (c .before))
 
 total-of-requires : tie.Need-total-of-requires Inv-loop μ-loop
 total-of-requires c κs =
-    let long = entry (c .before .before) .pre .1 .0 .long in
-    omega (arith, inside (c .before))
+    let s = entry (c .before .before) in
+    omega (arith, inside (c .before), length-fixed _ _ (s .pre .1 .0) (properties-few _ (s .pre .0 .checked)))
 
 add-first : tie.Need-add-first Inv-loop μ-loop
 add-first c = omega (arith, inside (in-loop c))

@@ -9,7 +9,7 @@ ghost use Rattle.laws.specs.Lists.{upTo};
 ghost use Rattle.model.specs.Lines.{analysis, totals};
 ghost use Rattle.model.specs.Text.{text};
 ghost use Rattle.card.specs.Represents.{taskOf, Represented};
-ghost use Rattle.closing.specs.Fixed.{FixedTable, firstSome};
+ghost use Rattle.closing.specs.Fixed.{fixedTable, firstSome};
 ghost use Rattle.text.specs.Room.{Room};
 ghost use Rattle.text.specs.Written.{Writes};
 
@@ -30,7 +30,7 @@ fn total_of(fixed: &[u32], first: usize, arity: usize) -> u32
 // `F` lines, predicate by predicate.
 pub fn write_totals(out: &mut [u8], task: Task, fixed: &[u32]) -> usize
     requires { ⌜ Represented task (taskOf task) ⌝ }
-    requires { ⌜ FixedTable (taskOf task) (now fixed) ⌝ }
+    requires { ⌜ now fixed ≡ fixedTable (taskOf task) ⌝ }
     requires { ⌜ Room (text (flatMap (totals (taskOf task) (analysis (taskOf task))) (upTo (length (taskOf task .arities))))) (now out) ⌝ }
     ensures { λ r. ⌜
         Writes
