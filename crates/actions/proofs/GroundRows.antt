@@ -3,22 +3,23 @@ use Prim.Native.Nat.{ℕ, zero, suc, _+_, _-_, _≤_, _<_}
 use native.Mathlib.Nat.{not-suc-le-zero}
 use native.Mathlib.Omega.{arith}
 use native.Mathlib.Numerals.{add-one}
-use mathlib.Core.Path.{_≡_, refl, sym, ap, _∙_, subst}
+use mathlib.Core.Path.{_≡_, refl, sym, ap, _∙_}
 use mathlib.Core.Bool.{true}
-use mathlib.Core.List.{List, [], _∷_, _++_, map, map-append, map-map, append-assoc, List·Memᴰ, Memᴰ·map}
+use mathlib.Core.List.{List, [], _∷_, _++_, map, map-append, map-map, append-assoc}
 use lib.Dec.{ltb}
 use lib.ListN.{length, getD, take, drop, set, replicate, length-append, length-map}
-use lib.Seq.{take-suc, getD-take, set-at, length-take-le}
+use lib.Seq.{take-suc, set-at, length-take-le}
 use borrow.Author.Tests.{ltb-true}
 use Rattle.laws.specs.Lists.{all}
 use Rattle.laws.proofs.Tests.{and-left, and-right}
-use Rattle.laws.proofs.Lists.{all-at, mem-getD}
-use Rattle.model.specs.Card.{inRange}
+use Rattle.laws.proofs.Lists.{all-at}
+use Rattle.model.specs.Card.{Atom, inRange}
 use Rattle.model.specs.Writer.{known}
 use Rattle.model.specs.Strips.{factBytes, ground}
 use Rattle.model.proofs.Order.{known-predicate, known-arguments}
 use Rattle.model.proofs.Checked.{arity-within}
 use Rattle.card.specs.Represents.{atomOf, atomsOf, factsOf, blankAtom}
+use Rattle.card.proofs.Entries.{item-in, atoms-within, facts-within}
 use Rattle.card.specs.declared.Atom.{Atom as Kept}
 use Rattle.card.specs.declared.AtomList.{AtomList}
 use Rattle.card.specs.declared.FactList.{FactList}
@@ -142,13 +143,8 @@ module _ (arities objects : List ℕ) (l : AtomList) (bound : Bound arities obje
   pub atom-known : (i : ℕ) → i < l .count → known arities (length objects) (atomOf arities (getD (l .atoms) i blankAtom)) ≡ true
   unfolding atomsOf
   atom-known i h =
-      let few = bound .few in
-      let size = bound .size in
-      let within : i < length (take (l .count) (l .atoms)) = (let n = length-take-le (l .count) (l .atoms) (omega arith) in omega arith) in
-      let there = mem-getD (take (l .count) (l .atoms)) i blankAtom within in
       all-at (known arities (length objects)) (atomsOf arities l) (bound .atoms-known) (atomOf arities (getD (l .atoms) i blankAtom))
-      (subst (λ (a : Kept). List·Memᴰ (atomOf arities a) (map (atomOf arities) (take (l .count) (l .atoms))))
-      (getD-take (l .count) (l .atoms) i blankAtom h) (Memᴰ·map (atomOf arities) there))
+      (item-in (atomOf arities) (l .count) blankAtom (l .atoms) i h)
 
   pub grounded-step :
       (i v : ℕ) (numbers : List ℕ) → i < l .count → numbers ≡ filled 8 (map numberOf (take i (l .atoms)))
@@ -165,7 +161,7 @@ module _ (arities objects : List ℕ) (l : AtomList) (bound : Bound arities obje
   pub grounded-end :
       (i : ℕ) (numbers : List ℕ) → i ≡ l .count → numbers ≡ filled 8 (map numberOf (take i (l .atoms)))
       → record { count = l .count; numbers = numbers } ≡ factsKept (map (ground objects) (atomsOf arities l))
-  unfolding factsKept atomsOf
+  unfolding factsKept
   grounded-end i numbers all e =
       let atoms : List Kept = take (l .count) (l .atoms) in
       let few = bound .few in
@@ -178,7 +174,9 @@ module _ (arities objects : List ℕ) (l : AtomList) (bound : Bound arities obje
       ∙ ap (filled 8)
       (sym (map-map factNumber (λ a. ground objects (atomOf arities a)) atoms)
       ∙ ap (map factNumber) (sym (map-map (ground objects) (atomOf arities) atoms)))) in
-      λ k. record { count = n k; numbers = same k }
+      let whole : record { count = l .count; numbers = numbers } ≡ factsKept (map (ground objects) (map (atomOf arities) atoms)) =
+      λ k. record { count = n k; numbers = same k } in
+      whole ∙ ap (λ (xs : List Atom). factsKept (map (ground objects) xs)) (sym (atoms-within arities l (omega arith)))
 
 -- Facts of a task, the first i of them.
 module _ (arities : List ℕ) (l : FactList) (was : List ℕ) (kept : FactsRight arities l was) where
@@ -188,14 +186,9 @@ module _ (arities : List ℕ) (l : FactList) (was : List ℕ) (kept : FactsRight
   pub fact-predicate : (i : ℕ) → i < l .count → getD (l .facts) i blankAtom .predicate < length arities
   unfolding factsOf atomOf
   fact-predicate i h =
-      let few = kept .few in
-      let size = kept .size in
-      let within : i < length (take (l .count) (l .facts)) = (let n = length-take-le (l .count) (l .facts) (omega arith) in omega arith) in
-      let there = mem-getD (take (l .count) (l .facts)) i blankAtom within in
       ltb-true _ _
       (all-at (λ f. ltb (f .predicate) (length arities)) (factsOf arities l) (kept .predicates-known) (atomOf arities (getD (l .facts) i blankAtom))
-      (subst (λ (f : Kept). List·Memᴰ (atomOf arities f) (map (atomOf arities) (take (l .count) (l .facts))))
-      (getD-take (l .count) (l .facts) i blankAtom h) (Memᴰ·map (atomOf arities) there)))
+      (item-in (atomOf arities) (l .count) blankAtom (l .facts) i h))
 
   pub facts-step :
       (i v : ℕ) (numbers : List ℕ) → i < l .count → numbers ≡ map factNumberOf (take i (l .facts)) ++ drop i was
@@ -213,7 +206,7 @@ module _ (arities : List ℕ) (l : FactList) (was : List ℕ) (kept : FactsRight
   pub facts-end :
       (i : ℕ) (numbers : List ℕ) → i ≡ l .count → numbers ≡ map factNumberOf (take i (l .facts)) ++ drop i was
       → numbers ≡ map factNumber (factsOf arities l) ++ drop (l .count) was
-  unfolding factsOf
   facts-end i numbers all e =
       e ∙ ap (λ (k : ℕ). map factNumberOf (take k (l .facts)) ++ drop k was) all
       ∙ ap (λ (ns : List ℕ). ns ++ drop (l .count) was) (sym (map-map factNumber (atomOf arities) (take (l .count) (l .facts))))
+      ∙ ap (λ (fs : List Atom). map factNumber fs ++ drop (l .count) was) (sym (facts-within arities l (omega (arith, kept .few, kept .size))))

@@ -1,5 +1,4 @@
 pub mod Tallying
-pub mod Defaults
 pub mod LineLoops
 pub mod Parts
 pub mod Capping

@@ -10,13 +10,14 @@ use Rattle.model.specs.Transitions.{propertiesFrom, bagOf}
 use Rattle.model.proofs.RuleCount.{bag-at-most}
 use Rattle.card.specs.declared.Atom.{Atom}
 use Rattle.card.specs.declared.ArityList.{ArityList}
-use Rattle.card.specs.Represents.{aritiesOf, atomOf}
+use Rattle.card.specs.Represents.{blankAtom, entries, aritiesOf, atomOf}
+use Rattle.card.proofs.Entries.{length-table, item-at}
 use Rattle.properties.specs.Represented.{AritiesRight}
 use Rattle.properties.specs.Tables.{row}
 use Rattle.properties.specs.Tallies.{tallied}
 use Rattle.properties.proofs.Rows.{getD-row}
 use Rattle.properties.proofs.Tally.{tallied-atom}
-use Rattle.properties.proofs.Predicates.{Placed, sum-arities, length-atoms, atom-at}
+use Rattle.properties.proofs.Predicates.{Placed, sum-arities}
 
 -- an atom's arguments are as many as its predicate's arity
 pub length-arguments : (arities : List ℕ) (a : Atom) → getD arities (a .predicate) 0 ≤ 3
@@ -25,11 +26,13 @@ unfolding atomOf
 length-arguments arities a h = length-take-le (getD arities (a .predicate) 0) (a .first ∷ a .second ∷ a .third ∷ []) h
 
 -- the front part of the model's atoms grows by the code's next atom
-pub atoms-next : (arities : List ℕ) (atoms : List Atom) (n i : ℕ) (d : Atom) → n ≤ length atoms → i < n
-    → take (suc i) (map (atomOf arities) (take n atoms)) ≡ take i (map (atomOf arities) (take n atoms)) ++ (atomOf arities (getD atoms i d) ∷ [])
-atoms-next arities atoms n i d inside h =
-    take-suc (map (atomOf arities) (take n atoms)) i (atomOf arities d) (omega (arith, h, length-atoms arities atoms n inside))
-    ∙ ap (λ (a : model.Atom). take i (map (atomOf arities) (take n atoms)) ++ (a ∷ [])) (atom-at arities atoms n inside i d h)
+pub atoms-next : (arities : List ℕ) (atoms : List Atom) (n i : ℕ) → i < n
+    → let list = map (atomOf arities) (entries n blankAtom atoms) in
+    take (suc i) list ≡ take i list ++ (atomOf arities (getD atoms i blankAtom) ∷ [])
+atoms-next arities atoms n i h =
+    let list = map (atomOf arities) (entries n blankAtom atoms) in
+    take-suc list i (atomOf arities blankAtom) (omega (arith, h, length-table (atomOf arities) n blankAtom atoms))
+    ∙ ap (λ (a : model.Atom). take i list ++ (a ∷ [])) (item-at (atomOf arities) n blankAtom atoms i h)
 
 module _ (predicates : ArityList) (firsts : List ℕ) (right : AritiesRight predicates) where
   -- the code's next atom counted: first property and arity are read from the arrays

@@ -1,12 +1,11 @@
 -- What the arrays of arities and first properties say of a known predicate, and what a list of the code's atoms says of each atom.
 use Prim.Native.Nat.{ℕ, suc, _+_, _-_, _≤_, _<_}
 use native.Mathlib.Omega.{arith}
-use mathlib.Core.Path.{_≡_, sym, ap, _∙_, subst}
+use mathlib.Core.Path.{_≡_, sym, ap, _∙_}
 use mathlib.Core.Bool.{true, _&&_}
 use mathlib.Core.List.{List, map}
 use lib.Dec.{ltb, eqb}
-use lib.ListN.{length, getD, take, replicate, length-map, length-take, List·getD-append, List·getD-map}
-use lib.Seq.{getD-take, length-take-le}
+use lib.ListN.{length, getD, take, replicate, length-map, List·getD-append, List·getD-map}
 use borrow.Author.Tests.{ltb-true}
 use Rattle.laws.specs.Lists.{all, sum, upTo}
 use Rattle.laws.proofs.Tests.{and-left}
@@ -19,7 +18,8 @@ use Rattle.model.proofs.Checked.{between-low, between-high}
 use Rattle.model.proofs.RuleCount.{sum-all}
 use Rattle.card.specs.declared.Atom.{Atom}
 use Rattle.card.specs.declared.ArityList.{ArityList}
-use Rattle.card.specs.Represents.{padded, aritiesOf, atomOf}
+use Rattle.card.specs.Represents.{padded, blankAtom, entries, aritiesOf, atomOf}
+use Rattle.card.proofs.Entries.{getD-entries, item-in, length-arities}
 use Rattle.properties.specs.Represented.{AritiesRight, firstProperties}
 
 -- What the arrays hold for predicate p: its arity, and where its properties begin.
@@ -33,26 +33,16 @@ pub record Placed (predicates : ArityList) (firsts : List ℕ) (p : ℕ) : Type 
 
 -- at most 60 properties
 pub sum-arities : (predicates : ArityList) → AritiesRight predicates → sum (aritiesOf predicates) ≤ 60
-unfolding aritiesOf
 sum-arities predicates right =
-    omega (
-      arith,
-      sum-all 3 (aritiesOf predicates) (right .in-range),
-      length-take (predicates .count) (predicates .arities),
-      right .few,
-    )
+    omega (arith, sum-all 3 (aritiesOf predicates) (right .in-range), length-arities predicates, right .few)
 
-module _ (predicates : ArityList) (firsts : List ℕ) (right : AritiesRight predicates) (sized : length (predicates .arities) ≡ 20)
+module _ (predicates : ArityList) (firsts : List ℕ) (right : AritiesRight predicates)
     (numbered : firsts ≡ padded 20 0 (firstProperties (aritiesOf predicates))) where
-  pub length-arities : length (aritiesOf predicates) ≡ predicates .count
-  unfolding aritiesOf
-  length-arities = length-take-le (predicates .count) (predicates .arities) (let few = right .few in omega arith)
-
   pub placed : (p : ℕ) → p < length (aritiesOf predicates) → Placed predicates firsts p
   placed p there =
       let arities = aritiesOf predicates in
       let few = right .few in
-      let is : getD (predicates .arities) p 0 ≡ getD arities p 0 = unfold aritiesOf in sym (getD-take (predicates .count) (predicates .arities) p 0 inside) in
+      let is : getD (predicates .arities) p 0 ≡ getD arities p 0 = unfold aritiesOf in sym (getD-entries (predicates .count) 0 (predicates .arities) p inside) in
       let range = all-at (between 1 3) arities (right .in-range) (getD arities p 0) (mem-getD arities p 0 there) in
       let low = between-low 1 3 (getD arities p 0) range in
       let high = between-high 1 3 (getD arities p 0) range in
@@ -67,7 +57,7 @@ module _ (predicates : ArityList) (firsts : List ℕ) (right : AritiesRight pred
       }
     where
       inside : p < predicates .count
-      inside = omega (arith, there, length-arities)
+      inside = omega (arith, there, length-arities predicates)
 
       first : getD firsts p 0 ≡ sum (take p (aritiesOf predicates))
       first =
@@ -94,24 +84,12 @@ module _ (predicates : ArityList) (firsts : List ℕ) (right : AritiesRight pred
       (all (λ x. ltb x bound) arguments) there)) in
       (p, placed (a .predicate) p)
 
--- the code's atoms as the model's
-module _ (arities : List ℕ) (atoms : List Atom) (n : ℕ) (inside : n ≤ length atoms) where
-  -- as many as are counted
-  pub length-atoms : length (map (atomOf arities) (take n atoms)) ≡ n
-  length-atoms = length-map (take n atoms) (atomOf arities) ∙ length-take-le n atoms inside
-
-  -- each is the code's at its place
-  pub atom-at : (i : ℕ) (d : Atom) → i < n → getD (map (atomOf arities) (take n atoms)) i (atomOf arities d) ≡ atomOf arities (getD atoms i d)
-  atom-at i d h = List·getD-map (atomOf arities) (take n atoms) i d ∙ ap (atomOf arities) (getD-take n atoms i d h)
-
-  -- and known, if all are
-  pub atom-known : (bound : ℕ) → all (known arities bound) (map (atomOf arities) (take n atoms)) ≡ true
-      → (i : ℕ) (d : Atom) → i < n → known arities bound (atomOf arities (getD atoms i d)) ≡ true
-  atom-known bound all-known i d h =
-      let list = map (atomOf arities) (take n atoms) in
-      subst (λ (a : model.Atom). known arities bound a ≡ true) (atom-at i d h)
-      (all-at (known arities bound) list all-known (getD list i (atomOf arities d))
-      (mem-getD list i (atomOf arities d) (omega (arith, h, length-atoms))))
+-- an atom of a list is known, if all are
+pub atom-known : (arities : List ℕ) (atoms : List Atom) (n bound : ℕ) → all (known arities bound) (map (atomOf arities) (entries n blankAtom atoms)) ≡ true
+    → (i : ℕ) → i < n → known arities bound (atomOf arities (getD atoms i blankAtom)) ≡ true
+atom-known arities atoms n bound all-known i h =
+    all-at (known arities bound) (map (atomOf arities) (entries n blankAtom atoms)) all-known (atomOf arities (getD atoms i blankAtom))
+    (item-in (atomOf arities) n blankAtom atoms i h)
 
 -- what counting an atom asks, of a predicate and an arity that were read
 pub atom-asked : (predicates : ArityList) (firsts : List ℕ) (p q arity : ℕ) (size : ℕ) → Placed predicates firsts p → q ≡ p

@@ -3,12 +3,11 @@ use Prim.Native.Nat.{ℕ}
 use mathlib.Core.Path.{_≡_, ap, ap₂, _∙_}
 use mathlib.Core.List.{List, _++_}
 use lib.ListN.{length, take, drop}
-use Rattle.model.specs.Answer.{Answer}
 use Rattle.model.specs.Calls.{Call}
 use Rattle.card.specs.declared.Task.{Task}
 use Rattle.writer.specs.declared.Writing.{Writing}
 use Rattle.writer.specs.Answers.{writingSays, Encodes}
-use Rattle.tables.specs.Flat.{tableIn, lentIn}
+use Rattle.tables.specs.Flat.{tableFrom, lentFrom}
 use Rattle.tables.specs.Front.{headOf, encodeFront, EncodesFront, Answers}
 
 module _ {t : Task} {lent : ℕ} {out after : List ℕ} {w : Writing} where
@@ -18,7 +17,7 @@ module _ {t : Task} {lent : ℕ} {out after : List ℕ} {w : Writing} where
   front-encoded done = record { answer = done .answer; buffer = ap (λ (l : List ℕ). l ++ drop lent out) (done .buffer) }
 
   -- a flat table and how much of the buffer is lent were read, and the writer's answer is told
-  pub answered : {flat head : List ℕ} → t ≡ tableIn flat → lent ≡ lentIn flat (length out) → EncodesFront t lent out after w
+  pub answered : {flat head : List ℕ} → t ≡ tableFrom flat → lent ≡ lentFrom flat (length out) → EncodesFront t lent out after w
       → head ≡ headOf (writingSays w) → Answers flat out after head
   answered table size done told =
       let call = ap₂ (λ (u : Task) (n : ℕ). encodeFront u n out) table size in

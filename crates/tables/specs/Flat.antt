@@ -19,42 +19,42 @@ abbrev pub byteAt : List ℕ → ℕ → ℕ
 byteAt bytes at = getD bytes at 0
 
 -- four bytes
-unfoldable pub atomAt : List ℕ → ℕ → Atom
-atomAt bytes at =
+unfoldable pub atomFrom : List ℕ → ℕ → Atom
+atomFrom bytes at =
     record { predicate = byteAt bytes at; first = byteAt bytes (at + 1); second = byteAt bytes (at + 2); third = byteAt bytes (at + 3) }
 
 -- a count and eight atoms: 33 bytes
-unfoldable pub atomsAt : List ℕ → ℕ → AtomList
-atomsAt bytes at = record { count = byteAt bytes at; atoms = array 8 (λ i. atomAt bytes (at + 1 + 4 * i)) }
+unfoldable pub atomsFrom : List ℕ → ℕ → AtomList
+atomsFrom bytes at = record { count = byteAt bytes at; atoms = array 8 (λ i. atomFrom bytes (at + 1 + 4 * i)) }
 
 -- the number of roles and three lists: 100 bytes
-unfoldable pub schemaAt : List ℕ → ℕ → Schema
-schemaAt bytes at =
+unfoldable pub schemaFrom : List ℕ → ℕ → Schema
+schemaFrom bytes at =
     record {
       parameters = byteAt bytes at;
-      preconditions = atomsAt bytes (at + 1);
-      deletes = atomsAt bytes (at + 34);
-      adds = atomsAt bytes (at + 67);
+      preconditions = atomsFrom bytes (at + 1);
+      deletes = atomsFrom bytes (at + 34);
+      adds = atomsFrom bytes (at + 67);
     }
 
 -- from byte 0 on: a count and twenty arities
-unfoldable pub aritiesIn : List ℕ → ArityList
-aritiesIn bytes = record { count = byteAt bytes 0; arities = array 20 (λ i. byteAt bytes (1 + i)) }
+unfoldable pub aritiesFrom : List ℕ → ArityList
+aritiesFrom bytes = record { count = byteAt bytes 0; arities = array 20 (λ i. byteAt bytes (1 + i)) }
 
 -- from byte 22 on: a count and 32 schemas
-unfoldable pub schemasIn : List ℕ → SchemaList
-schemasIn bytes = record { count = byteAt bytes 22; schemas = array 32 (λ i. schemaAt bytes (23 + 100 * i)) }
+unfoldable pub schemasFrom : List ℕ → SchemaList
+schemasFrom bytes = record { count = byteAt bytes 22; schemas = array 32 (λ i. schemaFrom bytes (23 + 100 * i)) }
 
 -- from byte 3,223 on: a count, high byte first, and 512 facts
-unfoldable pub factsIn : List ℕ → FactList
-factsIn bytes =
-    record { count = byteAt bytes 3223 * 256 + byteAt bytes 3224; facts = array 512 (λ i. atomAt bytes (3225 + 4 * i)) }
+unfoldable pub factsFrom : List ℕ → FactList
+factsFrom bytes =
+    record { count = byteAt bytes 3223 * 256 + byteAt bytes 3224; facts = array 512 (λ i. atomFrom bytes (3225 + 4 * i)) }
 
 -- the table; byte 21 is its number of objects
-unfoldable pub tableIn : List ℕ → Task
-tableIn bytes =
-    record { predicates = aritiesIn bytes; objects = byteAt bytes 21; schemas = schemasIn bytes; facts = factsIn bytes }
+unfoldable pub tableFrom : List ℕ → Task
+tableFrom bytes =
+    record { predicates = aritiesFrom bytes; objects = byteAt bytes 21; schemas = schemasFrom bytes; facts = factsFrom bytes }
 
 -- from byte 5,273 on: how many bytes of a buffer are lent, high byte first, and no more than it has
-abbrev pub lentIn : List ℕ → ℕ → ℕ
-lentIn bytes most = min (byteAt bytes 5273 * 65536 + byteAt bytes 5274 * 256 + byteAt bytes 5275) most
+abbrev pub lentFrom : List ℕ → ℕ → ℕ
+lentFrom bytes most = min (byteAt bytes 5273 * 65536 + byteAt bytes 5274 * 256 + byteAt bytes 5275) most

@@ -6,10 +6,10 @@ use lib.ListN.{length, take, drop}
 use Rattle.model.specs.Answer.{Answer, refused, accepted}
 use Rattle.model.specs.Calls.{Call, encode}
 use Rattle.card.specs.declared.Task.{Task}
-use Rattle.writer_checks.specs.Tables.{tableOf}
+use Rattle.card.specs.Represents.{taskOf}
 use Rattle.writer.specs.declared.Writing.{Writing}
 use Rattle.writer.specs.Answers.{writingSays}
-use Rattle.tables.specs.Flat.{tableIn, lentIn}
+use Rattle.tables.specs.Flat.{tableFrom, lentFrom}
 
 -- the number of a refusal; none is 0
 unfoldable pub numberOf : Answer ℕ → ℕ
@@ -28,7 +28,7 @@ headOf answer = numberOf answer ∷ lengthOf answer / 256 % 256 ∷ lengthOf ans
 -- the writer's call on the front of a buffer; what is not lent stays
 unfoldable pub encodeFront : Task → ℕ → List ℕ → Call
 encodeFront t lent out =
-    let call = encode (tableOf t) (take lent out) in
+    let call = encode (taskOf t) (take lent out) in
     record { answer = call .answer; buffer = call .buffer ++ drop lent out }
 
 -- what was written, and the whole buffer as the writer leaves it
@@ -38,5 +38,5 @@ pub record EncodesFront (t : Task) (lent : ℕ) (out after : List ℕ) (w : Writ
 
 -- a flat table is answered: the bytes that tell the answer, and the whole buffer
 pub record Answers (flat out after head : List ℕ) : Type 0 where
-  pub head-is : head ≡ headOf (encodeFront (tableIn flat) (lentIn flat (length out)) out .answer)
-  pub buffer : after ≡ encodeFront (tableIn flat) (lentIn flat (length out)) out .buffer
+  pub head-is : head ≡ headOf (encodeFront (tableFrom flat) (lentFrom flat (length out)) out .answer)
+  pub buffer : after ≡ encodeFront (tableFrom flat) (lentFrom flat (length out)) out .buffer

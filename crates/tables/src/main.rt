@@ -20,7 +20,7 @@ ghost use mathlib.Core.Path.{_≡_};
 ghost use Prim.Native.Nat.{_%_, _≤_};
 ghost use lib.ListN.{length};
 ghost use Rattle.writer.specs.Answers.{writingSays};
-ghost use Rattle.tables.specs.Flat.{byteAt, atomAt, atomsAt, schemaAt, aritiesIn, schemasIn, factsIn, tableIn, lentIn};
+ghost use Rattle.tables.specs.Flat.{byteAt, atomFrom, atomsFrom, schemaFrom, aritiesFrom, schemasFrom, factsFrom, tableFrom, lentFrom};
 ghost use Rattle.tables.specs.Front.{numberOf, lengthOf, headOf, EncodesFront, Answers};
 
 // The byte at a place; past the end there is 0.
@@ -41,9 +41,9 @@ fn number_at(bytes: &[u8], at: usize) -> usize
     byte as usize
 }
 
-fn atom_at(bytes: &[u8], at: usize) -> Atom
+fn atom_from(bytes: &[u8], at: usize) -> Atom
     requires { ⌜ at ≤ 6000 ⌝ }
-    ensures { λ r. ⌜ r ≡ atomAt (now (bytes .entry)) at ⌝ }
+    ensures { λ r. ⌜ r ≡ atomFrom (now (bytes .entry)) at ⌝ }
 {
     let predicate = byte_at(bytes, at);
     let first = byte_at(bytes, at + 1);
@@ -57,15 +57,15 @@ fn atom_at(bytes: &[u8], at: usize) -> Atom
     }
 }
 
-fn atoms_at(bytes: &[u8], at: usize) -> AtomList
+fn atoms_from(bytes: &[u8], at: usize) -> AtomList
     requires { ⌜ at ≤ 5000 ⌝ }
-    ensures { λ r. ⌜ r ≡ atomsAt (now (bytes .entry)) at ⌝ }
+    ensures { λ r. ⌜ r ≡ atomsFrom (now (bytes .entry)) at ⌝ }
 {
     let count = number_at(bytes, at);
-    let front = atom_at(bytes, at + 1);
+    let front = atom_from(bytes, at + 1);
     let mut atoms = [front; 8];
     for i in 1..8 {
-        atoms[i] = atom_at(bytes, at + 1 + 4 * i);
+        atoms[i] = atom_from(bytes, at + 1 + 4 * i);
     }
     AtomList {
         count: count,
@@ -73,14 +73,14 @@ fn atoms_at(bytes: &[u8], at: usize) -> AtomList
     }
 }
 
-fn schema_at(bytes: &[u8], at: usize) -> Schema
+fn schema_from(bytes: &[u8], at: usize) -> Schema
     requires { ⌜ at ≤ 4000 ⌝ }
-    ensures { λ r. ⌜ r ≡ schemaAt (now (bytes .entry)) at ⌝ }
+    ensures { λ r. ⌜ r ≡ schemaFrom (now (bytes .entry)) at ⌝ }
 {
     let parameters = number_at(bytes, at);
-    let preconditions = atoms_at(bytes, at + 1);
-    let deletes = atoms_at(bytes, at + 34);
-    let adds = atoms_at(bytes, at + 67);
+    let preconditions = atoms_from(bytes, at + 1);
+    let deletes = atoms_from(bytes, at + 34);
+    let adds = atoms_from(bytes, at + 67);
     Schema {
         parameters: parameters,
         preconditions: preconditions,
@@ -89,8 +89,8 @@ fn schema_at(bytes: &[u8], at: usize) -> Schema
     }
 }
 
-fn arities_in(bytes: &[u8]) -> ArityList
-    ensures { λ r. ⌜ r ≡ aritiesIn (now (bytes .entry)) ⌝ }
+fn arities_from(bytes: &[u8]) -> ArityList
+    ensures { λ r. ⌜ r ≡ aritiesFrom (now (bytes .entry)) ⌝ }
 {
     let count = number_at(bytes, 0);
     let front = byte_at(bytes, 1);
@@ -104,14 +104,14 @@ fn arities_in(bytes: &[u8]) -> ArityList
     }
 }
 
-fn schemas_in(bytes: &[u8]) -> SchemaList
-    ensures { λ r. ⌜ r ≡ schemasIn (now (bytes .entry)) ⌝ }
+fn schemas_from(bytes: &[u8]) -> SchemaList
+    ensures { λ r. ⌜ r ≡ schemasFrom (now (bytes .entry)) ⌝ }
 {
     let count = number_at(bytes, 22);
-    let front = schema_at(bytes, 23);
+    let front = schema_from(bytes, 23);
     let mut schemas = [front; 32];
     for i in 1..32 {
-        schemas[i] = schema_at(bytes, 23 + 100 * i);
+        schemas[i] = schema_from(bytes, 23 + 100 * i);
     }
     SchemaList {
         count: count,
@@ -119,15 +119,15 @@ fn schemas_in(bytes: &[u8]) -> SchemaList
     }
 }
 
-fn facts_in(bytes: &[u8]) -> FactList
-    ensures { λ r. ⌜ r ≡ factsIn (now (bytes .entry)) ⌝ }
+fn facts_from(bytes: &[u8]) -> FactList
+    ensures { λ r. ⌜ r ≡ factsFrom (now (bytes .entry)) ⌝ }
 {
     let high = number_at(bytes, 3223);
     let low = number_at(bytes, 3224);
-    let front = atom_at(bytes, 3225);
+    let front = atom_from(bytes, 3225);
     let mut facts = [front; 512];
     for i in 1..512 {
-        facts[i] = atom_at(bytes, 3225 + 4 * i);
+        facts[i] = atom_from(bytes, 3225 + 4 * i);
     }
     FactList {
         count: high * 256 + low,
@@ -135,13 +135,13 @@ fn facts_in(bytes: &[u8]) -> FactList
     }
 }
 
-fn table_in(bytes: &[u8]) -> Task
-    ensures { λ r. ⌜ r ≡ tableIn (now (bytes .entry)) ⌝ }
+fn table_from(bytes: &[u8]) -> Task
+    ensures { λ r. ⌜ r ≡ tableFrom (now (bytes .entry)) ⌝ }
 {
-    let predicates = arities_in(bytes);
+    let predicates = arities_from(bytes);
     let objects = number_at(bytes, 21);
-    let schemas = schemas_in(bytes);
-    let facts = facts_in(bytes);
+    let schemas = schemas_from(bytes);
+    let facts = facts_from(bytes);
     Task {
         predicates: predicates,
         objects: objects,
@@ -151,8 +151,8 @@ fn table_in(bytes: &[u8]) -> Task
 }
 
 // How many bytes of a buffer are lent: no more than it has.
-fn lent_in(bytes: &[u8], most: usize) -> usize
-    ensures { λ r. ⌜ r ≡ lentIn (now (bytes .entry)) most ⌝ }
+fn lent_from(bytes: &[u8], most: usize) -> usize
+    ensures { λ r. ⌜ r ≡ lentFrom (now (bytes .entry)) most ⌝ }
 {
     let high = number_at(bytes, 5273);
     let middle = number_at(bytes, 5274);
@@ -211,8 +211,8 @@ fn write_to_front(table: Task, lent: usize, out: &mut [u8]) -> Writing
 fn answer(flat: &[u8], out: &mut [u8]) -> [u8; 3]
     ensures { λ r. ⌜ Answers (now (flat .entry)) (now (out .entry)) (now (out .exit)) r ⌝ }
 {
-    let table = table_in(flat);
-    let lent = lent_in(flat, out.len());
+    let table = table_from(flat);
+    let lent = lent_from(flat, out.len());
     head_of(write_to_front(table, lent, out))
 }
 

@@ -1,7 +1,7 @@
 -- The bags of all objects. The loop keeps the rows of the bags over the facts passed.
 use Prim.Native.Nat.{ℕ, _*_, _-_, _≤_, _<_}
 use native.Mathlib.Numerals.{add-one}
-use mathlib.Core.Path.{_≡_, sym, ap, _∙_, subst}
+use mathlib.Core.Path.{sym, ap, _∙_, subst}
 use mathlib.Core.List.{List}
 use lib.ListN.{length, getD, take, length-take}
 use Rattle.card.specs.declared.ArityList.{ArityList}
@@ -12,12 +12,11 @@ use Rattle.model.specs.Transitions.{properties, propertiesFrom, bagOf}
 use Rattle.properties.specs.Represented.{objectBags}
 use Rattle.properties.proofs.Predicates.{Placed, known-placed, sum-arities, atom-asked}
 use Rattle.properties.proofs.AtomCounts.{atoms-next}
-use Rattle.card.proofs.Counts.{objects-few, fact-count, facts-few, facts-inside}
+use Rattle.card.proofs.Counts.{objects-few, fact-count, facts-few}
 use Rattle.properties.proofs.TaskParts.{arities-right, fact-known}
 use Rattle.properties.proofs.Entering.{BagTable}
 use Rattle.properties.proofs.AtomByAtom.{none-entered, atom-fits, atom-counted, all-entered}
 use native.Mathlib.Omega.{arith}
-use borrow.Author.Needs.{needs}
 use Rattle.properties.proofs.object_bags.Statement.{statement}
 use Rattle.properties.proofs.object_bags.Tie as tie
 
@@ -59,10 +58,6 @@ room c =
     let large = entry c .pre .1 in
     omega (arith, clearing c .clear-rows .kept .0)
 
--- the array of arities has twenty places
-twenty : (s : tie.Start Inv-loop μ-loop) → length (s .args .task .predicates .arities) ≡ 20
-twenty s = search needs
-
 -- the fact that a turn takes: its predicate is known
 here : (c : tie.After-fact Inv-loop μ-loop)
     → (getD (entry (in-loop c) .args .task .facts .facts) (in-loop c .loop .i) blankAtom .predicate
@@ -72,8 +67,8 @@ here : (c : tie.After-fact Inv-loop μ-loop)
 here c =
     let loop = in-loop c in
     let pre = entry loop .pre .0 in
-    known-placed _ _ (arities-right _ pre) (twenty (entry loop)) (clearing loop .before .before .before .numbered .ensures .firsts) _ _
-    (fact-known _ pre _ blankAtom (c .before .loop-test .taken))
+    known-placed _ _ (arities-right _ pre) (clearing loop .before .before .before .numbered .ensures .firsts) _ _
+    (fact-known _ pre _ (c .before .loop-test .taken))
 
 -- no more facts are passed than there are
 few : (c : tie.At-loop Inv-loop μ-loop)
@@ -140,7 +135,7 @@ enter-fact-requires c κs =
     let asked = atom-asked _ _ _ _ _ 60 (here (taken read) .1) predicate-is arity-is (omega arith) in (
       (asked .0, asked .1),
       atom-fits (arities-right _ pre) _ _ _ (loop .loop .inv .holds) (room loop) (few loop)
-          (fact-known _ pre _ blankAtom (taken read .before .loop-test .taken)) (here (taken read)) predicate-is arity-is,
+          (fact-known _ pre _ (taken read .before .loop-test .taken)) (here (taken read)) predicate-is arity-is,
     )
 
 add-i : tie.Need-add-i Inv-loop μ-loop
@@ -169,9 +164,9 @@ loop-again c =
           subst
           (λ (l : List model.Atom). BagTable (bagOf (propertiesFrom 0 arities) l) (task .objects) (clearing loop .clear-rows .last .0)
           (called .enter-fact .last .0))
-          (sym (atoms-next arities _ _ _ blankAtom (facts-inside task pre) h)
+          (sym (atoms-next arities _ _ _ h)
           ∙ ap (λ (k : ℕ). take k (factsOf arities (task .facts))) (sym (add-one (loop .loop .i))))
-          (atom-counted (arities-right _ pre) _ _ _ (loop .loop .inv .holds) (room loop) (few loop) (fact-known _ pre _ blankAtom h)
+          (atom-counted (arities-right _ pre) _ _ _ (loop .loop .inv .holds) (room loop) (few loop) (fact-known _ pre _ h)
           (here (taken read)) (read .before .before .wide .ensures .0) (read .wide2 .ensures .0) _ (called .enter-fact .ensures));
     }
 

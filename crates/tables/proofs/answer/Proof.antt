@@ -4,11 +4,11 @@ use borrow.Author.Needs.{needs}
 use Rattle.tables.proofs.answer.Statement.{statement}
 use Rattle.tables.proofs.answer.Tie as tie
 
-table-in-requires : tie.Need-table-in-requires
-table-in-requires c κs = search needs
+table-from-requires : tie.Need-table-from-requires
+table-from-requires c κs = search needs
 
-lent-in-requires : tie.Need-lent-in-requires
-lent-in-requires c κs = search needs
+lent-from-requires : tie.Need-lent-from-requires
+lent-from-requires c κs = search needs
 
 write-to-front-requires : tie.Need-write-to-front-requires
 write-to-front-requires c κs = search needs
@@ -23,14 +23,14 @@ returns : tie.Need-returns
 returns c =
     let written = c .before .before .before in
     let lent = written .before .before in
-    answered (lent .before .table-in .ensures) (lent .lent-in .ensures) (written .write-to-front .ensures) (c .head-of .ensures)
+    answered (lent .before .table-from .ensures) (lent .lent-from .ensures) (written .write-to-front .ensures) (c .head-of .ensures)
 
 pub answer-spec : {M : Type 1} → statement M
 answer-spec =
     tie.close
     (tie.spec
-    table-in-requires
-    lent-in-requires
+    table-from-requires
+    lent-from-requires
     write-to-front-requires
     head-of-requires
     same-length

@@ -10,7 +10,7 @@ use Rattle.model.specs.Text.{text}
 use Rattle.model.proofs.RuleCount.{properties-few}
 use Rattle.card.specs.declared.ArityList.{ArityList}
 use Rattle.card.specs.Represents.{aritiesOf, taskOf}
-use Rattle.card.proofs.Counts.{predicate-count, predicates-few, predicates-inside}
+use Rattle.card.proofs.Counts.{predicate-count, predicates-few}
 use Rattle.properties.proofs.TaskParts.{arities-right}
 use Rattle.text.proofs.Writing.{Remains, remains-as, start, next-fits, next, finish}
 use Rattle.closing.specs.Fixed.{totalFound}
@@ -58,14 +58,14 @@ predicates c = entry (c .before) .args .task .predicates
 inside : (c : tie.In-loop Inv-loop μ-loop) → c .before .loop .first + getD (predicates c .arities) (c .before .loop .p) 0 ≤ 60
 inside c =
     let pre = entry (c .before) .pre .0 in
-    positions-inside _ (arities-right _ pre) (predicates-inside _ pre) _ _ (c .loop-test .taken) (c .before .loop .inv .2)
+    positions-inside _ (arities-right _ pre) _ _ (c .loop-test .taken) (c .before .loop .inv .2)
 
 -- and those of the next one stand after them
 begins : (c : tie.In-loop Inv-loop μ-loop)
     → c .before .loop .first + getD (predicates c .arities) (c .before .loop .p) 0 ≡ sum (take (c .before .loop .p + 1) (aritiesOf (predicates c)))
 begins c =
     let pre = entry (c .before) .pre .0 in
-    begins-next _ (arities-right _ pre) (predicates-inside _ pre) _ _ (c .loop-test .taken) (c .before .loop .inv .2)
+    begins-next _ (arities-right _ pre) _ _ (c .loop-test .taken) (c .before .loop .inv .2)
 
 positive : (n : ℕ) → (n ≡ 0 → ⊥) → 1 ≤ n
 positive n some = omega arith
@@ -103,7 +103,7 @@ loop-again c =
     let l = here .before .loop in
     let pre = entry (here .before) .pre .0 in (
       remains-as (no-line _ _ (l .p) (here .loop-test .taken)
-          (total-none _ (arities-right _ pre) (predicates-inside _ pre) _ _ (here .loop-test .taken) (l .inv .2) _ (c .before .total-of .ensures)
+          (total-none _ (arities-right _ pre) _ _ (here .loop-test .taken) (l .inv .2) _ (c .before .total-of .ensures)
           (c .if1 .taken))) (l .inv .0),
       search needs,
       begins here,
@@ -116,7 +116,7 @@ line : (c : tie.Else1 Inv-loop μ-loop)
 line c =
     let here = in-loop (c .before) in
     let pre = entry (here .before) .pre .0 in
-    total-next _ (arities-right _ pre) (predicates-inside _ pre) _ _ (here .loop-test .taken) (here .before .loop .inv .2) _
+    total-next _ (arities-right _ pre) _ _ (here .loop-test .taken) (here .before .loop .inv .2) _
     (c .before .total-of .ensures) (c .if1 .left) (one-less _ (c .if1 .left))
 
 sub-write-total : tie.Need-sub-write-total Inv-loop μ-loop

@@ -14,8 +14,8 @@ use Rattle.card.proofs.Counts.{objects-few, schemas-few}
 use Rattle.properties.proofs.ParameterRows.{sizesOf, Counted, count-start}
 use Rattle.properties.proofs.TaskParts.{arities-right}
 use Rattle.text.proofs.Writing.{Remains, start, next-fits, next, finish}
+use Rattle.card.proofs.Entries.{noSchema}
 use Rattle.closing.specs.Typing.{MembersGiven}
-use Rattle.closing.proofs.Defaults.{no-schema}
 use Rattle.closing.proofs.SchemaLines.{schemasLeft, TypesGiven, parameters-next, rows-within, rows-few, schema-next, schemas-end}
 use Rattle.closing.proofs.TypedObjects.{spaces-few, lowest-known, members-given}
 use borrow.Author.Needs.{needs}
@@ -101,21 +101,19 @@ members c =
     (members-given _ _ (s .pre .1 .0) (properties-few _ (s .pre .0 .checked)) (objects-few _ (s .pre .0))))
 
 write-schema-types-requires : tie.Need-write-schema-types-requires Inv-loop μ-loop
-unfolding no-schema
 write-schema-types-requires c κs =
     let more = c .before .before .before .before in
     let l = more .before .loop in
     let labels = labelled (more .before) in
     let here = more .loop-test .taken in (
       members labels,
-      (rows-within (given labels) (l .inv .2) no-schema here, next-fits (l .inv .0) (schema-next (given labels) (l .inv .2) no-schema here)),
+      (rows-within (given labels) (l .inv .2) noSchema here, next-fits (l .inv .0) (schema-next (given labels) (l .inv .2) noSchema here)),
     )
 
 add-first : tie.Need-add-first Inv-loop μ-loop
-unfolding no-schema
 add-first c =
     let more = in-loop (c .before .before .before) in
-    omega (arith, rows-few (given (labelled (more .before))) (more .before .loop .inv .2) no-schema (more .loop-test .taken))
+    omega (arith, rows-few (given (labelled (more .before))) (more .before .loop .inv .2) noSchema (more .loop-test .taken))
 
 add-i : tie.Need-add-i Inv-loop μ-loop
 add-i c = omega (arith, schemas-few _ (entry (labelled (in-loop (c .before .before .before) .before)) .pre .0))
@@ -124,16 +122,15 @@ loop-less : tie.Need-loop-less Inv-loop μ-loop
 loop-less c = search needs
 
 loop-again : tie.Need-loop-again Inv-loop μ-loop
-unfolding no-schema
 loop-again c =
     let called = c .before .before .before in
     let more = in-loop called in
     let l = more .before .loop in
     let g = given (labelled (more .before)) in
     let here = more .loop-test .taken in (
-      next (l .inv .0) (schema-next g (l .inv .2) no-schema here) (called .write-schema-types .ensures),
+      next (l .inv .0) (schema-next g (l .inv .2) noSchema here) (called .write-schema-types .ensures),
       search needs,
-      parameters-next g (l .inv .2) no-schema here,
+      parameters-next g (l .inv .2) noSchema here,
     )
 
 add-at : tie.Need-add-at Inv-loop μ-loop

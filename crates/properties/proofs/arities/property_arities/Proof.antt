@@ -1,13 +1,12 @@
 -- The loop's invariant: the table holds the arities of the properties of the first p predicates.
 use Prim.Native.Nat.{ℕ, _+_, _-_, _≤_, _<_}
 use native.Mathlib.Omega.{arith}
-use borrow.Author.Needs.{needs}
 use mathlib.Core.Path.{_≡_, refl, sym, _∙_}
 use mathlib.Core.List.{List}
-use lib.ListN.{length, getD, take}
-use lib.Seq.{getD-take, length-take-le}
+use lib.ListN.{length, getD}
 use Rattle.laws.specs.Lists.{sum}
-use Rattle.card.specs.Represents.{aritiesOf}
+use Rattle.card.specs.Represents.{entries, aritiesOf}
+use Rattle.card.proofs.Entries.{length-entries, getD-entries}
 use Rattle.properties.proofs.Predicates.{sum-arities}
 use Rattle.properties.proofs.ArityTable.{ArityPassed, arities-start, arities-room, arities-next, arities-end}
 use Rattle.properties.proofs.arities.property_arities.Statement.{statement}
@@ -16,7 +15,7 @@ use Rattle.properties.proofs.arities.property_arities.Tie as tie
 record Passed (arities : List ℕ) (n : ℕ) (table : List ℕ) (first p : ℕ) : Type 0 where
   inside : p ≤ n
   sized : length table ≡ 60
-  passed : ArityPassed (take n arities) p first table
+  passed : ArityPassed (entries n 0 arities) p first table
 
 abbrev Inv-loop : tie.InvT-loop
 Inv-loop arities n table₀ first₀ p₀ table first p = Passed arities n table first p
@@ -32,26 +31,24 @@ abbrev in-loop : tie.After-put-arity Inv-loop μ-loop → tie.In-loop Inv-loop �
 in-loop c = c .before .before
 
 -- at most 60 properties
-few : (s : tie.Start Inv-loop μ-loop) → sum (take (s .args .predicates .count) (s .args .predicates .arities)) ≤ 60
+few : (s : tie.Start Inv-loop μ-loop) → sum (entries (s .args .predicates .count) 0 (s .args .predicates .arities)) ≤ 60
 unfolding aritiesOf
 few s = sum-arities _ (s .pre)
 
 -- the number of arities
 counted : (c : tie.At-loop Inv-loop μ-loop)
-    → length (take (entry c .args .predicates .count) (entry c .args .predicates .arities)) ≡ entry c .args .predicates .count
-counted c =
-    let long : length (entry c .args .predicates .arities) ≡ 20 = search needs in
-    length-take-le _ (entry c .args .predicates .arities) (omega (arith, entry c .pre .few))
+    → length (entries (entry c .args .predicates .count) 0 (entry c .args .predicates .arities)) ≡ entry c .args .predicates .count
+counted c = length-entries _ 0 (entry c .args .predicates .arities)
 
 here : (c : tie.In-loop Inv-loop μ-loop)
-    → c .before .loop .p < length (take (entry (c .before) .args .predicates .count) (entry (c .before) .args .predicates .arities))
+    → c .before .loop .p < length (entries (entry (c .before) .args .predicates .count) 0 (entry (c .before) .args .predicates .arities))
 here c = omega (arith, counted (c .before), c .loop-test .taken)
 
 -- the next arity
 arity-is : (c : tie.In-loop Inv-loop μ-loop)
     → getD (entry (c .before) .args .predicates .arities) (c .before .loop .p) 0
-    ≡ getD (take (entry (c .before) .args .predicates .count) (entry (c .before) .args .predicates .arities)) (c .before .loop .p) 0
-arity-is c = sym (getD-take _ _ _ 0 (c .loop-test .taken))
+    ≡ getD (entries (entry (c .before) .args .predicates .count) 0 (entry (c .before) .args .predicates .arities)) (c .before .loop .p) 0
+arity-is c = sym (getD-entries _ 0 _ _ (c .loop-test .taken))
 
 -- has room
 inside : (c : tie.In-loop Inv-loop μ-loop)

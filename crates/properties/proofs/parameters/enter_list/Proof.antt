@@ -4,20 +4,20 @@ use native.Mathlib.Numerals.{add-one}
 use mathlib.Core.Path.{_≡_, sym, ap, _∙_, subst}
 use mathlib.Core.Bool.{true}
 use mathlib.Core.List.{List}
-use lib.ListN.{length, getD, take, length-take, length-map}
+use lib.ListN.{length, getD, take, length-take}
 use Rattle.card.specs.declared.ArityList.{ArityList}
 use Rattle.card.specs.declared.AtomList.{AtomList}
 use Rattle.card.specs.Represents.{aritiesOf, atomOf, atomsOf, blankAtom}
+use Rattle.card.proofs.Entries.{length-atoms}
 use Rattle.model.specs.Card as model
 use Rattle.model.specs.Writer.{known}
 use Rattle.model.specs.Transitions.{propertiesFrom, bagOf}
 use Rattle.properties.specs.Parameters.{bagsOver}
-use Rattle.properties.proofs.Predicates.{Placed, known-placed, sum-arities, atom-asked, length-atoms, atom-known}
+use Rattle.properties.proofs.Predicates.{Placed, known-placed, sum-arities, atom-asked, atom-known}
 use Rattle.properties.proofs.AtomCounts.{atoms-next}
 use Rattle.properties.proofs.Entering.{BagTable}
 use Rattle.properties.proofs.AtomByAtom.{none-entered, atom-fits, atom-counted, all-entered}
 use native.Mathlib.Omega.{arith}
-use borrow.Author.Needs.{needs}
 use Rattle.properties.proofs.parameters.enter_list.Statement.{statement}
 use Rattle.properties.proofs.parameters.enter_list.Tie as tie
 
@@ -51,16 +51,6 @@ taken c = c .before .before .before
 room : (c : tie.At-loop Inv-loop μ-loop) → 60 * entry c .args .parameters ≤ length (clearing c .clear-rows .last .0)
 room c = omega (arith, entry c .pre .1 .1 .1, clearing c .clear-rows .kept .0)
 
--- the array of arities has twenty places, and that of atoms eight
-twenty : (s : tie.Start Inv-loop μ-loop) → length (s .args .t4 .arities) ≡ 20
-twenty s = search needs
-
-eight : (s : tie.Start Inv-loop μ-loop) → length (s .args .t3 .atoms) ≡ 8
-eight s = sym (length-map (s .args .t3 .atoms) _) ∙ s .good .1 .1 .0 .1 .1 .1 .0 .1 .0 .1
-
-inside-array : (s : tie.Start Inv-loop μ-loop) → s .args .t3 .count ≤ length (s .args .t3 .atoms)
-inside-array s = omega (arith, eight s, s .pre .1 .0 .few)
-
 -- the atom that a turn takes is known
 there : (c : tie.After-a Inv-loop μ-loop)
     → known (aritiesOf (entry (in-loop c) .args .t4)) (entry (in-loop c) .args .parameters)
@@ -69,20 +59,19 @@ there : (c : tie.After-a Inv-loop μ-loop)
 unfolding atomsOf
 there c =
     let s = entry (in-loop c) in
-    atom-known _ _ _ (inside-array s) _ (s .pre .1 .0 .atoms-known) _ blankAtom (c .before .loop-test .taken)
+    atom-known _ _ _ _ (s .pre .1 .0 .atoms-known) _ (c .before .loop-test .taken)
 
 here : (c : tie.After-a Inv-loop μ-loop)
     → (getD (entry (in-loop c) .args .t3 .atoms) (in-loop c .loop .i) blankAtom .predicate < length (aritiesOf (entry (in-loop c) .args .t4)))
     × Placed (entry (in-loop c) .args .t4) (entry (in-loop c) .args .t5)
     (getD (entry (in-loop c) .args .t3 .atoms) (in-loop c .loop .i) blankAtom .predicate)
-here c = let s = entry (in-loop c) in known-placed _ _ (s .pre .0) (twenty s) (s .pre .1 .1 .0) _ _ (there c)
+here c = let s = entry (in-loop c) in known-placed _ _ (s .pre .0) (s .pre .1 .1 .0) _ _ (there c)
 
 -- no more atoms are passed than there are
 few : (c : tie.At-loop Inv-loop μ-loop) → length (take (c .loop .i) (atomsOf (aritiesOf (entry c .args .t4)) (entry c .args .t3))) < 255
-unfolding atomsOf
 few c =
     let s = entry c in
-    let all = length-atoms (aritiesOf (s .args .t4)) (s .args .t3 .atoms) (s .args .t3 .count) (inside-array s) in
+    let all = length-atoms (aritiesOf (s .args .t4)) (s .args .t3) in
     omega (arith, all, s .pre .1 .0 .few, length-take (c .loop .i) (atomsOf (aritiesOf (s .args .t4)) (s .args .t3)))
 
 clear-rows-requires : tie.Need-clear-rows-requires Inv-loop μ-loop
@@ -156,7 +145,7 @@ loop-again c =
           subst
           (λ (l : List model.Atom). BagTable (bagOf (propertiesFrom 0 arities) l) (s .args .parameters) (clearing loop .clear-rows .last .0)
           (called .enter-atom .last .0))
-          (sym (atoms-next arities _ _ _ blankAtom (inside-array s) (taken read .before .loop-test .taken))
+          (sym (atoms-next arities _ _ _ (taken read .before .loop-test .taken))
           ∙ ap (λ (k : ℕ). take k (atomsOf arities (s .args .t3))) (sym (add-one (loop .loop .i))))
           (atom-counted (s .pre .0) _ _ _ (loop .loop .inv .holds) (room loop) (few loop) (there (taken read)) (here (taken read))
           (read .before .before .wide .ensures .0) (read .wide2 .ensures .0) _ (called .enter-atom .ensures));
@@ -166,11 +155,11 @@ same-length : tie.Need-same-length Inv-loop μ-loop
 same-length c = c .before .loop .inv .holds .kept ∙ clearing (c .before) .clear-rows .kept .0
 
 returns : tie.Need-returns Inv-loop μ-loop
-unfolding bagsOver atomsOf
+unfolding bagsOver
 returns c =
     let s = entry (c .before) in
     let arities = aritiesOf (s .args .t4) in
-    let many = length-atoms arities (s .args .t3 .atoms) (s .args .t3 .count) (inside-array s) in
+    let many = length-atoms arities (s .args .t3) in
     all-entered _ _ (clearing (c .before) .clear-rows .ensures) (propertiesFrom 0 arities) (atomsOf arities (s .args .t3)) (c .before .loop .i)
     (omega (arith, c .loop-test .left, many)) (c .before .loop .inv .holds)
 

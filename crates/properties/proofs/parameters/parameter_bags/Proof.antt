@@ -13,8 +13,9 @@ use Rattle.card.specs.declared.SchemaList.{SchemaList}
 use Rattle.card.specs.declared.Schema.{Schema}
 use Rattle.card.specs.Represents.{aritiesOf, schemaOf, schemasOf, taskOf}
 use Rattle.card.proofs.Counts.{schema-count, schemas-few}
+use Rattle.card.proofs.Entries.{noSchema}
 use Rattle.properties.specs.Parameters.{parametersIn, parameterBags}
-use Rattle.properties.proofs.TaskParts.{noSchema, arities-right, schema-at, schema-right}
+use Rattle.properties.proofs.TaskParts.{arities-right, schema-at, schema-right}
 use Rattle.properties.proofs.ParameterRows.{sizesOf, together, bagsOf, length-sizes, sizes-long, size-at, as-schema, rows-few}
 use Rattle.properties.proofs.ParameterRows.{Counted, count-start, count-next, count-within, count-end}
 use Rattle.properties.proofs.ParameterRows.{BagsGiven, BagsPassed, bags-start, bags-kept, bags-room, bags-next, bags-end}

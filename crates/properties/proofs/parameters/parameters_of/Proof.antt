@@ -1,25 +1,23 @@
 -- The numbers of parameters are added up, schema by schema.
 use Prim.Native.Nat.{ℕ, _-_, _<_}
 use native.Mathlib.Omega.{arith}
-use mathlib.Core.Path.{_≡_, sym, ap, _∙_}
+use mathlib.Core.Path.{_≡_, refl, sym, ap, _∙_}
 use mathlib.Core.List.{List, map, map-map}
-use lib.ListN.{length, getD, take, length-map}
-use lib.Seq.{getD-take, length-take-le}
+use lib.ListN.{length, getD}
 use Rattle.laws.specs.Lists.{sum}
-use Rattle.laws.proofs.Mapped.{getD-map}
 use Rattle.card.specs.declared.SchemaList.{SchemaList}
 use Rattle.card.specs.declared.Task.{Task}
-use Rattle.card.specs.Represents.{taskOf, schemasOf, schemaOf, aritiesOf}
-use Rattle.card.proofs.Counts.{schemas-few, schemas-inside}
+use Rattle.card.specs.Represents.{blankSchema, entries, taskOf, schemasOf, schemaOf, aritiesOf}
+use Rattle.card.proofs.Entries.{length-table, item-at, default-alike, noSchema}
+use Rattle.card.proofs.Counts.{schemas-few}
 use Rattle.properties.specs.Parameters.{parametersIn}
-use Rattle.properties.proofs.TaskParts.{noSchema}
 use Rattle.properties.proofs.ParameterRows.{rows-few, Counted, count-start, count-next, count-within, count-end}
 use Rattle.properties.proofs.parameters.parameters_of.Statement.{statement}
 use Rattle.properties.proofs.parameters.parameters_of.Tie as tie
 
 -- how many parameters each schema of the code has
 sizes : SchemaList → List ℕ
-sizes l = map (λ s. s .parameters) (take (l .count) (l .schemas))
+sizes l = map (λ s. s .parameters) (entries (l .count) blankSchema (l .schemas))
 
 abbrev Inv-loop : tie.InvT-loop
 Inv-loop schemas m count₀ i₀ count i = Counted (sizes schemas) i count
@@ -38,13 +36,12 @@ in-loop c = c .before .before
 sizes-are : (task : Task) → sum (sizes (task .schemas)) ≡ parametersIn (taskOf task)
 unfolding sizes parametersIn taskOf schemasOf schemaOf
 sizes-are task =
-    ap sum (sym (map-map (λ s. s .parameters) (schemaOf (aritiesOf (task .predicates))) (take (task .schemas .count) (task .schemas .schemas))))
+    ap sum (sym (map-map (λ s. s .parameters) (schemaOf (aritiesOf (task .predicates))) (entries (task .schemas .count) blankSchema (task .schemas .schemas))))
 
 many : (s : tie.Start Inv-loop μ-loop) → length (sizes (s .args .task .schemas)) ≡ s .args .task .schemas .count
 unfolding sizes
 many s =
-    let l = s .args .task .schemas in
-    length-map (take (l .count) (l .schemas)) (λ s. s .parameters) ∙ length-take-le (l .count) (l .schemas) (schemas-inside _ (s .pre))
+    let l = s .args .task .schemas in length-table (λ s. s .parameters) (l .count) blankSchema (l .schemas)
 
 -- the schema that a turn takes
 here : (c : tie.In-loop Inv-loop μ-loop) → c .before .loop .i < length (sizes (entry (c .before) .args .task .schemas))
@@ -53,15 +50,11 @@ here c = omega (arith, c .loop-test .taken, many (entry (c .before)))
 size-is : (c : tie.In-loop Inv-loop μ-loop)
     → getD (entry (c .before) .args .task .schemas .schemas) (c .before .loop .i) noSchema .parameters
     ≡ getD (sizes (entry (c .before) .args .task .schemas)) (c .before .loop .i) 0
-unfolding sizes
+unfolding sizes blankSchema
 size-is c =
-    let s = entry (c .before) in
-    let l = s .args .task .schemas in
-    let h = c .loop-test .taken in
-    sym
-    (getD-map (λ s. s .parameters) (take (l .count) (l .schemas)) (c .before .loop .i) noSchema 0
-    (omega (arith, h, length-take-le (l .count) (l .schemas) (schemas-inside _ (s .pre))))
-    ∙ ap (λ (s : _). s .parameters) (getD-take (l .count) (l .schemas) (c .before .loop .i) noSchema h))
+    let l = entry (c .before) .args .task .schemas in
+    default-alike (λ s. s .parameters) noSchema blankSchema refl (l .schemas) (c .before .loop .i)
+    ∙ sym (item-at (λ s. s .parameters) (l .count) blankSchema (l .schemas) (c .before .loop .i) (c .loop-test .taken))
 
 loop-holds : tie.Need-loop-holds Inv-loop μ-loop
 loop-holds c = count-start _

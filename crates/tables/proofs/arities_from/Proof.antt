@@ -1,11 +1,11 @@
 -- The arities are filled in one by one.
 use Prim.Native.Nat.{_+_, _-_}
 use native.Mathlib.Omega.{arith}
-use Rattle.tables.specs.Flat.{byteAt, aritiesIn}
+use Rattle.tables.specs.Flat.{byteAt, aritiesFrom}
 use Rattle.tables.proofs.Filling.{FilledTo, fill-starts, fill-next, fill-ends}
 use borrow.Author.Needs.{needs}
-use Rattle.tables.proofs.arities_in.Statement.{statement}
-use Rattle.tables.proofs.arities_in.Tie as tie
+use Rattle.tables.proofs.arities_from.Statement.{statement}
+use Rattle.tables.proofs.arities_from.Tie as tie
 
 abbrev Inv-loop : tie.InvT-loop
 Inv-loop bytes count front arities₀ i₀ arities i = FilledTo 20 (λ k. byteAt bytes (1 + k)) i arities
@@ -41,13 +41,13 @@ loop-again : tie.Need-loop-again Inv-loop μ-loop
 loop-again c = fill-next (omega arith) (c .byte-at2 .ensures) (c .before .before .loop .inv)
 
 returns : tie.Need-returns Inv-loop μ-loop
-unfolding aritiesIn
+unfolding aritiesFrom
 returns c =
     let filled = fill-ends (c .loop-test .left) (c .before .loop .inv) in
     rw (c .before .before .before .number-at .ensures .0) rw (filled)
 
-pub arities-in-spec : {M : Type 1} → statement M
-arities-in-spec =
+pub arities-from-spec : {M : Type 1} → statement M
+arities-from-spec =
     tie.close
     (tie.spec
     Inv-loop

@@ -1,8 +1,8 @@
 -- The four bytes.
-use Rattle.tables.specs.Flat.{atomAt}
+use Rattle.tables.specs.Flat.{atomFrom}
 use borrow.Author.Needs.{needs}
-use Rattle.tables.proofs.atom_at.Statement.{statement}
-use Rattle.tables.proofs.atom_at.Tie as tie
+use Rattle.tables.proofs.atom_from.Statement.{statement}
+use Rattle.tables.proofs.atom_from.Tie as tie
 
 byte-at-requires : tie.Need-byte-at-requires
 byte-at-requires c κs = search needs
@@ -26,7 +26,7 @@ byte-at-requires-4 : tie.Need-byte-at-requires-4
 byte-at-requires-4 c κs = search needs
 
 returns : tie.Need-returns
-unfolding atomAt
+unfolding atomFrom
 returns c =
     let third = c in
     let second = third .before in
@@ -34,8 +34,8 @@ returns c =
     let predicate = first .before in
     rw (predicate .byte-at .ensures, first .byte-at2 .ensures, second .byte-at3 .ensures, third .byte-at4 .ensures)
 
-pub atom-at-spec : {M : Type 1} → statement M
-atom-at-spec =
+pub atom-from-spec : {M : Type 1} → statement M
+atom-from-spec =
     tie.close
     (tie.spec
     byte-at-requires
