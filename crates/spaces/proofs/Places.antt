@@ -23,7 +23,7 @@ use Rattle.spaces.specs.SpaceTable.{SpacesOf, groupsOf, lowestOf, spaceA
 
 module _ (t : Task) (k : ℕ) (there : k < length (spaces t)) where
   -- the label at the place
-  label : ℕ
+  pub label : ℕ
   label = getD (labels t) k 0
 
   many : length (spaces t) ≡ length (labels t)
@@ -33,14 +33,14 @@ module _ (t : Task) (k : ℕ) (there : k < length (spaces t)) where
   inside : k < length (labels t)
   inside = subst (λ (n : ℕ). k < n) many there
 
-  space-is : spaceAt t k ≡ spaceWith t (belongs t) label
+  pub space-is : spaceAt t k ≡ spaceWith t (belongs t) label
   unfolding spaceAt spacesWith label
   space-is =
       let none : Space = record { properties = []; rules = []; members = [] } in
       ap (λ (l : List Space). getD l k none) (spaces-alone t) ∙ getD-map (spaceWith t (belongs t)) (labels t) k 0 none inside
 
   -- its properties: those of its label
-  properties-are : spaceAt t k .properties ≡ ownOf (groups t) (length (properties t)) label
+  pub properties-are : spaceAt t k .properties ≡ ownOf (groups t) (length (properties t)) label
   unfolding spaceWith propertiesAt ownOf groups
   properties-are =
       ap (λ (u : Space). u .properties) space-is
@@ -59,7 +59,7 @@ module _ (t : Task) (k : ℕ) (there : k < length (spaces t)) where
       subst (λ (l : List ℕ). distinct l ≡ true) (sym properties-are)
       (distinct-keep (λ d. eqb (getD (groups t) d 0) label) (upTo (length (properties t))) (distinct-upTo (length (properties t))))
 
-  members-are : spaceAt t k .members ≡ keep (λ o. belongs t o label) (upTo (t .objects))
+  pub members-are : spaceAt t k .members ≡ keep (λ o. belongs t o label) (upTo (t .objects))
   unfolding spaceWith
   members-are = ap (λ (u : Space). u .members) space-is
 
