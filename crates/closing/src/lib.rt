@@ -50,7 +50,7 @@ pub fn write_closing(
         Writes (text (closingLines (taskOf task) (analysis (taskOf task)))) (now (out .entry)) (now (out .exit)) r
         ⌝ }
 {
-    let at = write_front(out, task, fixed);
-    let n = write_type_lines(&mut out[at..], task, spaces, preconditions);
-    at + n
+    let front = write_front(out, task, fixed);
+    let types = write_type_lines(&mut out[front..], task, spaces, preconditions);
+    front + types
 }

@@ -170,12 +170,12 @@ pub fn parameters_of(task: Task) -> usize
 {
     let schemas = task.schemas;
     let m = schemas.count;
-    let mut count: usize = 0;
+    let mut parameters: usize = 0;
     let mut i: usize = 0;
     while i < m {
         let schema = schemas.schemas[i];
-        count = count + schema.parameters;
+        parameters = parameters + schema.parameters;
         i = i + 1;
     }
-    count
+    parameters
 }

@@ -20,10 +20,10 @@ sizes : SchemaList → List ℕ
 sizes l = map (λ s. s .parameters) (entries (l .count) blankSchema (l .schemas))
 
 abbrev Inv-loop : tie.InvT-loop
-Inv-loop schemas m count₀ i₀ count i = Counted (sizes schemas) i count
+Inv-loop schemas m parameters₀ i₀ parameters i = Counted (sizes schemas) i parameters
 
 abbrev μ-loop : tie.MeasureT-loop
-μ-loop schemas m count₀ i₀ count i = m - i
+μ-loop schemas m parameters₀ i₀ parameters i = m - i
 
 -- what is given, from the loop on; and the loop, from the schema that a turn takes
 abbrev entry : tie.At-loop Inv-loop μ-loop → tie.Start Inv-loop μ-loop
@@ -65,8 +65,8 @@ mul-schema c = omega (arith, c .loop-test .taken, schemas-few _ (entry (c .befor
 element-copy-out-schema : tie.Need-element-copy-out-schema Inv-loop μ-loop
 element-copy-out-schema c = omega (arith, c .loop-test .taken, schemas-few _ (entry (c .before) .pre))
 
-add-count : tie.Need-add-count Inv-loop μ-loop
-add-count c =
+add-parameters : tie.Need-add-parameters Inv-loop μ-loop
+add-parameters c =
     let turn = in-loop c in
     let s = entry (turn .before) in
     omega (
@@ -99,7 +99,7 @@ parameters-of-spec =
     loop-holds
     mul-schema
     element-copy-out-schema
-    add-count
+    add-parameters
     add-i
     loop-less
     loop-again
