@@ -1,4 +1,3 @@
-pub mod SectionsOf
 pub mod Preparing
-pub mod Writing
-pub mod Cleared
+pub mod Finding
+pub mod Analysing
