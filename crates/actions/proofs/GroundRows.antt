@@ -13,6 +13,7 @@ use borrow.Author.Tests.{ltb-true}
 use Rattle.laws.specs.Lists.{all}
 use Rattle.laws.proofs.Tests.{and-left, and-right}
 use Rattle.laws.proofs.Lists.{all-at}
+use Rattle.laws.proofs.Mapped.{take-map}
 use Rattle.model.specs.Card.{Atom, inRange}
 use Rattle.model.specs.Writer.{known}
 use Rattle.model.specs.Strips.{factBytes, ground}
@@ -58,12 +59,6 @@ fact-row arities f right h x y z first second third =
     ∙ ap rowNumber (row-of (getD arities (f .predicate) 0) (f .predicate) (f .first) (f .second) (f .third)
     (within .0) (within .1))
 
--- a function of each argument, up to the arity
-map-take : (g : ℕ → ℕ) (n : ℕ) (xs : List ℕ) → take n (map g xs) ≡ map g (take n xs)
-map-take g zero xs = refl
-map-take g (suc n) [] = refl
-map-take g (suc n) (x ∷ xs) = ap (λ (l : List ℕ). g x ∷ l) (map-take g n xs)
-
 -- the number of the row of a ground atom
 pub ground-row :
     (arities objects : List ℕ) (a : Kept) → inRange arities ≡ true → a .predicate < length arities → (x y z : ℕ)
@@ -80,7 +75,7 @@ ground-row arities objects a right h x y z first second third =
     (row-of arity (a .predicate) (getD objects (a .first) 0) (getD objects (a .second) 0) (getD objects (a .third) 0)
     (within .0) (within .1)
     ∙ ap (λ (l : List ℕ). factBytes (record { predicate = a .predicate; arguments = l }))
-    (map-take (λ k. getD objects k 0) arity (a .first ∷ a .second ∷ a .third ∷ [])))
+    (take-map arity (λ k. getD objects k 0) (a .first ∷ a .second ∷ a .third ∷ [])))
 
 -- the arguments that count are below the bound
 pub arguments-below :

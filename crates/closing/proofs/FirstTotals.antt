@@ -2,12 +2,12 @@
 use Prim.Native.Nat.{ℕ, zero, suc, _+_, _≤_, _<_}
 use native.Mathlib.Omega.{arith}
 use mathlib.Core.Path.{_≡_, refl, sym, ap, _∙_}
-use mathlib.Core.List.{List, [], _∷_, _++_, map, flatMap, List·Memᴰ, List·Memᴰ·head, List·Memᴰ·tail}
+use mathlib.Core.List.{List, [], _∷_, _++_, map, flatMap}
 use lib.ListN.{length, getD, take, drop, length-map, length-drop}
 use lib.Seq.{getD-take, getD-drop, length-take-le, ext-getD}
 use Rattle.laws.specs.Lists.{sum, upTo}
 use Rattle.laws.proofs.Lists.{length-upTo, getD-upTo, upTo-at}
-use Rattle.laws.proofs.Mapped.{getD-map}
+use Rattle.laws.proofs.Mapped.{getD-map, flatMap-ext}
 use Rattle.laws.proofs.Fronts.{sum-take-next, sum-take-all}
 use Rattle.model.specs.Card.{Task}
 use Rattle.model.specs.Transitions.{properties}
@@ -72,12 +72,6 @@ first-found p f (i ∷ is) = go (f i) (first-found p f is)
         → map (total p) (take 1 (l ++ flatMap f is)) ≡ totalLine p (firstSome (firstAndOne l ∷ map (λ i. firstAndOne (f i)) is))
     go [] rest = rest
     go (n ∷ ns) rest = refl
-
--- functions that agree on a list make the same of it
-flatMap-ext : {A B : Type 0} (f g : A → List B) (xs : List A) → ((x : A) → List·Memᴰ x xs → f x ≡ g x) → flatMap f xs ≡ flatMap g xs
-unfolding flatMap
-flatMap-ext f g [] same = refl
-flatMap-ext f g (x ∷ xs) same = λ i. same x (List·Memᴰ·head refl) i ++ flatMap-ext f g xs (λ y m. same y (List·Memᴰ·tail m)) i
 
 -- the entries of a task's table
 module _ (t : Task) (fixed : List ℕ) (table : fixed ≡ fixedTable t) (few : length (properties t) ≤ 60) where

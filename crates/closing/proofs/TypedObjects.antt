@@ -11,6 +11,7 @@ use Rattle.laws.specs.Lists.{any, all, keep, upTo, sum, member, distinct}
 use Rattle.laws.specs.Bags.{Bag, support}
 use Rattle.laws.proofs.Tests.{by-test}
 use Rattle.laws.proofs.Bags.{support-at}
+use Rattle.laws.proofs.Folds.{fold-ext}
 use Rattle.laws.proofs.Lists.{keep-at, upTo-at, place-of, mem-getD}
 use Rattle.laws.proofs.Mapped.{getD-map, any-map, any-ext, all-ext, map-ext}
 use Rattle.masks.specs.Sets.{maskOf, membersOf, commonOf, allBelow}
@@ -34,7 +35,6 @@ use Rattle.spaces.specs.SpaceTable.{SpacesOf, groupsOf, lowestOf}
 use Rattle.spaces.specs.Steps.{enabledBy}
 use Rattle.card.proofs.Padded.{padded-at, length-padded}
 use Rattle.spaces.proofs.Filling.{padded-past}
-use Rattle.spaces.proofs.RowRules.{fold-ext}
 use Rattle.spaces.proofs.Joins.{masksOf, masks-at, mask-ext, enabled-joins}
 use Rattle.spaces.proofs.TaskSpaces.{groupArray, own-label, labels-known, member-alone}
 use Rattle.closing.specs.Typing.{labelMasks, typedLines, MembersGiven, PreconditionRows}

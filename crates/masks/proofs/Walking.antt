@@ -1,13 +1,13 @@
 -- The members of a mask one by one, the lowest first: what the code computes by trailing zeros, and the mask without its lowest digit 1.
-use Prim.Native.Nat.{ℕ, _+_, _-_, _^_, _≤_, _<_}
+use Prim.Native.Nat.{ℕ, _-_, _^_, _<_}
 use native.Mathlib.Omega.{arith}
-use mathlib.Core.Path.{_≡_, refl, sym, ap, _∙_, subst}
-use mathlib.Core.Bool.{Bool, true, false, cond}
-use mathlib.Core.List.{List, [], _∷_, List·Memᴰ, List·Memᴰ·head, List·Memᴰ·tail}
+use mathlib.Core.Path.{_≡_, refl, sym, ap, _∙_}
+use mathlib.Core.List.{List, [], _∷_}
 use lib.Bits.{bitAnd}
 use lib.Count.{ones, trailingZeros}
-use lib.ListN.{length, getD, drop}
-use Rattle.laws.specs.Lists.{keep, upTo, sum}
+use lib.ListN.{length}
+use Rattle.laws.proofs.Mapped.{keep-none}
+use Rattle.laws.specs.Lists.{keep, upTo}
 use Rattle.masks.specs.Sets.{isMember, membersOf, maskOf, firstMember, withoutFirst}
 use Rattle.masks.proofs.Ascending.{Ascending, ends, ascends, Below, below-first, below-rest}
 use Rattle.masks.proofs.Lowest.{mask-none, mask-smaller, trailing-mask, without-lowest, ones-mask}
@@ -44,10 +44,6 @@ walk {m} some h = walk-list (members-ascend m) (members-below m) refl (sym (mask
 pub no-members : membersOf 0 ≡ []
 unfolding membersOf keep
 no-members = keep-none (isMember 0) (upTo 64) (λ o m. none-member o)
-  where
-    keep-none : (test : ℕ → Bool) (ns : List ℕ) → ((n : ℕ) → List·Memᴰ n ns → test n ≡ false) → keep test ns ≡ []
-    keep-none test [] h = refl
-    keep-none test (n ∷ ns) h = ap (λ (b : Bool). cond b (n ∷ keep test ns) (keep test ns)) (h n (List·Memᴰ·head refl)) ∙ keep-none test ns (λ k m. h k (List·Memᴰ·tail m))
 
 pub size-members : {m : ℕ} → m < 2 ^ 64 → ones m ≡ length (membersOf m)
 size-members {m} h = ap ones (sym (mask-members m h)) ∙ ones-mask (members-ascend m)

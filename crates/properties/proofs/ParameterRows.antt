@@ -1,5 +1,5 @@
 -- The bags of all parameters, written schema by schema into a table: how many there are, and the table after each schema.
-use Prim.Native.Nat.{ℕ, zero, suc, _+_, _-_, _*_, _≤_, _<_}
+use Prim.Native.Nat.{ℕ, suc, _+_, _-_, _*_, _≤_, _<_}
 use native.Mathlib.Numerals.{add-one}
 use native.Mathlib.Omega.{arith}
 use mathlib.Core.Path.{_≡_, refl, sym, ap, _∙_, subst}
@@ -11,7 +11,7 @@ use Rattle.laws.specs.Bags.{Bag}
 use Rattle.laws.proofs.Lists.{flatMap-at, flatMap-append, length-upTo, getD-upTo}
 use Rattle.laws.proofs.Columns.{length-flatMap, sum-at-most}
 use Rattle.laws.proofs.Fronts.{sum-take-next, sum-take-all}
-use Rattle.laws.proofs.Mapped.{getD-map}
+use Rattle.laws.proofs.Mapped.{getD-map, take-map}
 use Rattle.model.specs.Answer.{accepted}
 use Rattle.model.specs.Card.{Atom, Schema, Task}
 use Rattle.model.specs.Writer.{checkTask}
@@ -60,11 +60,6 @@ rows-after xs ys before narrow =
     both e = omega arith
 
 -- ---- the parameters of the schemas passed
-
-take-map : {A B : Type 0} (i : ℕ) (f : A → B) (xs : List A) → take i (map f xs) ≡ map f (take i xs)
-take-map zero f xs = refl
-take-map (suc i) f [] = refl
-take-map (suc i) f (x ∷ xs) = ap (λ (l : List _). f x ∷ l) (take-map i f xs)
 
 -- how many parameters each of some schemas has, how many they have together, and their bags over one list of each schema
 unfoldable pub sizesOf : List Schema → List ℕ

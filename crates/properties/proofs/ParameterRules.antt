@@ -9,7 +9,7 @@ use Rattle.laws.specs.Lists.{upTo}
 use Rattle.laws.specs.Bags.{Bag}
 use Rattle.laws.proofs.Fronts.{map-parts}
 use Rattle.laws.proofs.Lists.{flatMap-at, flatMap-append, mem-getD}
-use Rattle.laws.proofs.Mapped.{getD-map}
+use Rattle.laws.proofs.Mapped.{getD-map, flatMap-map}
 use Rattle.laws.proofs.Places.{by-place}
 use Rattle.model.specs.Answer.{accepted}
 use Rattle.model.specs.Card.{Atom, Schema, Task}
@@ -37,11 +37,6 @@ parametersOf schemas = flatMap (λ s. map (parameterOf s) (upTo (s .parameters))
 -- a function of schema and place as one of parameters
 abbrev each : {B : Type 0} → (Schema → ℕ → B) → Parameter → B
 each f x = f (x .schema) (x .index)
-
-flatMap-map : {A B C : Type 0} (f : B → List C) (g : A → B) (xs : List A) → flatMap f (map g xs) ≡ flatMap (λ x. f (g x)) xs
-unfolding flatMap
-flatMap-map f g [] = refl
-flatMap-map f g (x ∷ xs) = ap (λ (l : List _). f (g x) ++ l) (flatMap-map f g xs)
 
 -- what is made for each parameter, schema by schema
 module _ {B : Type 0} where

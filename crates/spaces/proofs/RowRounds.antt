@@ -2,8 +2,9 @@
 use Prim.Native.Nat.{ℕ, zero, suc, _≤_, _<_}
 use native.Mathlib.Omega.{arith}
 use mathlib.Core.Path.{_≡_, refl, sym, ap, _∙_}
-use mathlib.Core.List.{List, [], _∷_, flatMap, foldl, foldl-append}
+use mathlib.Core.List.{List}
 use Rattle.laws.specs.Lists.{upTo}
+use Rattle.laws.proofs.Folds.{fold-ext, fold-lists}
 use Rattle.laws.proofs.Lists.{length-upTo, upTo-at}
 use Rattle.model.specs.Transitions.{Transition, rulesOf}
 use Rattle.model.specs.Spaces.{moved, uniteAll, grouping}
@@ -14,15 +15,8 @@ use Rattle.properties.proofs.Rows.{length-bagAt}
 use Rattle.spaces.specs.Steps.{unitedBy, groupsIn, roundIn, roundsIn}
 use Rattle.spaces.proofs.Rows.{united-below}
 use Rattle.spaces.proofs.RuleSteps.{gainBy, roundOf, roundsOf}
-use Rattle.spaces.proofs.RowRules.{fold-ext, unite-rules, gain-rules}
+use Rattle.spaces.proofs.RowRules.{unite-rules, gain-rules}
 use Rattle.spaces.proofs.Uniting.{unitings-padded}
-
--- a fold over lists one after the other
-fold-lists : {A B C : Type 0} (f : C → B → C) (g : A → List B) (xs : List A) (c : C)
-    → foldl f c (flatMap g xs) ≡ foldl (λ b x. foldl f b (g x)) c xs
-unfolding flatMap
-fold-lists f g [] c = refl
-fold-lists f g (x ∷ xs) c = foldl-append f c (g x) (flatMap g xs) ∙ fold-lists f g xs (foldl f c (g x))
 
 module _ {size count : ℕ} {p d a : List ℕ} (narrow : size ≤ stride) (room : RoomForBags count p d a) where
   -- each row is in its table

@@ -6,15 +6,16 @@ use native.Mathlib.Numerals.{add-one}
 use native.Mathlib.Omega.{arith}
 use mathlib.Core.Path.{_≡_, refl, sym, ap, _∙_, subst}
 use mathlib.Core.Bool.{Bool, true, false, cond, not}
-use mathlib.Core.List.{List, [], _∷_, _++_, map, foldl, foldl-append, foldl-map, List·Memᴰ, List·Memᴰ·head, List·Memᴰ·tail, Memᴰ·of-map}
+use mathlib.Core.List.{List, [], _∷_, _++_, map, foldl, foldl-append, foldl-map, List·Memᴰ, Memᴰ·of-map}
 use lib.Dec.{eqb, ltb}
 use lib.ListN.{length, getD}
 use borrow.Author.Tests.{eqb-true, eqb-false, ltb-true, ltb-false, lt-ltb, le-ltb, ne-eqb}
-use Rattle.laws.specs.Lists.{keep, from, upTo}
+use Rattle.laws.specs.Lists.{keep, upTo}
 use Rattle.laws.specs.Bags.{Bag, plus, less, meet, isEmpty, single, support}
 use Rattle.laws.proofs.Tests.{by-test, cond-true, cond-false}
 use Rattle.laws.proofs.Lists.{any-at, any-none, upTo-at, upTo-intro}
-use Rattle.laws.proofs.Mapped.{keep-ext}
+use Rattle.laws.proofs.Folds.{fold-still, fold-ext}
+use Rattle.laws.proofs.Mapped.{keep-ext, keep-none}
 use Rattle.laws.proofs.Walks.{keep-one-more, keep-no-more}
 use Rattle.laws.proofs.Bags.{length-plus, length-less, length-meet, getD-plus, getD-less, getD-meet, isEmpty-at, isEmpty-intro}
 use Rattle.laws.proofs.Bags.{less-empty, length-single, getD-single, single-here, support-at}
@@ -23,31 +24,9 @@ use Rattle.model.specs.Spaces.{moved, uniteAll}
 use Rattle.spaces.specs.Steps.{hasStart, changedBy, unitedBy, gainedBy, joinAt, enabledBy, gainRow}
 use Rattle.spaces.proofs.RuleSteps.{joinFirst, gainBy}
 
--- ---- folds
-
-module _ {A B : Type 0} where
-  -- steps that change nothing
-  fold-still : (f : B → A → B) (xs : List A) → ((b : B) (x : A) → List·Memᴰ x xs → f b x ≡ b) → (b : B) → foldl f b xs ≡ b
-  fold-still f [] h b = refl
-  fold-still f (x ∷ xs) h b = ap (λ (c : B). foldl f c xs) (h b x (List·Memᴰ·head refl)) ∙ fold-still f xs (λ c y m. h c y (List·Memᴰ·tail m)) b
-
-  -- steps that do the same
-  pub fold-ext : (f g : B → A → B) (xs : List A) → ((b : B) (x : A) → List·Memᴰ x xs → f b x ≡ g b x) → (b : B) → foldl f b xs ≡ foldl g b xs
-  fold-ext f g [] h b = refl
-  fold-ext f g (x ∷ xs) h b =
-      ap (λ (c : B). foldl f c xs) (h b x (List·Memᴰ·head refl)) ∙ fold-ext f g xs (λ c y m. h c y (List·Memᴰ·tail m)) (g b x)
-
 -- ---- one property
 
--- the numbers below n that are c
-keep-none : (test : ℕ → Bool) (n : ℕ) → ((i : ℕ) → i < n → test i ≡ false) → keep test (upTo n) ≡ []
-unfolding keep upTo from
-keep-none test zero h = refl
-keep-none test (suc n) h =
-    ap (λ (k : ℕ). keep test (upTo k)) (sym (add-one n))
-    ∙ keep-no-more test n (h n (omega arith))
-    ∙ keep-none test n (λ i k. h i (omega arith))
-
+-- the number below n that is c
 keep-only : (c n : ℕ) → c < n → keep (eqb c) (upTo n) ≡ c ∷ []
 keep-only c zero h = absurd (not-suc-le-zero h)
 keep-only c (suc n) h =
@@ -56,7 +35,7 @@ keep-only c (suc n) h =
     (λ e.
     keep-one-more (eqb c) n e
     ∙ ap (λ (l : List ℕ). l ++ (n ∷ []))
-    (keep-none (eqb c) n (λ i k. ne-eqb c i (λ q. let same = eqb-true c n e in omega arith)))
+    (keep-none (eqb c) (upTo n) (λ i m. ne-eqb c i (λ q. let same = eqb-true c n e in let below = upTo-at n i m in omega arith)))
     ∙ ap (λ (k : ℕ). k ∷ []) (sym (eqb-true c n e)))
     (λ e. keep-no-more (eqb c) n e ∙ keep-only c n (let other = eqb-false c n e in omega arith))
 
