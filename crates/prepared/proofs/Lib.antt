@@ -1,3 +1,5 @@
 pub mod Preparing
 pub mod Finding
 pub mod Analysing
+pub mod SectionsOf
+pub mod Cleared
