@@ -1,7 +1,6 @@
 -- A table that the bags P of a task's parameters were written to begins with them.
 use Prim.Native.Nat.{ℕ, _*_, _≤_}
-use native.Mathlib.Omega.{arith}
-use mathlib.Core.Path.{_≡_, sym, ap, _∙_}
+use mathlib.Core.Path.{_≡_, sym, _∙_}
 use mathlib.Core.List.{List}
 use lib.ListN.{length}
 use Rattle.model.specs.Card.{Task}
@@ -9,11 +8,11 @@ use Rattle.model.specs.Transitions.{properties}
 use Rattle.properties.specs.Parameters.{parametersIn, parameterBags, ParameterTables}
 use Rattle.properties.specs.Tables.{stride, bagsIn}
 use Rattle.properties.proofs.ParameterRows.{sizesOf, together, bagsOf, length-bags, bags-sized}
-use Rattle.properties.proofs.RowTables.{Sized, sized-narrow, length-rows-before, rows-before-back}
+use Rattle.properties.proofs.RowTables.{Sized, rows-before-back}
 use Rattle.closing.specs.Typing.{PreconditionRows}
 
 module _ {t : Task} (narrow : length (properties t) ≤ stride) {count : ℕ} {preconditions deletes adds p d a : List ℕ}
-    (written : ParameterTables t count preconditions deletes adds p d a) (room : stride * parametersIn t ≤ length preconditions) where
+    (written : ParameterTables t count preconditions deletes adds p d a) (room : stride * parametersIn t ≤ length p) where
   sized : Sized (length (properties t)) (parameterBags (λ s. s .preconditions) t)
   unfolding parameterBags bagsOf
   sized = bags-sized (properties t) (λ s. s .preconditions) (t .schemas)
@@ -26,14 +25,7 @@ module _ {t : Task} (narrow : length (properties t) ≤ stride) {count : ℕ} {p
   preconditions-held =
       let bags = parameterBags (λ s. s .preconditions) t in
       record {
-        rows-there =
-            omega (
-              arith,
-              room,
-              many,
-              ap length (written .preconditions-are),
-              length-rows-before bags preconditions (sized-narrow (length (properties t)) bags narrow sized) (omega (arith, room, many)),
-            );
+        rows-there = room;
         rows-are =
             (λ i. bagsIn (length (properties t)) (sym many i) (written .preconditions-are i))
             ∙ rows-before-back (length (properties t)) narrow bags sized preconditions;

@@ -3,3 +3,4 @@ pub mod Finding
 pub mod Analysing
 pub mod SectionsOf
 pub mod Cleared
+pub mod Totalling
