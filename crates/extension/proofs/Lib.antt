@@ -10,7 +10,9 @@ pub mod Searching
 pub mod Repeats
 pub mod Judging
 pub mod Replaying
+pub mod Arriving
 pub mod Expanding
+pub mod Trying
 pub mod Exploring
 pub mod Copying
 pub mod Extending
