@@ -1,7 +1,7 @@
 -- A table of the bags of all objects, or of all parameters: an atom entered for each of its arguments counts in each argument's own row.
-use Prim.Native.Nat.{ℕ, zero, suc, _+_, _*_, _≤_, _<_}
-use native.Mathlib.Nat.{le-refl, mul-suc, not-suc-le-zero, le-of-suc-le-suc}
-use native.Mathlib.Numerals.{add-one, add-two}
+use Prim.Native.Nat.{ℕ, zero, suc, _+_, _-_, _*_, _≤_, _<_}
+use native.Mathlib.Nat.{le-refl, mul-suc}
+use native.Mathlib.Numerals.{add-one}
 use native.Mathlib.Omega.{arith}
 use mathlib.Core.Path.{_≡_, refl, sym, ap, _∙_, subst}
 use mathlib.Core.Bool.{Bool, cond}
@@ -177,49 +177,45 @@ rows-behind bags n before other e p =
     ∙ ap (λ (l : List ℕ). rows bags ++ l) p
     ∙ ap (λ (k : ℕ). rows bags ++ drop (60 * k) other) (sym e)
 
--- one, two or three arguments entered one after the other
-module _ (first y z w : ℕ) (table : List ℕ) where
-  pub entered-one : (arity : ℕ) (a : List ℕ) → arity ≡ 1 → a ≡ raised table (60 * y + first)
-      → a ≡ entered first (take arity (y ∷ z ∷ w ∷ [])) table
+-- ---- argument by argument
+
+-- What is left: the first n of these arguments, entered from `first` on in the table so far, make the whole.
+pub record Left (most first n : ℕ) (ys table whole : List ℕ) : Type 0 where
+  pub fits : Enterable most first (take n ys) table
+  pub rest : entered first (take n ys) table ≡ whole
+
+module _ {most first n y : ℕ} {ys table whole : List ℕ} (left : Left most first n (y ∷ ys) table whole) (some : 1 ≤ n) where
+  parted : take n (y ∷ ys) ≡ y ∷ take (n - 1) ys
+  parted = ap (λ (k : ℕ). take k (y ∷ ys)) (one-less some)
+    where
+      one-less : {k : ℕ} → 1 ≤ k → k ≡ suc (k - 1)
+      one-less h = omega arith
+
+  fits-parted : Enterable most first (y ∷ take (n - 1) ys) table
+  fits-parted = subst (λ (l : List ℕ). Enterable most first l table) parted (left .fits)
+
+  -- the next argument has room
+  pub left-here : (60 * y + first < length table) × (getD table (60 * y + first) 0 < most)
+  left-here = enter-here most first y (take (n - 1) ys) table fits-parted
+
+  -- and is entered
+  pub left-next : {next : ℕ} → next ≡ first + 1 → {later : List ℕ} → later ≡ raised table (60 * y + first) → Left most next (n - 1) ys later whole
   unfolding entered
-  entered-one arity a e p = rw e p
+  left-next {next} e {later} l =
+      let step : next ≡ suc first = e ∙ add-one first in
+      record {
+        fits = rw (step, l) (enter-next most first y (take (n - 1) ys) table fits-parted);
+        rest = rw (step, l) (sym (ap (λ (zs : List ℕ). entered first zs table) parted) ∙ left .rest);
+      }
 
-  pub entered-two : (arity : ℕ) (a b : List ℕ) → arity ≡ 2 → a ≡ raised table (60 * y + first) → b ≡ raised a (60 * z + (first + 1))
-      → b ≡ entered first (take arity (y ∷ z ∷ w ∷ [])) table
-  unfolding entered
-  entered-two arity a b e p q =
-      rw e (q ∙ ap (λ (n : ℕ). raised a (60 * z + n)) (add-one first) ∙ ap (λ (l : List ℕ). raised l (60 * z + suc first)) p)
+-- the place of the third argument
+pub two-on : (first : ℕ) → first + 2 ≡ first + 1 + 1
+two-on first = omega arith
 
-  pub entered-three : (arity : ℕ) (a b c : List ℕ) → arity ≡ 3 → a ≡ raised table (60 * y + first) → b ≡ raised a (60 * z + (first + 1))
-      → c ≡ raised b (60 * w + (first + 2)) → c ≡ entered first (take arity (y ∷ z ∷ w ∷ [])) table
-  unfolding entered
-  entered-three arity a b c e p q r =
-      rw e
-      (r ∙ ap (λ (n : ℕ). raised b (60 * w + n)) (add-two first)
-      ∙ ap (λ (l : List ℕ). raised l (60 * w + suc (suc first)))
-      (q ∙ ap (λ (n : ℕ). raised a (60 * z + n)) (add-one first) ∙ ap (λ (l : List ℕ). raised l (60 * z + suc first)) p))
-
--- each has room when its turn comes
-module _ (most first y z w : ℕ) (table : List ℕ) where
-  pub enter-one : (arity : ℕ) → 1 ≤ arity → Enterable most first (take arity (y ∷ z ∷ w ∷ [])) table
-      → (60 * y + first < length table) × (getD table (60 * y + first) 0 < most)
-  enter-one zero h fits = absurd (not-suc-le-zero h)
-  enter-one (suc arity) h fits = enter-here most first y (take arity (z ∷ w ∷ [])) table fits
-
-  pub enter-two : (arity : ℕ) → 2 ≤ arity → Enterable most first (take arity (y ∷ z ∷ w ∷ [])) table
-      → (a : List ℕ) → a ≡ raised table (60 * y + first) → (60 * z + (first + 1) < length a) × (getD a (60 * z + (first + 1)) 0 < most)
-  enter-two zero h fits a e = absurd (not-suc-le-zero h)
-  enter-two (suc zero) h fits a e = absurd (not-suc-le-zero (le-of-suc-le-suc h))
-  enter-two (suc (suc arity)) h fits a e =
-      rw (e, add-one)
-      (enter-here most (suc first) z (take arity (w ∷ [])) (raised table (60 * y + first))
-      (enter-next most first y (z ∷ take arity (w ∷ [])) table fits))
-
-  pub enter-three : (arity : ℕ) → arity ≡ 3 → Enterable most first (take arity (y ∷ z ∷ w ∷ [])) table
-      → (a b : List ℕ) → a ≡ raised table (60 * y + first) → b ≡ raised a (60 * z + (first + 1))
-      → (60 * w + (first + 2) < length b) × (getD b (60 * w + (first + 2)) 0 < most)
-  enter-three arity k fits a b e f =
-      let whole : Enterable most first (y ∷ z ∷ w ∷ []) table = subst (λ (n : ℕ). Enterable most first (take n (y ∷ z ∷ w ∷ [])) table) k fits in
-      rw (f, e, add-one, add-two)
-      (enter-here most (suc (suc first)) w [] (raised (raised table (60 * y + first)) (60 * z + suc first))
-      (enter-next most (suc first) z (w ∷ []) (raised table (60 * y + first)) (enter-next most first y (z ∷ w ∷ []) table whole)))
+-- after the last the table is the whole
+pub left-end : {most first n : ℕ} {ys table whole : List ℕ} → Left most first n ys table whole → n ≤ 0 → table ≡ whole
+unfolding entered
+left-end {first = first} {ys = ys} {table = table} left h = ap (λ (k : ℕ). entered first (take k ys) table) (none h) ∙ left .rest
+  where
+    none : {k : ℕ} → k ≤ 0 → 0 ≡ k
+    none p = omega arith

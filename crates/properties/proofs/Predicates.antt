@@ -91,13 +91,9 @@ atom-known arities atoms n bound all-known i h =
     all-at (known arities bound) (map (atomOf arities) (entries n blankAtom atoms)) all-known (atomOf arities (getD atoms i blankAtom))
     (item-in (atomOf arities) n blankAtom atoms i h)
 
--- what counting an atom asks, of a predicate and an arity that were read
-pub atom-asked : (predicates : ArityList) (firsts : List ℕ) (p q arity : ℕ) (size : ℕ) → Placed predicates firsts p → q ≡ p
-    → arity ≡ getD (predicates .arities) q 0 → 60 ≤ size → (1 ≤ arity) × (arity ≤ 3) × (getD firsts q 0 + arity ≤ size)
-atom-asked predicates firsts p q arity size r e f h =
-    let g : arity ≡ getD (predicates .arities) p 0 = f ∙ ap (λ (k : ℕ). getD (predicates .arities) k 0) e in
-    let first : getD firsts q 0 ≡ getD firsts p 0 = ap (λ (k : ℕ). getD firsts k 0) e in
-    let low = r .arity-low in
-    let high = r .arity-high in
-    let room = r .room in
-    (omega arith, omega arith, omega arith)
+-- an arity that was read is 1, 2 or 3
+pub arity-asked : {predicates : ArityList} {firsts : List ℕ} {p q arity : ℕ} → Placed predicates firsts p → q ≡ p
+    → arity ≡ getD (predicates .arities) q 0 → (1 ≤ arity) × (arity ≤ 3)
+arity-asked {predicates} r e f =
+    let same = f ∙ ap (λ (k : ℕ). getD (predicates .arities) k 0) e in
+    (omega (arith, same, r .arity-low), omega (arith, same, r .arity-high))

@@ -16,8 +16,8 @@ pub record Joining (groups : List ℕ) (those : ℕ) (test : ℕ → Bool) (size
   pub sized : length masks ≡ length before
   pub rest : foldl (joinAt groups those) masks (keep test (left c size)) ≡ foldl (joinAt groups those) before (keep test (upTo size))
 
-pub join-start : (groups : List ℕ) (those : ℕ) (test : ℕ → Bool) (size : ℕ) (before : List ℕ) → Joining groups those test size before 0 before
-join-start groups those test size before =
+pub join-start : {groups : List ℕ} {those : ℕ} {test : ℕ → Bool} {size : ℕ} {before : List ℕ} → Joining groups those test size before 0 before
+join-start {groups} {those} {test} {size} {before} =
     record { inside = zero-le; sized = refl; rest = pick-starts (joinAt groups those) _ size test before refl }
 
 module _ {groups : List ℕ} {those : ℕ} {test : ℕ → Bool} {size : ℕ} {before : List ℕ} {c : ℕ} {masks : List ℕ}

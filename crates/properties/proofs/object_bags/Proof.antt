@@ -10,7 +10,7 @@ use Rattle.card.specs.Represents.{aritiesOf, factsOf, taskOf, blankAtom}
 use Rattle.model.specs.Card as model
 use Rattle.model.specs.Transitions.{properties, propertiesFrom, bagOf}
 use Rattle.properties.specs.Represented.{objectBags}
-use Rattle.properties.proofs.Predicates.{Placed, known-placed, sum-arities, atom-asked}
+use Rattle.properties.proofs.Predicates.{Placed, known-placed, sum-arities, arity-asked}
 use Rattle.properties.proofs.AtomCounts.{atoms-next}
 use Rattle.card.proofs.Counts.{objects-few, fact-count, facts-few}
 use Rattle.properties.proofs.TaskParts.{arities-right, fact-known}
@@ -131,9 +131,8 @@ enter-fact-requires c κs =
     let loop = in-loop (taken read) in
     let pre = entry loop .pre .0 in
     let predicate-is = read .before .before .wide .ensures .0 in
-    let arity-is = read .wide2 .ensures .0 in
-    let asked = atom-asked _ _ _ _ _ 60 (here (taken read) .1) predicate-is arity-is (omega arith) in (
-      (asked .0, asked .1),
+    let arity-is = read .wide2 .ensures .0 in (
+      arity-asked (here (taken read) .1) predicate-is arity-is,
       atom-fits (arities-right _ pre) _ _ _ (loop .loop .inv .holds) (room loop) (few loop)
           (fact-known _ pre _ (taken read .before .loop-test .taken)) (here (taken read)) predicate-is arity-is,
     )

@@ -13,7 +13,7 @@ use Rattle.model.specs.Card as model
 use Rattle.model.specs.Writer.{known}
 use Rattle.model.specs.Transitions.{propertiesFrom, bagOf}
 use Rattle.properties.specs.Parameters.{bagsOver}
-use Rattle.properties.proofs.Predicates.{Placed, known-placed, sum-arities, atom-asked, atom-known}
+use Rattle.properties.proofs.Predicates.{Placed, known-placed, sum-arities, arity-asked, atom-known}
 use Rattle.properties.proofs.AtomCounts.{atoms-next}
 use Rattle.properties.proofs.Entering.{BagTable}
 use Rattle.properties.proofs.AtomByAtom.{none-entered, atom-fits, atom-counted, all-entered}
@@ -115,9 +115,8 @@ enter-atom-requires c κs =
     let read = c .before in
     let loop = in-loop (taken read) in
     let predicate-is = read .before .before .wide .ensures .0 in
-    let arity-is = read .wide2 .ensures .0 in
-    let asked = atom-asked _ _ _ _ _ 60 (here (taken read) .1) predicate-is arity-is (omega arith) in (
-      (asked .0, asked .1),
+    let arity-is = read .wide2 .ensures .0 in (
+      arity-asked (here (taken read) .1) predicate-is arity-is,
       atom-fits (entry loop .pre .0) _ _ _ (loop .loop .inv .holds) (room loop) (few loop) (there (taken read)) (here (taken read)) predicate-is
           arity-is,
     )

@@ -30,7 +30,7 @@ single-requires : tie.Need-single-requires Inv-loop μ-loop
 single-requires c κs = c .before .before .before .pre .1 .0
 
 loop-holds : tie.Need-loop-holds Inv-loop μ-loop
-loop-holds c = join-start _ _ _ _ _
+loop-holds c = join-start
 
 add-if1 : tie.Need-add-if1 Inv-loop μ-loop
 add-if1 c = omega arith
