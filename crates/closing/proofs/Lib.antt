@@ -8,5 +8,4 @@ pub mod SchemaLines
 pub mod FirstTotals
 pub mod TotalSteps
 pub mod Sizes
-pub mod OneTotal
 pub mod RowsHeld

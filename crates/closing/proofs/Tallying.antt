@@ -3,9 +3,9 @@ use Prim.Native.Nat.{ℕ, suc, _+_, _≤_, _<_}
 use native.Mathlib.Nat.{zero-add}
 use native.Mathlib.Numerals.{add-one}
 use native.Mathlib.Omega.{arith}
-use mathlib.Core.Path.{_≡_, refl, sym, ap, _∙_}
-use mathlib.Core.Bool.{Bool, true, false, cond}
-use mathlib.Core.List.{List, [], _∷_, map}
+use mathlib.Core.Path.{_≡_, sym, ap, _∙_}
+use mathlib.Core.Bool.{Bool, true, false}
+use mathlib.Core.List.{List, [], _∷_}
 use lib.ListN.{length, getD, take, drop, drop-of-length-le}
 use lib.Seq.{drop-cons, getD-take, length-take-le}
 use Rattle.laws.specs.Lists.{all, count}
@@ -22,12 +22,6 @@ module _ {A : Type 0} (size : ℕ) (xs : List A) (within : size ≤ length xs) (
   -- and none at the end
   pub entry-none : size ≤ i → drop i (take size xs) ≡ []
   entry-none h = drop-of-length-le (take size xs) {i = i} (omega (arith, length-take-le size xs within))
-
--- a test counted over a mapped list
-pub count-map : {A B : Type 0} (f : A → B) (test : B → Bool) (xs : List A) → count test (map f xs) ≡ count (λ x. test (f x)) xs
-unfolding count
-count-map f test [] = refl
-count-map f test (x ∷ xs) = ap (λ (n : ℕ). cond (test (f x)) (suc n) n) (count-map f test xs)
 
 -- So many of the entries before place i pass the test, and with those left they are all.
 pub record Tally {A : Type 0} (test : A → Bool) (size : ℕ) (blank : A) (xs : List A) (n i : ℕ) : Type 0 where

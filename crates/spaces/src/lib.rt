@@ -1,4 +1,4 @@
-// Spaces: which properties share one, and which objects are members, as masks of 64 bits, one bit an object.
+// Spaces: which properties share one, and which objects are members, as masks.
 pub mod enabling;
 mod grouping;
 mod members;

@@ -4,10 +4,11 @@ use native.Mathlib.Omega.{arith}
 use mathlib.Core.Path.{sym, _∙_}
 use mathlib.Core.Logic.{⊎-elim}
 use lib.Dec.{eqb}
+use Rattle.laws.proofs.Counting.{count-map}
 use Rattle.card.specs.Represents.{atomOf, factsOf, blankAtom}
 use Rattle.model.specs.Lines.{ofPredicate}
 use borrow.Author.Tests.{eq-eqb, ne-eqb}
-use Rattle.closing.proofs.Tallying.{Tally, tally-start, tally-passes, tally-fails, tally-end, count-map}
+use Rattle.closing.proofs.Tallying.{Tally, tally-start, tally-passes, tally-fails, tally-end}
 use Rattle.closing.proofs.ceilings.facts_of.Statement.{statement}
 use Rattle.closing.proofs.ceilings.facts_of.Tie as tie
 
@@ -50,7 +51,7 @@ returns : tie.Need-returns Inv-loop μ-loop
 unfolding ofPredicate factsOf atomOf
 returns c arities =
     tally-end (c .before .loop .inv) (c .loop-test .left) ∙ sym
-    (count-map (atomOf arities) (λ a. eqb _ (a .predicate)) _)
+    (count-map (λ a. eqb _ (a .predicate)) (atomOf arities) _)
 
 pub facts-of-spec : {M : Type 1} → statement M
 facts-of-spec =
