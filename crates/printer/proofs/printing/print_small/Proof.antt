@@ -1,10 +1,11 @@
--- Tables of the sizes that are asked for; the buffer has its size by its type.
+-- Tables of 32 rows have room for a small task.
 use native.Mathlib.Omega.{arith}
-use Rattle.rules.proofs.RuleRoom.{at-most-few}
+use borrow.Author.Needs.{needs}
 use Rattle.prepared.proofs.Cleared.{cleared-length, cleared-long, cleared-room}
-use Rattle.printer.proofs.Cleared.{cleared-lent}
-use Rattle.printer.proofs.printing.print_listing.Statement.{statement}
-use Rattle.printer.proofs.printing.print_listing.Tie as tie
+use Rattle.prepared.specs.Prepared.{rowsAtMost}
+use Rattle.printer.proofs.Tables.{cleared-lent}
+use Rattle.printer.proofs.printing.print_small.Statement.{statement}
+use Rattle.printer.proofs.printing.print_small.Tie as tie
 
 slice-aggregate-print-with : tie.Need-slice-aggregate-print-with
 slice-aggregate-print-with c = cleared-length _
@@ -24,23 +25,26 @@ slice-aggregate-print-with-5 c = cleared-length _
 slice-aggregate-print-with-6 : tie.Need-slice-aggregate-print-with-6
 slice-aggregate-print-with-6 c = cleared-length _
 
+slice-aggregate-print-with-7 : tie.Need-slice-aggregate-print-with-7
+slice-aggregate-print-with-7 c = cleared-length _
+
 print-with-requires : tie.Need-print-with-requires
+unfolding rowsAtMost
 print-with-requires c κs =
-    let represented = c .before .before .before .before .before .before .before .pre in (
-      represented,
-      (
-        cleared-room 960 57600 (omega arith) (at-most-few _ (represented .checked)),
-        (cleared-long 3840 3840 (omega arith), cleared-lent 57600 _ (omega arith) (omega arith)),
-      ),
+    let pre = c .before .before .before .before .before .before .before .before .before .pre in
+    let few = pre .1 .0 in (
+      pre .0,
+      (cleared-room 1920 (omega arith), (cleared-long 3840 3840 (omega arith), cleared-lent 1920 (omega arith) (pre .1 .1))),
     )
 
-returns : tie.Need-returns
-returns c =
-    let printed = c .before .before .before .before .before .before .print-with .ensures .1 in
-    (printed .0, printed .1 .buffer)
+same-length : tie.Need-same-length
+same-length c = search needs
 
-pub print-listing-spec : {M : Type 1} → statement M
-print-listing-spec =
+returns : tie.Need-returns
+returns c = c .before .before .before .before .before .before .before .before .before .print-with .ensures .1
+
+pub print-small-spec : {M : Type 1} → statement M
+print-small-spec =
     tie.close
     (tie.spec
     slice-aggregate-print-with
@@ -49,5 +53,7 @@ print-listing-spec =
     slice-aggregate-print-with-4
     slice-aggregate-print-with-5
     slice-aggregate-print-with-6
+    slice-aggregate-print-with-7
     print-with-requires
+    same-length
     returns)
