@@ -39,7 +39,9 @@ pub fn rows_at_most(task: Task) -> usize
     ensures { λ r. ⌜ r ≡ rowsAtMost (taskOf task) ⌝ }
 {
     let numbers = numbered(task.predicates);
-    parameters_of(task) + numbers.count
+    let properties = numbers.count;
+    let parameters = parameters_of(task);
+    parameters + properties
 }
 
 // Fills the tables of a task: the bags of its parameters in three, the initial bags of its objects in the fourth.

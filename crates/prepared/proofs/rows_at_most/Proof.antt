@@ -19,20 +19,20 @@ parameters-of-requires c κs = search needs
 
 add-result : tie.Need-add-result
 add-result c =
-    let s = c .before .before .before in
+    let s = c .before .before in
     omega (
       arith,
-      c .before .parameters-of .ensures,
+      c .parameters-of .ensures,
       rows-few _ (s .pre .checked),
-      properties-counted (s .args .task) (c .before .before .numbered .ensures),
+      properties-counted (s .args .task) (c .before .numbered .ensures),
       properties-few _ (s .pre .checked),
     )
 
 returns : tie.Need-returns
 unfolding rowsAtMost
 returns c =
-    let s = c .before .before .before in
-    ap₂ _+_ (c .before .parameters-of .ensures) (properties-counted (s .args .task) (c .before .before .numbered .ensures))
+    let s = c .before .before in
+    ap₂ _+_ (c .parameters-of .ensures) (properties-counted (s .args .task) (c .before .numbered .ensures))
 
 pub rows-at-most-spec : {M : Type 1} → statement M
 rows-at-most-spec =
