@@ -34,8 +34,8 @@ pub struct Printing {
     pub written: bool,
 }
 
-// Writes the section of a space from byte 0 of `out`, enters the space's totals, prints the section from there, and answers whether it was
-// written whole.
+// Analyses a space, enters its totals, writes its section from byte 0 of `out`, prints it from there, and answers whether it was written
+// whole.
 fn print_space(
     number: usize,
     prepared: Prepared,
@@ -81,7 +81,7 @@ fn print_space(
     io::write_all(STDOUT_FILENO, &out[0..length])
 }
 
-// The closing section, in the same way.
+// Writes the closing section and prints it, in the same way.
 fn print_closing(
     task: Task,
     spaces: Spaces,

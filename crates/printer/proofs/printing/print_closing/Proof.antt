@@ -32,11 +32,4 @@ returns c = one-turn _ (c .before .before .before .before .before .write-closing
 pub print-closing-spec : {M : Type 1} → statement M
 print-closing-spec =
     tie.close
-    (tie.spec
-    write-closing-requires
-    sub-write-all
-    part-write-all-start
-    part-write-all-end
-    write-all-requires
-    same-length
-    returns)
+    (tie.spec write-closing-requires sub-write-all part-write-all-start part-write-all-end write-all-requires same-length returns)

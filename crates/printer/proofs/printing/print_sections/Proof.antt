@@ -142,25 +142,6 @@ returns-2 c =
 pub print-sections-spec : {M : Type 1} → statement M
 print-sections-spec =
     tie.close
-    (tie.spec
-    Inv-loop
-    μ-loop
-    loop-holds
-    slice-aggregate-print-space
-    print-space-requires
-    add-number
-    same-length
-    same-length-2
-    same-length-3
-    same-length-4
-    returns
-    loop-less
-    loop-again
-    slice-aggregate-print-closing
-    print-closing-requires
-    add-t32
-    same-length-5
-    same-length-6
-    same-length-7
-    same-length-8
-    returns-2)
+    (tie.spec Inv-loop μ-loop loop-holds slice-aggregate-print-space print-space-requires add-number same-length same-length-2 same-length-3
+    same-length-4 returns loop-less loop-again slice-aggregate-print-closing print-closing-requires add-t32 same-length-5 same-length-6 same-length-7
+    same-length-8 returns-2)

@@ -46,14 +46,5 @@ returns c = c .before .before .before .before .before .before .before .before .b
 pub print-small-spec : {M : Type 1} → statement M
 print-small-spec =
     tie.close
-    (tie.spec
-    slice-aggregate-print-with
-    slice-aggregate-print-with-2
-    slice-aggregate-print-with-3
-    slice-aggregate-print-with-4
-    slice-aggregate-print-with-5
-    slice-aggregate-print-with-6
-    slice-aggregate-print-with-7
-    print-with-requires
-    same-length
-    returns)
+    (tie.spec slice-aggregate-print-with slice-aggregate-print-with-2 slice-aggregate-print-with-3 slice-aggregate-print-with-4
+    slice-aggregate-print-with-5 slice-aggregate-print-with-6 slice-aggregate-print-with-7 print-with-requires same-length returns)

@@ -74,17 +74,5 @@ returns c =
 pub print-space-spec : {M : Type 1} → statement M
 print-space-spec =
     tie.close
-    (tie.spec
-    analyse-space-requires
-    enter-space-requires
-    write-space-section-requires
-    sub-write-all
-    part-write-all-start
-    part-write-all-end
-    write-all-requires
-    same-length
-    same-length-2
-    same-length-3
-    same-length-4
-    same-length-5
-    returns)
+    (tie.spec analyse-space-requires enter-space-requires write-space-section-requires sub-write-all part-write-all-start part-write-all-end
+    write-all-requires same-length same-length-2 same-length-3 same-length-4 same-length-5 returns)

@@ -4,6 +4,10 @@ use Rattle.printer.proofs.Tables.{filled, given-then, lent-then}
 use Rattle.printer.proofs.printing.print_with.Statement.{statement}
 use Rattle.printer.proofs.printing.print_with.Tie as tie
 
+-- the call of `prepare`, from the one that prints
+abbrev preparing : tie.After-print-sections → tie.After-prepare
+preparing c = c .before .before .before .before .before .before .before .before .before .before .before .before .before .before .before .before .before
+
 prepare-requires : tie.Need-prepare-requires
 prepare-requires c κs = search needs
 
@@ -45,20 +49,12 @@ same-length-8 : tie.Need-same-length-8
 same-length-8 c = search needs
 
 returns : tie.Need-returns
-returns c = (filled (c .before .before .before .before .before .before .before .before .before .before .before .before .before .before .before .before .before .before .before .before .before .before .before .before .before .prepare .ensures), c .before .before .before .before .before .before .before .before .print-sections .ensures)
+returns c =
+    let printed = c .before .before .before .before .before .before .before .before in
+    (filled (preparing printed .prepare .ensures), printed .print-sections .ensures)
 
 pub print-with-spec : {M : Type 1} → statement M
 print-with-spec =
     tie.close
-    (tie.spec
-    prepare-requires
-    print-sections-requires
-    same-length
-    same-length-2
-    same-length-3
-    same-length-4
-    same-length-5
-    same-length-6
-    same-length-7
-    same-length-8
-    returns)
+    (tie.spec prepare-requires print-sections-requires same-length same-length-2 same-length-3 same-length-4 same-length-5 same-length-6 same-length-7
+    same-length-8 returns)
