@@ -3,22 +3,24 @@ use Prim.Native.Nat.{ℕ, zero, suc, _+_, _-_, _≤_, _<_}
 use native.Mathlib.Nat.{not-suc-le-zero}
 use native.Mathlib.Omega.{arith}
 use native.Mathlib.Numerals.{add-one}
-use mathlib.Core.Path.{_≡_, refl, sym, ap, _∙_, subst}
+use mathlib.Core.Path.{_≡_, refl, sym, ap, _∙_}
 use mathlib.Core.Bool.{true}
-use mathlib.Core.List.{List, [], _∷_, _++_, map, map-append, map-map, append-assoc, List·Memᴰ, Memᴰ·map}
+use mathlib.Core.List.{List, [], _∷_, _++_, map, map-append, map-map, append-assoc}
 use lib.Dec.{ltb}
 use lib.ListN.{length, getD, take, drop, set, replicate, length-append, length-map}
-use lib.Seq.{take-suc, getD-take, set-at, length-take-le}
+use lib.Seq.{take-suc, set-at, length-take-le}
 use borrow.Author.Tests.{ltb-true}
 use Rattle.laws.specs.Lists.{all}
 use Rattle.laws.proofs.Tests.{and-left, and-right}
-use Rattle.laws.proofs.Lists.{all-at, mem-getD}
-use Rattle.model.specs.Card.{inRange}
+use Rattle.laws.proofs.Lists.{all-at}
+use Rattle.laws.proofs.Mapped.{take-map}
+use Rattle.model.specs.Card.{Atom, inRange}
 use Rattle.model.specs.Writer.{known}
 use Rattle.model.specs.Strips.{factBytes, ground}
 use Rattle.model.proofs.Order.{known-predicate, known-arguments}
 use Rattle.model.proofs.Checked.{arity-within}
 use Rattle.card.specs.Represents.{atomOf, atomsOf, factsOf, blankAtom}
+use Rattle.card.proofs.Entries.{item-in, atoms-within, facts-within}
 use Rattle.card.specs.declared.Atom.{Atom as Kept}
 use Rattle.card.specs.declared.AtomList.{AtomList}
 use Rattle.card.specs.declared.FactList.{FactList}
@@ -57,12 +59,6 @@ fact-row arities f right h x y z first second third =
     ∙ ap rowNumber (row-of (getD arities (f .predicate) 0) (f .predicate) (f .first) (f .second) (f .third)
     (within .0) (within .1))
 
--- a function of each argument, up to the arity
-map-take : (g : ℕ → ℕ) (n : ℕ) (xs : List ℕ) → take n (map g xs) ≡ map g (take n xs)
-map-take g zero xs = refl
-map-take g (suc n) [] = refl
-map-take g (suc n) (x ∷ xs) = ap (λ (l : List ℕ). g x ∷ l) (map-take g n xs)
-
 -- the number of the row of a ground atom
 pub ground-row :
     (arities objects : List ℕ) (a : Kept) → inRange arities ≡ true → a .predicate < length arities → (x y z : ℕ)
@@ -79,7 +75,7 @@ ground-row arities objects a right h x y z first second third =
     (row-of arity (a .predicate) (getD objects (a .first) 0) (getD objects (a .second) 0) (getD objects (a .third) 0)
     (within .0) (within .1)
     ∙ ap (λ (l : List ℕ). factBytes (record { predicate = a .predicate; arguments = l }))
-    (map-take (λ k. getD objects k 0) arity (a .first ∷ a .second ∷ a .third ∷ [])))
+    (take-map arity (λ k. getD objects k 0) (a .first ∷ a .second ∷ a .third ∷ [])))
 
 -- the arguments that count are below the bound
 pub arguments-below :
@@ -142,13 +138,8 @@ module _ (arities objects : List ℕ) (l : AtomList) (bound : Bound arities obje
   pub atom-known : (i : ℕ) → i < l .count → known arities (length objects) (atomOf arities (getD (l .atoms) i blankAtom)) ≡ true
   unfolding atomsOf
   atom-known i h =
-      let few = bound .few in
-      let size = bound .size in
-      let within : i < length (take (l .count) (l .atoms)) = (let n = length-take-le (l .count) (l .atoms) (omega arith) in omega arith) in
-      let there = mem-getD (take (l .count) (l .atoms)) i blankAtom within in
       all-at (known arities (length objects)) (atomsOf arities l) (bound .atoms-known) (atomOf arities (getD (l .atoms) i blankAtom))
-      (subst (λ (a : Kept). List·Memᴰ (atomOf arities a) (map (atomOf arities) (take (l .count) (l .atoms))))
-      (getD-take (l .count) (l .atoms) i blankAtom h) (Memᴰ·map (atomOf arities) there))
+      (item-in (atomOf arities) (l .count) blankAtom (l .atoms) i h)
 
   pub grounded-step :
       (i v : ℕ) (numbers : List ℕ) → i < l .count → numbers ≡ filled 8 (map numberOf (take i (l .atoms)))
@@ -165,7 +156,7 @@ module _ (arities objects : List ℕ) (l : AtomList) (bound : Bound arities obje
   pub grounded-end :
       (i : ℕ) (numbers : List ℕ) → i ≡ l .count → numbers ≡ filled 8 (map numberOf (take i (l .atoms)))
       → record { count = l .count; numbers = numbers } ≡ factsKept (map (ground objects) (atomsOf arities l))
-  unfolding factsKept atomsOf
+  unfolding factsKept
   grounded-end i numbers all e =
       let atoms : List Kept = take (l .count) (l .atoms) in
       let few = bound .few in
@@ -178,7 +169,9 @@ module _ (arities objects : List ℕ) (l : AtomList) (bound : Bound arities obje
       ∙ ap (filled 8)
       (sym (map-map factNumber (λ a. ground objects (atomOf arities a)) atoms)
       ∙ ap (map factNumber) (sym (map-map (ground objects) (atomOf arities) atoms)))) in
-      λ k. record { count = n k; numbers = same k }
+      let whole : record { count = l .count; numbers = numbers } ≡ factsKept (map (ground objects) (map (atomOf arities) atoms)) =
+      λ k. record { count = n k; numbers = same k } in
+      whole ∙ ap (λ (xs : List Atom). factsKept (map (ground objects) xs)) (sym (atoms-within arities l (omega arith)))
 
 -- Facts of a task, the first i of them.
 module _ (arities : List ℕ) (l : FactList) (was : List ℕ) (kept : FactsRight arities l was) where
@@ -188,14 +181,9 @@ module _ (arities : List ℕ) (l : FactList) (was : List ℕ) (kept : FactsRight
   pub fact-predicate : (i : ℕ) → i < l .count → getD (l .facts) i blankAtom .predicate < length arities
   unfolding factsOf atomOf
   fact-predicate i h =
-      let few = kept .few in
-      let size = kept .size in
-      let within : i < length (take (l .count) (l .facts)) = (let n = length-take-le (l .count) (l .facts) (omega arith) in omega arith) in
-      let there = mem-getD (take (l .count) (l .facts)) i blankAtom within in
       ltb-true _ _
       (all-at (λ f. ltb (f .predicate) (length arities)) (factsOf arities l) (kept .predicates-known) (atomOf arities (getD (l .facts) i blankAtom))
-      (subst (λ (f : Kept). List·Memᴰ (atomOf arities f) (map (atomOf arities) (take (l .count) (l .facts))))
-      (getD-take (l .count) (l .facts) i blankAtom h) (Memᴰ·map (atomOf arities) there)))
+      (item-in (atomOf arities) (l .count) blankAtom (l .facts) i h))
 
   pub facts-step :
       (i v : ℕ) (numbers : List ℕ) → i < l .count → numbers ≡ map factNumberOf (take i (l .facts)) ++ drop i was
@@ -213,7 +201,7 @@ module _ (arities : List ℕ) (l : FactList) (was : List ℕ) (kept : FactsRight
   pub facts-end :
       (i : ℕ) (numbers : List ℕ) → i ≡ l .count → numbers ≡ map factNumberOf (take i (l .facts)) ++ drop i was
       → numbers ≡ map factNumber (factsOf arities l) ++ drop (l .count) was
-  unfolding factsOf
   facts-end i numbers all e =
       e ∙ ap (λ (k : ℕ). map factNumberOf (take k (l .facts)) ++ drop k was) all
       ∙ ap (λ (ns : List ℕ). ns ++ drop (l .count) was) (sym (map-map factNumber (atomOf arities) (take (l .count) (l .facts))))
+      ∙ ap (λ (fs : List Atom). map factNumber fs ++ drop (l .count) was) (sym (facts-within arities l (omega (arith, kept .few, kept .size))))

@@ -1,4 +1,6 @@
 pub mod Own
+pub mod Moves
 pub mod Sorting
-pub mod Members
+pub mod Initial
+pub mod Tasks
 pub mod Analysed

@@ -1,20 +1,18 @@
 -- What the calls on a card alone answer, from what the card reader does.
 use Prim.Native.Nat.{ℕ}
-use mathlib.Core.Path.{_≡_, sym, ap, _∙_}
+use mathlib.Core.Path.{_≡_, sym, ap}
 use mathlib.Core.List.{List}
 use lib.IntN.{pos}
 use Rattle.model.specs.Answer.{refused, accepted}
 use Rattle.model.specs.Card as model
 use Rattle.model.specs.Calls.{encode}
 use Rattle.model.proofs.Answers.{then-accepted, then-refused}
-use Rattle.card.specs.Represents.{Decodes, refusalNumber}
+use Rattle.card.specs.Represents.{taskOf, Decodes, refusalNumber}
 use Rattle.card.specs.declared.Decoded.{Decoded}
 use Rattle.card.specs.declared.Refusal.{Refusal}
 use Rattle.card.specs.declared.Verdict.the-variants.{Accepted, Refused}
-use Rattle.card.proofs.Deciding.{refuses, accepts, represented}
-use Rattle.writer_checks.specs.Tables.{tableOf}
+use Rattle.card.proofs.Deciding.{refuses, accepts}
 use Rattle.capi.specs.Numbers.{signed, checks, rewritten, rewrites}
-use Rattle.writer_checks.proofs.KeptTables.{table-kept}
 
 module _ (card : List ℕ) (d : Decoded) (decodes : Decodes card d) where
   module _ (r : Refusal) (verdict : d .verdict ≡ Refused r) where
@@ -31,8 +29,6 @@ module _ (card : List ℕ) (d : Decoded) (decodes : Decodes card d) where
     unfolding checks signed
     checks-accepted = ap signed (sym (then-accepted {x = model.decode card} (λ t. accepted 0) (accepts card d decodes verdict)))
 
-    pub rewrites-accepted : (out : List ℕ) → rewrites card out ≡ encode (tableOf (d .task)) out
+    pub rewrites-accepted : (out : List ℕ) → rewrites card out ≡ encode (taskOf (d .task)) out
     unfolding rewrites rewritten
-    rewrites-accepted out =
-        ap (rewritten out) (accepts card d decodes verdict)
-        ∙ ap (λ (t : model.Task). encode t out) (sym (table-kept (d .task) (represented card d decodes verdict .stands)))
+    rewrites-accepted out = ap (rewritten out) (accepts card d decodes verdict)

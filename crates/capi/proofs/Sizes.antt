@@ -19,7 +19,7 @@ use Rattle.model.proofs.History.{opened, press-cases}
 use Rattle.card.specs.declared.Task.{Task as Kept}
 use Rattle.strips.specs.Answers.{appliedSays, Matches}
 use Rattle.strips.specs.declared.Applied.{Applied}
-use Rattle.writer_checks.specs.Tables.{tableOf}
+use Rattle.card.specs.Represents.{taskOf}
 use Rattle.writer.specs.Answers.{writingSays, Encodes}
 use Rattle.writer.specs.declared.Writing.{Writing}
 use Rattle.capi.specs.Numbers.{Small}
@@ -78,4 +78,4 @@ pub does-small : {call : Call} {after : List ℕ} {r : Applied} → Matches call
 does-small does small = subst Small (sym (does .answer)) small
 
 pub encodes-small : {t : Kept} {out after : List ℕ} {w : Writing} → Encodes t out after w → Small (writingSays w)
-encodes-small {t} {out} encodes = subst Small (sym (encodes .answer)) (encode-small (tableOf t) out)
+encodes-small {t} {out} encodes = subst Small (sym (encodes .answer)) (encode-small (taskOf t) out)

@@ -1,3 +1,4 @@
 pub mod Deciding
 pub mod Padded
 pub mod Counts
+pub mod Entries

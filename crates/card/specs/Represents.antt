@@ -37,46 +37,6 @@ refusalNumber FactUnknown = 12
 refusalNumber FactOrder = 13
 refusalNumber BytesFollow = 14
 
--- What a value of the code says: its counts and arities say how much of it counts.
--- the atom, with as many arguments as the arity of its predicate
-unfoldable pub atomOf : List ℕ → Atom → model.Atom
-atomOf arities a =
-    record {
-      predicate = a .predicate;
-      arguments = take (getD arities (a .predicate) 0) (a .first ∷ a .second ∷ a .third ∷ []);
-    }
-
-unfoldable pub atomsOf : List ℕ → AtomList → List model.Atom
-atomsOf arities l = map (atomOf arities) (take (l .count) (l .atoms))
-
-unfoldable pub schemaOf : List ℕ → Schema → model.Schema
-schemaOf arities s =
-    record {
-      parameters = s .parameters;
-      preconditions = atomsOf arities (s .preconditions);
-      deletes = atomsOf arities (s .deletes);
-      adds = atomsOf arities (s .adds);
-    }
-
-unfoldable pub aritiesOf : ArityList → List ℕ
-aritiesOf l = take (l .count) (l .arities)
-
-unfoldable pub schemasOf : List ℕ → SchemaList → List model.Schema
-schemasOf arities l = map (schemaOf arities) (take (l .count) (l .schemas))
-
-unfoldable pub factsOf : List ℕ → FactList → List model.Atom
-factsOf arities l = map (atomOf arities) (take (l .count) (l .facts))
-
-unfoldable pub taskOf : Task → model.Task
-taskOf t =
-    let arities = aritiesOf (t .predicates) in
-    record {
-      arities = arities;
-      objects = t .objects;
-      schemas = schemasOf arities (t .schemas);
-      facts = factsOf arities (t .facts);
-    }
-
 -- How the code keeps a task of the model: places that are no part of it hold a blank.
 -- a list filled up to a length
 unfoldable pub padded : {A : Type 0} → ℕ → A → List A → List A
@@ -126,6 +86,50 @@ taskFor t =
       objects = t .objects;
       schemas = schemasFor (t .schemas);
       facts = factsFor (t .facts);
+    }
+
+-- What a value of the code says, whatever it holds: its counts and arities say how much of it counts.
+-- as many entries as the count says; where it is beyond the array, blanks stand for what is not there
+unfoldable pub entries : {A : Type 0} → ℕ → A → List A → List A
+entries count blank xs = take count (padded count blank xs)
+
+-- the atom, with as many arguments as the arity of its predicate
+unfoldable pub atomOf : List ℕ → Atom → model.Atom
+atomOf arities a =
+    record {
+      predicate = a .predicate;
+      arguments = take (getD arities (a .predicate) 0) (a .first ∷ a .second ∷ a .third ∷ []);
+    }
+
+unfoldable pub atomsOf : List ℕ → AtomList → List model.Atom
+atomsOf arities l = map (atomOf arities) (entries (l .count) blankAtom (l .atoms))
+
+unfoldable pub schemaOf : List ℕ → Schema → model.Schema
+schemaOf arities s =
+    record {
+      parameters = s .parameters;
+      preconditions = atomsOf arities (s .preconditions);
+      deletes = atomsOf arities (s .deletes);
+      adds = atomsOf arities (s .adds);
+    }
+
+unfoldable pub aritiesOf : ArityList → List ℕ
+aritiesOf l = entries (l .count) 0 (l .arities)
+
+unfoldable pub schemasOf : List ℕ → SchemaList → List model.Schema
+schemasOf arities l = map (schemaOf arities) (entries (l .count) blankSchema (l .schemas))
+
+unfoldable pub factsOf : List ℕ → FactList → List model.Atom
+factsOf arities l = map (atomOf arities) (entries (l .count) blankAtom (l .facts))
+
+unfoldable pub taskOf : Task → model.Task
+taskOf t =
+    let arities = aritiesOf (t .predicates) in
+    record {
+      arities = arities;
+      objects = t .objects;
+      schemas = schemasOf arities (t .schemas);
+      facts = factsOf arities (t .facts);
     }
 
 -- the struct stands for the task, and a card can carry the task

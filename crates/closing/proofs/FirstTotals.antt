@@ -2,19 +2,20 @@
 use Prim.Native.Nat.{ℕ, zero, suc, _+_, _≤_, _<_}
 use native.Mathlib.Omega.{arith}
 use mathlib.Core.Path.{_≡_, refl, sym, ap, _∙_}
-use mathlib.Core.List.{List, [], _∷_, _++_, map, flatMap, List·Memᴰ, List·Memᴰ·head, List·Memᴰ·tail}
+use mathlib.Core.List.{List, [], _∷_, _++_, map, flatMap}
 use lib.ListN.{length, getD, take, drop, length-map, length-drop}
 use lib.Seq.{getD-take, getD-drop, length-take-le, ext-getD}
 use Rattle.laws.specs.Lists.{sum, upTo}
 use Rattle.laws.proofs.Lists.{length-upTo, getD-upTo, upTo-at}
-use Rattle.laws.proofs.Mapped.{getD-map}
+use Rattle.laws.proofs.Mapped.{getD-map, flatMap-ext}
 use Rattle.laws.proofs.Fronts.{sum-take-next, sum-take-all}
 use Rattle.model.specs.Card.{Task}
 use Rattle.model.specs.Transitions.{properties}
 use Rattle.model.specs.Lines.{total, analysis, propertyNumber, totalsBy, totals}
 use Rattle.model.proofs.RuleCount.{length-properties}
+use Rattle.card.proofs.Padded.{length-padded, padded-at}
 use Rattle.closing.proofs.Tallying.{entry-next, entry-none}
-use Rattle.closing.specs.Fixed.{firstAndOne, fixedOf, FixedTable, firstSome, totalLine, totalFound}
+use Rattle.closing.specs.Fixed.{firstAndOne, fixedOf, fixedTable, firstSome, totalLine, totalFound}
 
 -- a number that is not 0 is the first; 0 leaves it to those behind it
 pub first-some : (n : ℕ) (ns : List ℕ) → (n ≡ 0 → ⊥) → n ≡ firstSome (n ∷ ns)
@@ -72,13 +73,23 @@ first-found p f (i ∷ is) = go (f i) (first-found p f is)
     go [] rest = rest
     go (n ∷ ns) rest = refl
 
--- functions that agree on a list make the same of it
-flatMap-ext : {A B : Type 0} (f g : A → List B) (xs : List A) → ((x : A) → List·Memᴰ x xs → f x ≡ g x) → flatMap f xs ≡ flatMap g xs
-unfolding flatMap
-flatMap-ext f g [] same = refl
-flatMap-ext f g (x ∷ xs) same = λ i. same x (List·Memᴰ·head refl) i ++ flatMap-ext f g xs (λ y m. same y (List·Memᴰ·tail m)) i
+-- the entries of a task's table
+module _ (t : Task) (fixed : List ℕ) (table : fixed ≡ fixedTable t) (few : length (properties t) ≤ 60) where
+  many : length (map (fixedOf (analysis t)) (upTo (length (properties t)))) ≡ length (properties t)
+  many = length-map (upTo (length (properties t))) (fixedOf (analysis t)) ∙ length-upTo (length (properties t))
 
-module _ (t : Task) (fixed : List ℕ) (table : FixedTable t fixed) (few : length (properties t) ≤ 60) where
+  pub length-fixed : length fixed ≡ 60
+  unfolding fixedTable
+  length-fixed = ap length table ∙ length-padded 60 0 (map (fixedOf (analysis t)) (upTo (length (properties t)))) (omega (arith, many))
+
+  entry-at : (c : ℕ) → c < length (properties t) → getD fixed c 0 ≡ fixedOf (analysis t) c
+  unfolding fixedTable
+  entry-at c h =
+      ap (λ (l : List ℕ). getD l c 0) table
+      ∙ padded-at 60 0 (map (fixedOf (analysis t)) (upTo (length (properties t)))) c 0 (omega (arith, many))
+      ∙ getD-map (fixedOf (analysis t)) (upTo (length (properties t))) c 0 0 (omega (arith, length-upTo (length (properties t))))
+      ∙ ap (fixedOf (analysis t)) (getD-upTo (length (properties t)) c 0 h)
+
   -- the entries of a predicate's positions
   entries-of : (p : ℕ) → p < length (t .arities)
       → take (getD (t .arities) p 0) (drop (sum (take p (t .arities))) fixed)
@@ -88,7 +99,7 @@ module _ (t : Task) (fixed : List ℕ) (table : FixedTable t fixed) (few : lengt
       let s = sum (take p (t .arities)) in
       let inside : s + a ≤ length (properties t) =
       unfold properties in omega (arith, length-properties 0 (t .arities), sum-take-next (t .arities) p h, sum-take-all (suc p) (t .arities)) in
-      let long : a ≤ length (drop s fixed) = let l = table .long in omega (arith, length-drop s fixed) in
+      let long : a ≤ length (drop s fixed) = omega (arith, length-fixed, length-drop s fixed) in
       let sized = length-map (upTo a) (λ i. fixedOf (analysis t) (s + i)) ∙ length-upTo a in
       ext-getD 0 (take a (drop s fixed)) (map (λ i. fixedOf (analysis t) (s + i)) (upTo a))
       (length-take-le a (drop s fixed) long ∙ sym sized)
@@ -96,7 +107,7 @@ module _ (t : Task) (fixed : List ℕ) (table : FixedTable t fixed) (few : lengt
       let below : i < a = omega (arith, k, length-take-le a (drop s fixed) long) in
       getD-take a (drop s fixed) i 0 below
       ∙ getD-drop s fixed i 0
-      ∙ table .entries (s + i) (omega arith)
+      ∙ entry-at (s + i) (omega arith)
       ∙ sym
       (getD-map (λ j. fixedOf (analysis t) (s + j)) (upTo a) i 0 0 (omega (arith, length-upTo a))
       ∙ ap (λ (j : ℕ). fixedOf (analysis t) (s + j)) (getD-upTo a i 0 below)))

@@ -1,5 +1,4 @@
 pub mod Tallying
-pub mod Defaults
 pub mod LineLoops
 pub mod Parts
 pub mod Capping
@@ -9,4 +8,4 @@ pub mod SchemaLines
 pub mod FirstTotals
 pub mod TotalSteps
 pub mod Sizes
-pub mod OneTotal
+pub mod RowsHeld

@@ -26,7 +26,7 @@ use Rattle.text.specs.Room.{Room}
 use Rattle.text.proofs.Decimal.{two-digits, five-digits, decimal-more, some-digit}
 use Rattle.text.proofs.Lengths.{ceiling-length, types-length, text-length}
 use Rattle.text.proofs.Writing.{Begins}
-use Rattle.closing.specs.Fixed.{FixedTable, firstSome, totalLine, totalFound}
+use Rattle.closing.specs.Fixed.{fixedTable, firstSome, totalLine, totalFound}
 use Rattle.closing.specs.Front.{frontLines}
 use Rattle.closing.proofs.FirstTotals.{total-found}
 use Rattle.closing.proofs.LineLoops.{text-parts}
@@ -139,7 +139,7 @@ module _ (t : Task) (right : Checked t) where
         schemas-short among (suc n) schemas (omega arith) (λ x m. few x (List·Memᴰ·tail m)),
       )
 
-  module _ (fixed : List ℕ) (table : FixedTable t fixed) (narrow : length (properties t) ≤ 60) (small : (i : ℕ) → getD fixed i 0 < 4294967296) where
+  module _ (fixed : List ℕ) (table : fixed ≡ fixedTable t) (narrow : length (properties t) ≤ 60) (small : (i : ℕ) → getD fixed i 0 < 4294967296) where
     entries-small : (start size n : ℕ) → List·Memᴰ n (take size (drop start fixed)) → n < 4294967296
     entries-small start size n m =
         let place = place-of (take size (drop start fixed)) n 0 m in

@@ -4,27 +4,25 @@ use native.Mathlib.Numerals.{add-one}
 use native.Mathlib.Omega.{arith}
 use mathlib.Core.Path.{_≡_, sym, ap, _∙_}
 use mathlib.Core.List.{List, [], _∷_}
-use lib.ListN.{length, getD, take, drop}
-use lib.Seq.{getD-take, length-take-le}
+use lib.ListN.{getD, take, drop}
 use Rattle.laws.specs.Lists.{sum}
 use Rattle.laws.proofs.Fronts.{sum-take-next, sum-take-all}
 use Rattle.model.specs.Lines.{total}
 use Rattle.card.specs.declared.ArityList.{ArityList}
 use Rattle.card.specs.Represents.{aritiesOf}
+use Rattle.card.proofs.Entries.{getD-entries, length-arities}
 use Rattle.properties.specs.Represented.{AritiesRight}
 use Rattle.properties.proofs.Predicates.{sum-arities}
 use Rattle.closing.specs.Fixed.{firstSome, totalLine, totalFound}
 use Rattle.closing.proofs.FirstTotals.{line-of, line-of-none}
 
-module _ (predicates : ArityList) (right : AritiesRight predicates) (inside : predicates .count ≤ length (predicates .arities))
-    (p first : ℕ) (h : p < predicates .count) (begins : first ≡ sum (take p (aritiesOf predicates))) where
+module _ (predicates : ArityList) (right : AritiesRight predicates) (p first : ℕ) (h : p < predicates .count) (begins : first ≡ sum (take p (aritiesOf predicates))) where
   arity-is : getD (aritiesOf predicates) p 0 ≡ getD (predicates .arities) p 0
   unfolding aritiesOf
-  arity-is = getD-take (predicates .count) (predicates .arities) p 0 h
+  arity-is = getD-entries (predicates .count) 0 (predicates .arities) p h
 
   one-further : sum (take (suc p) (aritiesOf predicates)) ≡ sum (take p (aritiesOf predicates)) + getD (aritiesOf predicates) p 0
-  unfolding aritiesOf
-  one-further = sum-take-next (aritiesOf predicates) p (omega (arith, h, length-take-le (predicates .count) (predicates .arities) inside))
+  one-further = sum-take-next (aritiesOf predicates) p (omega (arith, h, length-arities predicates))
 
   -- where those of the one after it stand
   pub begins-next : first + getD (predicates .arities) p 0 ≡ sum (take (p + 1) (aritiesOf predicates))

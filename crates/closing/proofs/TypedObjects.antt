@@ -1,25 +1,24 @@
 -- The objects that the code finds for a parameter are those of its R line.
-use Prim.Native.Nat.{ℕ, zero, suc, _+_, _-_, _^_, _≤_, _<_}
-use native.Mathlib.Nat.{lt-of-lt-of-le}
+use Prim.Native.Nat.{ℕ, _+_, _≤_, _<_}
 use native.Mathlib.Omega.{arith}
 use mathlib.Core.Path.{_≡_, refl, sym, ap, _∙_, subst}
-use mathlib.Core.Bool.{Bool, true, false, cond, _&&_}
-use mathlib.Core.List.{List, [], _∷_, map, foldl, map-map, List·Memᴰ, List·Memᴰ·head, List·Memᴰ·tail}
-use lib.Bits.{bitAnd}
+use mathlib.Core.Bool.{Bool, true, _&&_}
+use mathlib.Core.List.{List, [], map, foldl, map-map, List·Memᴰ}
 use lib.Dec.{eqb, ltb}
-use lib.ListN.{length, getD, length-map}
-use lib.Pow.{pow-mono}
+use lib.ListN.{length, getD, take, length-map}
 use borrow.Author.Tests.{ltb-true, ltb-false}
-use Rattle.laws.specs.Lists.{any, all, keep, from, upTo, member, distinct}
+use Rattle.laws.specs.Lists.{any, all, keep, upTo, sum, member, distinct}
 use Rattle.laws.specs.Bags.{Bag, support}
 use Rattle.laws.proofs.Tests.{by-test}
 use Rattle.laws.proofs.Bags.{support-at}
+use Rattle.laws.proofs.Folds.{fold-ext}
 use Rattle.laws.proofs.Lists.{keep-at, upTo-at, place-of, mem-getD}
-use Rattle.laws.proofs.Mapped.{getD-map, any-map, any-ext, all-ext, map-ext, keep-ext}
-use Rattle.laws.proofs.Masks.{mask, keep-ascending, mask-all, mask-below}
+use Rattle.laws.proofs.Mapped.{getD-map, any-map, any-ext, all-ext, map-ext}
+use Rattle.masks.specs.Sets.{maskOf, membersOf, commonOf, allBelow}
+use Rattle.masks.proofs.Kept.{all-kept}
+use Rattle.masks.proofs.Members.{kept-members}
 use Rattle.laws.proofs.Numbers.{member-keep-upTo, distinct-keep, distinct-upTo, distinct-places}
 use Rattle.laws.proofs.Walks.{keep-few}
-use Rattle.laws.proofs.Fronts.{keep-rest}
 use Rattle.model.specs.Card.{Task, Atom, Schema}
 use Rattle.model.specs.Transitions.{properties, bagOf, transitions}
 use Rattle.model.specs.Spaces.{Space, hasMember, spaces}
@@ -27,60 +26,19 @@ use Rattle.model.specs.Lines.{types, typesOf}
 use Rattle.model.proofs.Closing.{groups, labels, propertiesAt, spaceWith, spacesWith, belongs, spaces-alone}
 use Rattle.model.proofs.Grouping.{length-grouping}
 use Rattle.model.proofs.Grouping.{length-bagOf}
-use Rattle.properties.specs.Tables.{row}
-use Rattle.properties.proofs.Rows.{length-row, getD-row}
+use Rattle.properties.specs.Parameters.{parametersIn, parameterBags}
+use Rattle.properties.specs.Tables.{bagAt}
+use Rattle.properties.proofs.RowTables.{getD-bagsIn}
+use Rattle.properties.proofs.ParameterRows.{sizesOf, together, bagsOf, length-sizes, sizes-long, size-at, bag-of-parameter, Counted, count-within}
 use Rattle.spaces.specs.declared.Spaces as code
-use Rattle.spaces.specs.SpaceTable.{SpacesOf, maskOf, groupsOf, lowestOf}
+use Rattle.spaces.specs.SpaceTable.{SpacesOf, groupsOf, lowestOf}
 use Rattle.spaces.specs.Steps.{enabledBy}
 use Rattle.card.proofs.Padded.{padded-at, length-padded}
 use Rattle.spaces.proofs.Filling.{padded-past}
 use Rattle.spaces.proofs.Joins.{masksOf, masks-at, mask-ext, enabled-joins}
 use Rattle.spaces.proofs.TaskSpaces.{groupArray, own-label, labels-known, member-alone}
-use Rattle.text.specs.Members.{membersOf}
-use Rattle.text.proofs.MaskMembers.{Below, listed-members}
-use Rattle.closing.specs.Typing.{labelMasks, typedBy, typedLines, MembersGiven}
+use Rattle.closing.specs.Typing.{labelMasks, typedLines, MembersGiven, PreconditionRows}
 use Rattle.closing.proofs.LabelMasks.{length-labelMasks, mask-at-label}
-
--- zeros behind a bag add no property
-support-row : (b : Bag) → length b ≤ 60 → support (row b) ≡ support b
-unfolding support
-support-row b h =
-    keep-ext _ (λ c. ltb 0 (getD b c 0)) (upTo (length (row b))) (λ c m. ap (ltb 0) (getD-row b c))
-    ∙ ap (λ (n : ℕ). keep (λ c. ltb 0 (getD b c 0)) (upTo n)) (length-row b h ∙ sym (filled h))
-    ∙ keep-rest (λ c. ltb 0 (getD b c 0)) (length b) (60 - length b) (λ i k. ap (ltb 0) (getD-past b i k))
-  where
-    filled : {a b : ℕ} → a ≤ b → a + (b - a) ≡ b
-    filled p = omega arith
-
-    getD-past : (xs : List ℕ) (i : ℕ) → length xs ≤ i → getD xs i 0 ≡ 0
-    getD-past [] i k = refl
-    getD-past (x ∷ xs) zero k = absurd (omega arith)
-    getD-past (x ∷ xs) (suc i) k = getD-past xs i (omega arith)
-
--- steps that agree on a list fold it alike
-foldl-ext : {A B : Type 0} (f g : B → A → B) (xs : List A) → ((x : A) → List·Memᴰ x xs → (b : B) → f b x ≡ g b x) → (b : B)
-    → foldl f b xs ≡ foldl g b xs
-foldl-ext f g [] same b = refl
-foldl-ext f g (x ∷ xs) same b =
-    ap (λ c. foldl f c xs) (same x (List·Memᴰ·head refl) b) ∙ foldl-ext f g xs (λ y m. same y (List·Memᴰ·tail m)) (g b x)
-
--- numbers kept of a sequence are below its end
-kept-below : (test : ℕ → Bool) (n start size : ℕ) → start + size ≤ n → Below n (keep test (from start size))
-unfolding keep from
-kept-below test n start zero h = tt
-kept-below test n start (suc size) h = go (test start) (kept-below test n (suc start) size (omega arith))
-  where
-    go : (b : Bool) → Below n (keep test (from (suc start) size))
-        → Below n (cond b (start ∷ keep test (from (suc start) size)) (keep test (from (suc start) size)))
-    go true r = (omega arith, r)
-    go false r = r
-
--- the members of a mask of objects are the objects
-members-kept : (test : ℕ → Bool) (n : ℕ) → n ≤ 64 → membersOf (mask (keep test (upTo n))) ≡ keep test (upTo n)
-unfolding upTo
-members-kept test n h =
-    listed-members (keep test (upTo n)) (lt-of-lt-of-le (mask-below test n) (pow-mono h))
-    (record { lowest = 0; ascend = keep-ascending test 0 n; below = kept-below test 64 0 n (omega arith); same = refl })
 
 module _ (t : Task) (sp : code.Spaces) (of : SpacesOf t sp) (narrow : length (properties t) ≤ 60) where
   groups-are : sp .groups ≡ groupArray t
@@ -128,12 +86,15 @@ module _ (t : Task) (sp : code.Spaces) (of : SpacesOf t sp) (narrow : length (pr
   abbrev masks : List ℕ
   masks = labelMasks (sp .lowest) (sp .members) (sp .count)
 
-  pub members-given : t .objects ≤ 64 → MembersGiven (sp .groups) masks (t .objects)
+  pub members-given : t .objects ≤ 64 → MembersGiven (length (properties t)) (sp .groups) masks (t .objects)
   members-given few = record {
     few-objects = few;
-    groups-long = let long = groups-long in omega arith;
+    grouped = record {
+      narrow = narrow;
+      filled = let long = groups-long in omega arith;
+      known = λ c. subst (λ (l : List ℕ). getD l c 0 < 60) (sym groups-are) (labels-known t narrow c);
+    };
     masks-long = omega (arith, length-labelMasks (sp .lowest) (sp .members) (sp .count));
-    labels-known = λ c. subst (λ (l : List ℕ). getD l c 0 < 60) (sym groups-are) (labels-known t narrow c);
   }
 
   labels-distinct : distinct (labels t) ≡ true
@@ -141,8 +102,8 @@ module _ (t : Task) (sp : code.Spaces) (of : SpacesOf t sp) (narrow : length (pr
   labels-distinct = distinct-keep (λ c. eqb (getD (groups t) c 0) c) (upTo (length (groups t))) (distinct-upTo (length (groups t)))
 
   -- at a label stands the mask of the members of its space
-  mask-of-label : (l : ℕ) → List·Memᴰ l (labels t) → getD masks l 0 ≡ mask (keep (λ o. belongs t o l) (upTo (t .objects)))
-  unfolding spacesWith spaceWith maskOf
+  mask-of-label : (l : ℕ) → List·Memᴰ l (labels t) → getD masks l 0 ≡ maskOf (keep (λ o. belongs t o l) (upTo (t .objects)))
+  unfolding spacesWith spaceWith
   mask-of-label l m =
       let place = place-of (labels t) l 0 m in
       let k : ℕ = place .0 in
@@ -154,8 +115,8 @@ module _ (t : Task) (sp : code.Spaces) (of : SpacesOf t sp) (narrow : length (pr
       (omega (arith, length-map (spaces t) (λ s. maskOf (s .members)), of .count, count-is, place .1))
       ∙ ap (λ (ss : List Space). getD (map (λ s. maskOf (s .members)) ss) k 0) (spaces-alone t)
       ∙ ap (λ (ms : List ℕ). getD ms k 0) (map-map (λ s. maskOf (s .members)) (spaceWith t (belongs t)) (labels t))
-      ∙ getD-map (λ x. mask (keep (λ o. belongs t o x) (upTo (t .objects)))) (labels t) k 0 0 (place .1)
-      ∙ ap (λ (x : ℕ). mask (keep (λ o. belongs t o x) (upTo (t .objects)))) (place .2)
+      ∙ getD-map (λ x. maskOf (keep (λ o. belongs t o x) (upTo (t .objects)))) (labels t) k 0 0 (place .1)
+      ∙ ap (λ (x : ℕ). maskOf (keep (λ o. belongs t o x) (upTo (t .objects)))) (place .2)
     where
       different : (i j : ℕ) → i < sp .count → j < sp .count → getD (sp .lowest) i 0 ≡ getD (sp .lowest) j 0 → i ≡ j
       different i j h g e =
@@ -186,28 +147,46 @@ module _ (t : Task) (sp : code.Spaces) (of : SpacesOf t sp) (narrow : length (pr
       ∙ sym (masks-at (t .objects) (belongs t) (getD (groupArray t) c 0) (labels-known t narrow c))
 
   -- the mask of a parameter's objects
-  typed-mask : (atoms : List Atom) (k : ℕ) → typedBy (t .arities) (sp .groups) masks (t .objects) atoms k
-      ≡ mask (keep (λ o. all (hasMember (spaces t) o) (support (bagOf (properties t) atoms k))) (upTo (t .objects)))
-  unfolding typedBy enabledBy properties
+  typed-mask : (atoms : List Atom) (k : ℕ) → enabledBy (sp .groups) (t .objects) masks (bagOf (properties t) atoms k)
+      ≡ maskOf (keep (λ o. all (hasMember (spaces t) o) (support (bagOf (properties t) atoms k))) (upTo (t .objects)))
+  unfolding enabledBy
   typed-mask atoms k =
       let n = t .objects in
-      let b = bagOf (properties t) atoms k in
-      let cs = support b in
-      let size = length-bagOf (properties t) atoms k in
-      ap (foldl (λ those c. bitAnd those (getD masks (getD (sp .groups) c 0) 0)) (2 ^ n - 1)) (support-row b (omega arith))
-      ∙ foldl-ext
-      (λ those c. bitAnd those (getD masks (getD (sp .groups) c 0) 0))
-      (λ those c. bitAnd those (getD (masksOf n (belongs t)) (getD (groupArray t) c 0) 0)) cs
-      (λ c m those. ap (bitAnd those) (mask-of-property c (below atoms k c m)))
-      (2 ^ n - 1)
-      ∙ ap (λ (m : ℕ). foldl (λ those c. bitAnd those (getD (masksOf n (belongs t)) (getD (groupArray t) c 0) 0)) m cs) (sym (mask-all n))
+      let cs = support (bagOf (properties t) atoms k) in
+      fold-ext
+      (λ those c. commonOf those (getD masks (getD (sp .groups) c 0) 0))
+      (λ those c. commonOf those (getD (masksOf n (belongs t)) (getD (groupArray t) c 0) 0)) cs
+      (λ those c m. ap (commonOf those) (mask-of-property c (below atoms k c m)))
+      (allBelow n)
+      ∙ ap (λ (m : ℕ). foldl (λ those c. commonOf those (getD (masksOf n (belongs t)) (getD (groupArray t) c 0) 0)) m cs) (sym (all-kept n))
       ∙ enabled-joins n (groupArray t) (labels-known t narrow) (belongs t) cs (λ o. true)
       ∙ mask-ext n _ _ (λ o h. all-ext _ _ cs (λ c m. has-member-alone o c h (below atoms k c m)))
 
-  -- the R lines of a schema
-  pub typed-lines : t .objects ≤ 64 → (n : ℕ) (s : Schema)
-      → typedLines (t .arities) (sp .groups) masks (t .objects) n s ≡ map (typesOf t (spaces t) n s) (upTo (s .parameters))
-  unfolding typedLines typesOf
-  typed-lines few n s =
-      map-ext _ _ (upTo (s .parameters))
-      (λ k m. ap (types n k) (ap membersOf (typed-mask (s .preconditions) k) ∙ members-kept _ (t .objects) few))
+  -- the R lines of a schema, whose rows begin behind those of the schemas before it
+  module _ (few : t .objects ≤ 64) {preconditions : List ℕ} (held : PreconditionRows t preconditions) (n : ℕ) (d : Schema) (h : n < length (t .schemas))
+    where
+      row-is : (k : ℕ) → k < getD (t .schemas) n d .parameters
+          → bagAt (length (properties t)) preconditions (sum (take n (sizesOf (t .schemas))) + k)
+          ≡ bagOf (properties t) (getD (t .schemas) n d .preconditions) k
+      unfolding bagsOf parameterBags parametersIn sizesOf together
+      row-is k l =
+          let first = sum (take n (sizesOf (t .schemas))) in
+          let counted : Counted (sizesOf (t .schemas)) n first = record { inside = omega (arith, length-sizes (t .schemas)); is = refl } in
+          let inside : first + k < parametersIn t =
+          omega (arith, l, count-within (sizesOf (t .schemas)) counted (sizes-long (t .schemas) h) (size-at (t .schemas) d h)) in
+          sym (getD-bagsIn (length (properties t)) (parametersIn t) preconditions (first + k) inside)
+          ∙ ap (λ (l : List Bag). getD l (first + k) []) (held .rows-are)
+          ∙ bag-of-parameter (properties t) (λ s. s .preconditions) (t .schemas) n k d h l
+
+      pub typed-lines : {first : ℕ} → first ≡ sum (take n (sizesOf (t .schemas)))
+          → typedLines (length (properties t)) (sp .groups) masks (t .objects) preconditions n first (getD (t .schemas) n d .parameters)
+          ≡ map (typesOf t (spaces t) n (getD (t .schemas) n d)) (upTo (getD (t .schemas) n d .parameters))
+      unfolding typedLines typesOf
+      typed-lines {first} e =
+          map-ext _ _ (upTo (getD (t .schemas) n d .parameters))
+          (λ k m.
+          ap (types n k)
+          (ap (λ (b : Bag). membersOf (enabledBy (sp .groups) (t .objects) masks b))
+          (ap (λ (i : ℕ). bagAt (length (properties t)) preconditions (i + k)) e ∙ row-is k (upTo-at (getD (t .schemas) n d .parameters) k m))
+          ∙ ap membersOf (typed-mask (getD (t .schemas) n d .preconditions) k)
+          ∙ kept-members _ (t .objects) few))

@@ -1,12 +1,12 @@
 -- The totals that properties give, in a table: for each property 0, or its total and one.
-use Prim.Native.Nat.{ℕ, zero, suc, _≤_, _<_}
-use mathlib.Core.Path.{_≡_}
-use mathlib.Core.List.{List, [], _∷_}
+use Prim.Native.Nat.{ℕ, zero, suc}
+use mathlib.Core.List.{List, [], _∷_, map}
 use lib.ListN.{length, getD, take, drop}
-use Rattle.laws.specs.Lists.{sum}
+use Rattle.laws.specs.Lists.{sum, upTo}
 use Rattle.model.specs.Card.{Task}
 use Rattle.model.specs.Transitions.{properties}
 use Rattle.model.specs.Lines.{Line, total, Analysis, analysis, totalsBy}
+use Rattle.card.specs.Represents.{padded}
 use Rattle.properties.specs.Tables.{stride}
 
 -- the first number of a list and one, 0 for none
@@ -17,10 +17,9 @@ firstAndOne (n ∷ ns) = suc n
 unfoldable pub fixedOf : List Analysis → ℕ → ℕ
 fixedOf analyses c = firstAndOne (totalsBy analyses c)
 
--- the table of a task
-pub record FixedTable (t : Task) (fixed : List ℕ) : Type 0 where
-  pub long : stride ≤ length fixed
-  pub entries : (c : ℕ) → c < length (properties t) → getD fixed c 0 ≡ fixedOf (analysis t) c
+-- the table of a task: for each property 0, or its total and one; 0 past the properties
+unfoldable pub fixedTable : Task → List ℕ
+fixedTable t = padded stride 0 (map (fixedOf (analysis t)) (upTo (length (properties t))))
 
 -- the first number that is not 0, 0 for none
 unfoldable pub firstSome : List ℕ → ℕ

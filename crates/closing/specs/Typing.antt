@@ -1,33 +1,35 @@
--- The objects of a parameter as the code finds them: by masks that stand at the labels of their spaces.
-use Prim.Native.Nat.{ℕ, zero, suc, _≤_, _<_}
+-- The objects of a parameter as the code finds them: by its row of preconditions, and masks that stand at the labels of their spaces.
+use Prim.Native.Nat.{ℕ, zero, suc, _+_, _*_, _≤_}
+use mathlib.Core.Path.{_≡_}
 use mathlib.Core.List.{List, map}
 use lib.ListN.{length, getD, set, replicate}
 use Rattle.laws.specs.Lists.{upTo}
-use Rattle.model.specs.Card.{Atom, Schema}
+use Rattle.model.specs.Card.{Task}
 use Rattle.model.specs.Lines.{Line, types}
-use Rattle.model.specs.Transitions.{propertiesFrom, bagOf}
-use Rattle.properties.specs.Tables.{stride, row}
+use Rattle.model.specs.Transitions.{properties}
+use Rattle.masks.specs.Sets.{membersOf}
+use Rattle.properties.specs.Parameters.{parametersIn, parameterBags}
+use Rattle.properties.specs.Tables.{stride, bagAt, bagsIn}
 use Rattle.spaces.specs.Steps.{enabledBy}
-use Rattle.text.specs.Members.{membersOf}
+use Rattle.spaces.specs.Tabled.{Grouped}
 
 -- the members of the first spaces, each at the lowest property of its space, and 0 elsewhere
 unfoldable pub labelMasks : List ℕ → List ℕ → ℕ → List ℕ
 labelMasks lowest members zero = replicate stride 0
 labelMasks lowest members (suc k) = set (labelMasks lowest members k) (getD lowest k 0) (getD members k 0)
 
--- the mask of the objects in the space of each precondition property of a parameter
-unfoldable pub typedBy : List ℕ → List ℕ → List ℕ → ℕ → List Atom → ℕ → ℕ
-typedBy arities groups masks objects preconditions k =
-    enabledBy groups objects masks (row (bagOf (propertiesFrom 0 arities) preconditions k))
-
--- the R lines of a schema
-unfoldable pub typedLines : List ℕ → List ℕ → List ℕ → ℕ → ℕ → Schema → List Line
-typedLines arities groups masks objects n s =
-    map (λ k. types n k (membersOf (typedBy arities groups masks objects (s .preconditions) k))) (upTo (s .parameters))
+-- the R lines of schema n, whose parameters have their rows of preconditions from row `first` on
+unfoldable pub typedLines : ℕ → List ℕ → List ℕ → ℕ → List ℕ → ℕ → ℕ → ℕ → List Line
+typedLines size groups masks objects preconditions n first parameters =
+    map (λ k. types n k (membersOf (enabledBy groups objects masks (bagAt size preconditions (first + k))))) (upTo parameters)
 
 -- What a function that is handed groups and masks asks of them.
-pub record MembersGiven (groups masks : List ℕ) (objects : ℕ) : Type 0 where
+pub record MembersGiven (size : ℕ) (groups masks : List ℕ) (objects : ℕ) : Type 0 where
   pub few-objects : objects ≤ 64
-  pub groups-long : stride ≤ length groups
+  pub grouped : Grouped size groups
   pub masks-long : stride ≤ length masks
-  pub labels-known : (c : ℕ) → getD groups c 0 < stride
+
+-- The table begins with the bags P of a task's parameters.
+pub record PreconditionRows (t : Task) (preconditions : List ℕ) : Type 0 where
+  pub rows-there : stride * parametersIn t ≤ length preconditions
+  pub rows-are : bagsIn (length (properties t)) (parametersIn t) preconditions ≡ parameterBags (λ s. s .preconditions) t

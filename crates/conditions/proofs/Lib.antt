@@ -1,6 +1,4 @@
-pub mod Rows
-pub mod Comparing
-pub mod RowTests
-pub mod RowLists
-pub mod Gathering
-pub mod RowTables
+pub mod Compared
+pub mod Filling
+pub mod Deciding
+pub mod Containing

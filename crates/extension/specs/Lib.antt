@@ -1,7 +1,8 @@
-pub mod Extended
-pub mod Rows
-pub mod Comparing
+pub mod Moves
+pub mod Places
+pub mod Known
 pub mod Choosing
+pub mod Expanding
 pub mod Searching
-pub mod Joining
+pub mod Extended
 pub mod Repeats

@@ -179,12 +179,6 @@ strictly-intro a b p d =
 pub strictly-irrefl : (a : Bag) → strictlyContains a a ≡ false
 strictly-irrefl a = by-test (strictlyContains a a) (λ e. absurd (strictly-at a a e .1 refl)) (λ e. e)
 
-pub strictly-trans : (c b a : Bag) → contains c b ≡ true → strictlyContains b a ≡ true → strictlyContains c a ≡ true
-strictly-trans c b a p q =
-    let s = strictly-at b a q in
-    strictly-intro c a (contains-trans c b a p (s .0))
-    (λ e. s .1 (contains-antisym b a (s .0) (subst (λ (x : Bag). contains x b ≡ true) e p)))
-
 -- a bag has at least as many occurrences in all as one that it contains, and more than one that it strictly contains
 pub contains-sum : (b a : Bag) → contains b a ≡ true → sum a ≤ sum b
 unfolding contains sum

@@ -1,9 +1,20 @@
--- Folds: what every step keeps, what one step brings about, and where a fold leads whose every step leads on.
-use mathlib.Core.Path.{_≡_, refl, sym, subst}
+-- Folds: steps that do nothing or the same, what every step keeps, what one step brings about, and where a fold leads whose every step leads on.
+use mathlib.Core.Path.{_≡_, refl, sym, ap, _∙_, subst}
 use mathlib.Core.Logic.{_⊎_, inl, inr, ⊎-elim}
-use mathlib.Core.List.{List, [], _∷_, foldl, List·Memᴰ, List·Memᴰ·head, List·Memᴰ·tail, List·Memᴰ·cases-cons, List·Memᴰ·not-nil}
+use mathlib.Core.List.{List, [], _∷_, flatMap, foldl, foldl-append, List·Memᴰ, List·Memᴰ·head, List·Memᴰ·tail, List·Memᴰ·cases-cons, List·Memᴰ·not-nil}
 
 module _ {A B : Type 0} where
+  -- steps that change nothing
+  pub fold-still : (f : B → A → B) (xs : List A) → ((b : B) (x : A) → List·Memᴰ x xs → f b x ≡ b) → (b : B) → foldl f b xs ≡ b
+  fold-still f [] h b = refl
+  fold-still f (x ∷ xs) h b = ap (λ (c : B). foldl f c xs) (h b x (List·Memᴰ·head refl)) ∙ fold-still f xs (λ c y m. h c y (List·Memᴰ·tail m)) b
+
+  -- steps that do the same
+  pub fold-ext : (f g : B → A → B) (xs : List A) → ((b : B) (x : A) → List·Memᴰ x xs → f b x ≡ g b x) → (b : B) → foldl f b xs ≡ foldl g b xs
+  fold-ext f g [] h b = refl
+  fold-ext f g (x ∷ xs) h b =
+      ap (λ (c : B). foldl f c xs) (h b x (List·Memᴰ·head refl)) ∙ fold-ext f g xs (λ c y m. h c y (List·Memᴰ·tail m)) (g b x)
+
   -- what every step of a fold keeps holds at its end
   pub foldl-keeps : (Holds : B → Type 0) (f : B → A → B) (xs : List A)
       → ((b : B) (x : A) → List·Memᴰ x xs → Holds b → Holds (f b x)) → (b : B) → Holds b → Holds (foldl f b xs)
@@ -51,3 +62,10 @@ module _ {A B : Type 0} where
         ⊎-elim (λ e. (b, same b, subst (λ (z : A). R (f b z) (foldl f (f b y) xs)) (sym e) (fold-leads (f b y) xs)))
         (λ j. let r = fold-at (f b y) xs x j in (r .0, then b (f b y) (r .0) (step b y) (r .1), r .2))
         (List·Memᴰ·cases-cons k)
+
+-- a fold over lists one after the other
+pub fold-lists : {A B C : Type 0} (f : C → B → C) (g : A → List B) (xs : List A) (c : C)
+    → foldl f c (flatMap g xs) ≡ foldl (λ b x. foldl f b (g x)) c xs
+unfolding flatMap
+fold-lists f g [] c = refl
+fold-lists f g (x ∷ xs) c = foldl-append f c (g x) (flatMap g xs) ∙ fold-lists f g xs (foldl f c (g x))

@@ -1,13 +1,13 @@
 -- Front parts of lists, as a loop passes over a list: what one more element adds to a front part, to its sum, and to an array filled from the front.
 use Prim.Native.Nat.{ℕ, zero, suc, _+_, _-_, _≤_, _<_, zero-le, suc-le-suc}
-use native.Mathlib.Nat.{zero-add, add-zero, add-suc, le-of-eq, not-suc-le-zero, le-of-suc-le-suc, le-refl}
+use native.Mathlib.Nat.{zero-add, not-suc-le-zero, le-of-suc-le-suc, le-refl}
 use native.Mathlib.Omega.{arith}
 use mathlib.Core.Path.{_≡_, refl, sym, ap, _∙_, subst}
 use mathlib.Core.Bool.{Bool, true, false, cond}
-use mathlib.Core.List.{List, [], _∷_, _++_, map, append-assoc, append-nil}
+use mathlib.Core.List.{List, [], _∷_, _++_, map, append-assoc}
 use lib.Dec.{ltb, eqb}
-use lib.ListN.{length, getD, take, set, replicate, length-map, length-set, length-append}
-use lib.Seq.{take-suc, set-at, getD-set-same, getD-set-other, ext-getD}
+use lib.ListN.{length, getD, take, set, replicate, length-map, length-set}
+use lib.Seq.{take-suc, set-at, getD-set-same, getD-set-other}
 use borrow.Author.Tests.{ltb-true, ltb-false, eqb-true, eqb-false}
 use Rattle.laws.specs.Lists.{from, upTo, sum, keep}
 use Rattle.laws.proofs.Tests.{by-test}
@@ -131,11 +131,6 @@ module _ (new old : ℕ → ℕ) (size : ℕ) where
     ahead = λ j k. r .ahead j (omega arith);
   }
 
-  -- after the last place
-  pub rework-end : (i : ℕ) (l m : List ℕ) → size ≤ i → length m ≡ size → ((j : ℕ) → getD m j 0 ≡ new j) → Reworked new old size i l → l ≡ m
-  rework-end i l m h e same r =
-      ext-getD 0 l m (r .sized ∙ sym e) (λ j k. r .done j (let s = r .sized in omega arith) ∙ sym (same j))
-
 -- ---- the kept elements of a front part
 
 module _ {A : Type 0} (test : A → Bool) where
@@ -148,37 +143,3 @@ module _ {A : Type 0} (test : A → Bool) where
           → cond b (x ∷ keep test (xs ++ ys)) (keep test (xs ++ ys)) ≡ cond b (x ∷ keep test xs) (keep test xs) ++ keep test ys
       go true e = ap (λ (l : List A). x ∷ l) e
       go false e = e
-
-module _ (test : ℕ → Bool) where
-  -- the next number is kept, or left
-  pub keep-next : (n : ℕ) → test n ≡ true → keep test (upTo (suc n)) ≡ keep test (upTo n) ++ (n ∷ [])
-  unfolding keep
-  keep-next n e = ap (keep test) (upTo-next n) ∙ keep-parts test (upTo n) (n ∷ []) ∙ ap (λ (b : Bool). keep test (upTo n) ++ cond b (n ∷ []) []) e
-
-  pub leave-next : (n : ℕ) → test n ≡ false → keep test (upTo (suc n)) ≡ keep test (upTo n)
-  unfolding keep
-  leave-next n e =
-      ap (keep test) (upTo-next n) ∙ keep-parts test (upTo n) (n ∷ [])
-      ∙ ap (λ (b : Bool). keep test (upTo n) ++ cond b (n ∷ []) []) e ∙ append-nil (keep test (upTo n))
-
-  -- a longer front part keeps no fewer
-  pub keep-within : (n k : ℕ) → length (keep test (upTo n)) ≤ length (keep test (upTo (n + k)))
-  keep-within n zero = le-of-eq (ap (λ (m : ℕ). length (keep test (upTo m))) (sym (add-zero n)))
-  keep-within n (suc k) =
-      let next : keep test (upTo (n + suc k)) ≡ keep test (upTo (suc (n + k))) = ap (λ (m : ℕ). keep test (upTo m)) (add-suc n k) in
-      let earlier = keep-within n k in
-      by-test (test (n + k))
-      (λ e.
-      omega (
-        arith,
-        ap length next,
-        ap length (keep-next (n + k) e),
-        length-append (keep test (upTo (n + k))) ((n + k) ∷ []),
-      ))
-      (λ e. omega (arith, ap length next, ap length (leave-next (n + k) e)))
-
-  -- nothing is kept behind a place where nothing passes
-  pub keep-rest : (n k : ℕ) → ((i : ℕ) → n ≤ i → test i ≡ false) → keep test (upTo (n + k)) ≡ keep test (upTo n)
-  keep-rest n zero h = ap (λ (m : ℕ). keep test (upTo m)) (add-zero n)
-  keep-rest n (suc k) h =
-      ap (λ (m : ℕ). keep test (upTo m)) (add-suc n k) ∙ leave-next (n + k) (h (n + k) (omega arith)) ∙ keep-rest n k h

@@ -12,7 +12,6 @@ pub mod Orders
 pub mod Reading
 pub mod Fronts
 pub mod Columns
-pub mod Masks
 pub mod Walks
 pub mod Restricted
 pub mod Places

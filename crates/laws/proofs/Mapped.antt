@@ -1,13 +1,13 @@
 -- Mapped lists, and functions and tests that agree on a list.
 use Prim.Native.Nat.{ℕ, zero, suc, _<_}
 use native.Mathlib.Nat.{le-of-suc-le-suc, not-suc-le-zero}
-use mathlib.Core.Path.{_≡_, refl, ap}
-use mathlib.Core.Bool.{Bool, true, cond, _&&_, _||_}
+use mathlib.Core.Path.{_≡_, refl, ap, _∙_}
+use mathlib.Core.Bool.{Bool, true, false, cond, _&&_, _||_}
 use mathlib.Core.Logic.{_⊎_, inl, inr}
-use mathlib.Core.List.{List, [], _∷_, map, List·Memᴰ, List·Memᴰ·head, List·Memᴰ·tail, List·Memᴰ·cases-cons, List·Memᴰ·not-nil}
-use lib.ListN.{length, getD, replicate}
+use mathlib.Core.List.{List, [], _∷_, _++_, map, flatMap, List·Memᴰ, List·Memᴰ·head, List·Memᴰ·tail, List·Memᴰ·cases-cons, List·Memᴰ·not-nil}
+use lib.ListN.{length, getD, take, replicate}
 use Rattle.laws.specs.Lists.{any, all, keep}
-use Rattle.laws.proofs.Tests.{and-intro}
+use Rattle.laws.proofs.Tests.{and-intro, cond-false}
 
 module _ {A B : Type 0} where
   -- an element of a mapped list
@@ -27,7 +27,31 @@ module _ {A B : Type 0} where
   any-map test f [] = refl
   any-map test f (x ∷ xs) = ap (λ (b : Bool). test (f x) || b) (any-map test f xs)
 
+  -- the front of a mapped list
+  pub take-map : (n : ℕ) (f : A → B) (xs : List A) → take n (map f xs) ≡ map f (take n xs)
+  take-map zero f xs = refl
+  take-map (suc n) f [] = refl
+  take-map (suc n) f (x ∷ xs) = ap (λ (l : List B). f x ∷ l) (take-map n f xs)
+
+  -- functions that agree on a list make the same lists of it
+  pub flatMap-ext : (f g : A → List B) (xs : List A) → ((x : A) → List·Memᴰ x xs → f x ≡ g x) → flatMap f xs ≡ flatMap g xs
+  unfolding flatMap
+  flatMap-ext f g [] same = refl
+  flatMap-ext f g (x ∷ xs) same = λ i. same x (List·Memᴰ·head refl) i ++ flatMap-ext f g xs (λ y m. same y (List·Memᴰ·tail m)) i
+
+-- lists made of a mapped list
+pub flatMap-map : {A B C : Type 0} (f : B → List C) (g : A → B) (xs : List A) → flatMap f (map g xs) ≡ flatMap (λ x. f (g x)) xs
+unfolding flatMap
+flatMap-map f g [] = refl
+flatMap-map f g (x ∷ xs) = ap (λ (l : List _). f (g x) ++ l) (flatMap-map f g xs)
+
 module _ {A : Type 0} where
+  -- nothing is kept where every element fails
+  pub keep-none : (test : A → Bool) (xs : List A) → ((x : A) → List·Memᴰ x xs → test x ≡ false) → keep test xs ≡ []
+  unfolding keep
+  keep-none test [] h = refl
+  keep-none test (x ∷ xs) h = cond-false (test x) _ _ (h x (List·Memᴰ·head refl)) ∙ keep-none test xs (λ y m. h y (List·Memᴰ·tail m))
+
   -- a function that maps a list to itself leaves each element as it is
   pub map-fixed : (f : A → A) (xs : List A) → map f xs ≡ xs → (x : A) → List·Memᴰ x xs → f x ≡ x
   map-fixed f [] e x m = absurd (List·Memᴰ·not-nil m)

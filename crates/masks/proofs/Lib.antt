@@ -1,0 +1,7 @@
+pub mod Ascending
+pub mod Kept
+pub mod Lowest
+pub mod Joining
+pub mod Members
+pub mod Operations
+pub mod Walking

@@ -1,4 +1,6 @@
-pub mod SectionsOf
 pub mod Preparing
-pub mod Writing
+pub mod Finding
+pub mod Analysing
+pub mod SectionsOf
 pub mod Cleared
+pub mod Totalling

@@ -4,13 +4,24 @@ use native.Mathlib.Nat.{le-of-suc-le-suc, not-suc-le-zero, add-zero, zero-add}
 use native.Mathlib.Omega.{arith}
 use mathlib.Core.Path.{_≡_, refl, sym, ap, _∙_, subst}
 use mathlib.Core.List.{List, [], _∷_}
-use lib.ListN.{length, getD, length-append, List·getD-append}
+use lib.ListN.{length, getD, length-append, length-map, List·getD-append}
 use lib.Seq.{getD-append-add}
+use Rattle.laws.proofs.Mapped.{getD-map}
 use Rattle.model.specs.Card.{Task}
 use Rattle.model.specs.Spaces.{spaces}
 use Rattle.model.specs.Lines.{Analysis, analyse, analysis, spaceLines, spaceSections, closingLines, sections}
-use Rattle.analysis.specs.Analysed.{spaceAt}
-use Rattle.totals.proofs.Analyses.{length-analysis, analysis-at}
+use Rattle.spaces.specs.SpaceTable.{spaceAt}
+
+-- the analyses of a task: one for each space, in order
+module _ (t : Task) where
+  pub length-analysis : length (analysis t) ≡ length (spaces t)
+  unfolding analysis
+  length-analysis = length-map (spaces t) (analyse t)
+
+  -- the analysis at a place is that of the space there
+  pub analysis-at : (i : ℕ) (d : Analysis) → i < length (spaces t) → getD (analysis t) i d ≡ analyse t (spaceAt t i)
+  unfolding analysis spaceAt
+  analysis-at i d h = getD-map (analyse t) (spaces t) i (record { properties = []; rules = []; members = [] }) d h
 
 -- as many sections as analyses
 length-space-sections : (t : Task) (n : ℕ) (analyses : List Analysis) → length (spaceSections t n analyses) ≡ length analyses

@@ -1,131 +1,203 @@
 // A task with its tables filled, and each of its sections as text: those of its spaces, and the closing one behind them.
+use analysis::Analysed;
 use analysis::analyse;
 use card::Task;
-use closing::write_closing;
+use properties::arities::property_arities;
 use properties::numbered;
 use properties::object_bags;
+use properties::parameters::parameter_bags;
+use properties::parameters::parameters_of;
 use space_lines::write_space;
 use spaces::Spaces;
+use spaces::own::Own;
+use spaces::own::own_properties;
 use spaces::spaces_of;
-use totals::arities::property_arities;
-use totals::fixed_totals;
-ghost use mathlib.Core.List.{[]};
-ghost use Prim.Native.Nat.{_*_, _≤_};
-ghost use lib.ListN.{length, getD};
-ghost use Rattle.model.specs.Lines.{sections};
+use totals::enter_totals;
+ghost use mathlib.Core.Path.{_≡_};
+ghost use Prim.Native.Nat.{_≤_};
+ghost use lib.ListN.{length};
+ghost use Rattle.model.specs.Calls.{outputBytes};
 ghost use Rattle.model.specs.Text.{text};
 ghost use Rattle.card.specs.Represents.{taskOf, Represented};
-ghost use Rattle.rules.specs.Tables.{rulesAtMost};
-ghost use Rattle.rules.specs.Appended.{Room};
-ghost use Rattle.analysis.specs.Analysed.{Given};
+ghost use Rattle.properties.specs.Parameters.{parametersIn, RoomForBags};
 ghost use Rattle.text.specs.Written.{Writes};
+ghost use Rattle.prepared.specs.Prepared.{rowsAtMost, PreparedOf};
+ghost use Rattle.prepared.specs.Found.{Analysable, FoundAt, SomeFound, foundLines, foundTotals};
 
-// A task whose tables are filled: how many rules and properties it has, and its spaces.
+// What is known of a task beside its tables: how many parameters its schemas have together, how many properties, the arity of each
+// property's predicate, and its spaces.
 pub struct Prepared {
-    pub rules: usize,
+    pub parameters: usize,
     pub properties: usize,
+    pub arities: [u8; 60],
     pub spaces: Spaces,
 }
 
-// Fills the tables of a task: its rules in three, the initial bags of its objects in the fourth.
+// How many rows the tables of a task's parameters, and of the moves of one of its spaces, take at most.
+pub fn rows_at_most(task: Task) -> usize
+    requires { ⌜ Represented task (taskOf task) ⌝ }
+    ensures { λ r. ⌜ r ≡ rowsAtMost (taskOf task) ⌝ }
+{
+    let numbers = numbered(task.predicates);
+    let properties = numbers.count;
+    let parameters = parameters_of(task);
+    parameters + properties
+}
+
+// Fills the tables of a task: the bags of its parameters in three, the initial bags of its objects in the fourth.
 pub fn prepare(
     task: Task,
-    enablers: &mut [u8],
-    starts: &mut [u8],
-    finishes: &mut [u8],
+    preconditions: &mut [u8],
+    deletes: &mut [u8],
+    adds: &mut [u8],
     counts: &mut [u16],
 ) -> Prepared
     requires { ⌜ Represented task (taskOf task) ⌝ }
-    requires { ⌜ Room (rulesAtMost (taskOf task)) (now enablers) (now starts) (now finishes) ⌝ }
+    requires { ⌜ RoomForBags (parametersIn (taskOf task)) (now preconditions) (now deletes) (now adds) ⌝ }
     requires { ⌜ 3840 ≤ length (now counts) ⌝ }
     ensures { λ r. ⌜
-        Given
+        PreparedOf
         (taskOf task)
-        (r .spaces)
-        (r .properties)
-        (r .rules)
-        (now (starts .exit))
-        (now (finishes .exit))
+        r
+        (now (preconditions .entry))
+        (now (deletes .entry))
+        (now (adds .entry))
+        (now (counts .entry))
+        (now (preconditions .exit))
+        (now (deletes .exit))
+        (now (adds .exit))
         (now (counts .exit))
         ⌝ }
 {
-    let count = rules::rules(task, enablers, starts, finishes);
+    let parameters = parameter_bags(task, preconditions, deletes, adds);
     object_bags(task, counts);
     let numbers = numbered(task.predicates);
     let properties = numbers.count;
+    let arities = property_arities(task.predicates);
     let spaces = spaces_of(
-        enablers,
-        starts,
-        finishes,
+        preconditions,
+        deletes,
+        adds,
         counts,
-        count,
+        parameters,
         properties,
         task.objects,
     );
     Prepared {
-        rules: count,
+        parameters,
         properties,
+        arities,
         spaces,
     }
 }
 
-// Writes one section of a task whose tables are filled: that of the space with this number, or the closing one behind the last.
-// Two more tables are lent for the moves of a space.
-pub fn write_section(
-    out: &mut [u8],
+// A space's own properties, and its analysis. Its conditions are in the table that was lent for them.
+pub struct Found {
+    pub own: Own,
+    pub analysed: Analysed,
+}
+
+// The analysis of the space with this number. Three tables are lent for its moves and its conditions.
+pub fn analyse_space(
     number: usize,
-    task: Task,
     prepared: Prepared,
-    starts: &[u8],
-    finishes: &[u8],
+    deletes: &[u8],
+    adds: &[u8],
     counts: &[u16],
-    origins: &mut [u8],
-    targets: &mut [u8],
-) -> usize
-    requires { ⌜ Represented task (taskOf task) ⌝ }
+    starts: &mut [u8],
+    finishes: &mut [u8],
+    conditions: &mut [u16],
+) -> Found
     requires { ⌜
-        Given
-        (taskOf task)
-        (prepared .spaces)
-        (prepared .properties)
-        (prepared .rules)
-        (now starts)
-        (now finishes)
-        (now counts)
+        Analysable number prepared (now deletes) (now adds) (now counts) (now starts) (now finishes) (now conditions)
         ⌝ }
-    requires { ⌜ (number ≤ prepared .spaces .count) × (65536 ≤ length (now out)) ⌝ }
-    requires { ⌜ (60 * prepared .rules ≤ length (now origins)) × (60 * prepared .rules ≤ length (now targets)) ⌝ }
     ensures { λ r. ⌜
-        Writes (text (getD (sections (taskOf task)) number [])) (now (out .entry)) (now (out .exit)) r
+        FoundAt
+        number
+        prepared
+        (now (deletes .entry))
+        (now (adds .entry))
+        (now (counts .entry))
+        r
+        (now (starts .entry))
+        (now (finishes .entry))
+        (now (conditions .entry))
+        (now (starts .exit))
+        (now (finishes .exit))
+        (now (conditions .exit))
         ⌝ }
 {
     let spaces = prepared.spaces;
-    let properties = prepared.properties;
-    let rules = prepared.rules;
-    if number < spaces.count {
-        let analysed = analyse(
-            spaces,
-            number,
-            properties,
-            rules,
-            starts,
-            finishes,
-            counts,
-            origins,
-            targets,
-        );
-        let arities = property_arities(task.predicates);
-        return write_space(out, number, spaces, properties, &arities, analysed);
-    }
-    let fixed = fixed_totals(
-        spaces,
-        properties,
-        rules,
+    let groups = spaces.groups;
+    let own = own_properties(&groups, prepared.properties, spaces.lowest[number]);
+    let list = own.properties;
+    let size = own.count;
+    let analysed = analyse(
+        &list[0..size],
+        spaces.members[number],
+        prepared.parameters,
+        deletes,
+        adds,
+        counts,
         starts,
         finishes,
-        counts,
-        origins,
-        targets,
+        conditions,
     );
-    write_closing(out, task, spaces, &fixed)
+    Found { own, analysed }
+}
+
+// The section of a space that was analysed.
+pub fn write_space_section(
+    out: &mut [u8],
+    number: usize,
+    prepared: Prepared,
+    found: Found,
+    conditions: &[u16],
+) -> usize
+    requires { ⌜ SomeFound number prepared found (now conditions) ⌝ }
+    requires { ⌜ outputBytes ≤ length (now out) ⌝ }
+    ensures { λ r. ⌜
+        Writes (text (foundLines number prepared found (now (conditions .entry)))) (now (out .entry)) (now (out .exit)) r
+        ⌝ }
+{
+    let own = found.own;
+    let list = own.properties;
+    let size = own.count;
+    let analysed = found.analysed;
+    let kind = analysed.kind;
+    let arities = prepared.arities;
+    let spaces = prepared.spaces;
+    write_space(
+        out,
+        number,
+        kind,
+        &list[0..size],
+        spaces.members[number],
+        conditions,
+        analysed.count,
+        &arities,
+    )
+}
+
+// The totals of a space that was analysed are entered.
+pub fn enter_space(
+    fixed: &mut [u32],
+    number: usize,
+    prepared: Prepared,
+    found: Found,
+    conditions: &[u16],
+)
+    requires { ⌜ SomeFound number prepared found (now conditions) ⌝ }
+    requires { ⌜ length (now fixed) ≡ 60 ⌝ }
+    ensures { λ _. ⌜
+        now (fixed .exit) ≡ foundTotals number prepared found (now (conditions .entry)) (now (fixed .entry))
+        ⌝ }
+{
+    let own = found.own;
+    let list = own.properties;
+    let size = own.count;
+    let analysed = found.analysed;
+    let spaces = prepared.spaces;
+    let members = masks::size(spaces.members[number]);
+    enter_totals(fixed, &list[0..size], conditions, analysed.count, members);
 }

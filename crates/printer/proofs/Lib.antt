@@ -1,5 +1,5 @@
 pub mod Showing
-pub mod Within
 pub mod Turns
-pub mod Cleared
+pub mod Within
+pub mod Tables
 pub mod Answered

@@ -1,89 +1,153 @@
--- Sections written in turn from byte 0 of a buffer: none, one, one more, all.
-use Prim.Native.Nat.{ℕ, _+_, _-_, _≤_, _<_}
+-- Sections written in turn from byte 0 of a buffer: one, one more, all.
+use Prim.Native.Nat.{ℕ, _+_, _≤_, _<_}
 use native.Mathlib.Numerals.{add-one}
 use native.Mathlib.Omega.{arith}
-use mathlib.Core.Path.{_≡_, refl, sym, ap, _∙_, subst}
-use mathlib.Core.List.{List, [], _∷_, _++_, foldl-append}
-use lib.ListN.{length, getD, take}
+use mathlib.Core.Path.{_≡_, refl, sym, ap, _∙_}
+use mathlib.Core.Bool.{false}
+use mathlib.Core.List.{List, [], _∷_, foldl-append}
+use lib.ListN.{length, getD, take, replicate}
 use lib.Seq.{take-suc}
-use mathlib.Core.Bool.{true, false}
-use lib.Dec.{ltb}
-use borrow.Author.Tests.{ltb-true, ltb-false}
-use Rattle.laws.proofs.Tests.{never, by-test}
-use Rattle.model.specs.Answer.{accepted}
-use Rattle.model.specs.Writer.{checkTask}
-use Rattle.model.specs.Spaces.{spaces}
-use Rattle.analysis.proofs.Places.{place-few}
+use Rattle.laws.proofs.Tests.{never}
 use Rattle.model.specs.Card.{Task}
-use Rattle.model.specs.Lines.{Line, sections}
-use Rattle.model.specs.Text.{text}
 use Rattle.model.specs.Calls.{output}
-use Rattle.spaces.specs.declared.Spaces.{Spaces}
-use Rattle.spaces.specs.SpaceTable.{SpacesOf}
+use Rattle.model.specs.Lines.{Line, analysis, closingLines, sections}
+use Rattle.model.specs.Text.{text}
+use Rattle.model.proofs.RuleCount.{properties-few}
+use Rattle.properties.specs.Tables.{stride}
 use Rattle.text.specs.Written.{Writes}
-use Rattle.prepared.proofs.SectionsOf.{section-count}
+use Rattle.closing.proofs.TypedObjects.{spaces-few}
+use Rattle.totals.specs.Totals.{totalsOf}
+use Rattle.totals.proofs.AllTotals.{length-totals}
+use Rattle.prepared.specs.Found.{Analysable, FoundAt, foundLines, foundTotals}
+use Rattle.prepared.specs.Prepared.{Given}
+use Rattle.prepared.specs.declared.Found.{Found}
+use Rattle.prepared.specs.declared.Prepared.{Prepared}
+use Rattle.prepared.proofs.Analysing.{found-of}
+use Rattle.prepared.proofs.Finding.{lines-found}
+use Rattle.prepared.proofs.SectionsOf.{section-count, section-of-space, section-closing}
+use Rattle.prepared.proofs.Totalling.{totals-none, totals-with}
 use Rattle.printer.specs.declared.printing.Printing.{Printing}
 use Rattle.printer.specs.Ready.{Lent}
-use Rattle.printer.specs.Leaves.{over, inTurn, Leaves, Reaches}
-
--- before the first
-pub none-left : (out origins targets : List ℕ) → Leaves [] out out origins origins targets targets
-unfolding inTurn
-none-left out origins targets = record { buffer = refl; out-sized = refl; origins-sized = refl; targets-sized = refl }
+use Rattle.printer.specs.Leaves.{over, inTurn, SpacePrinted, Reaches}
 
 -- a section that is written
-pub one-left : {out out' origins origins' targets targets' : List ℕ} {n : ℕ} (section : List Line) → Writes (text section) out out' n
-    → length out' ≡ length out → length origins' ≡ length origins → length targets' ≡ length targets
-    → Leaves (section ∷ []) out out' origins origins' targets targets'
+pub one-turn : (section : List Line) {out out' : List ℕ} {n : ℕ} → Writes (text section) out out' n → out' ≡ inTurn (section ∷ []) out
 unfolding inTurn over output
-one-left section w p q r = record { buffer = w .buffer; out-sized = p; origins-sized = q; targets-sized = r }
+one-turn section w = w .buffer
 
--- sections behind others
-then-left : {out out' out'' origins origins' origins'' targets targets' targets'' : List ℕ} (earlier later : List (List Line))
-    → Leaves earlier out out' origins origins' targets targets' → Leaves later out' out'' origins' origins'' targets' targets''
-    → Leaves (earlier ++ later) out out'' origins origins'' targets targets''
-unfolding inTurn
-then-left {out} earlier later l m = record {
-  buffer = m .buffer ∙ ap (inTurn later) (l .buffer) ∙ sym (foldl-append over out earlier later);
-  out-sized = m .out-sized ∙ l .out-sized;
-  origins-sized = m .origins-sized ∙ l .origins-sized;
-  targets-sized = m .targets-sized ∙ l .targets-sized;
+-- the section of a space, written from what was found of it, and the totals, for each task that is prepared so
+module _ {number : ℕ} {p : Prepared} {deletes adds counts starts finishes conditions : List ℕ}
+    (asked : Analysable number p deletes adds counts starts finishes conditions) where
+  pub space-printed : {f : Found} {nowStarts nowFinishes nowConditions fixed fixed' out out' : List ℕ} {n : ℕ}
+      → FoundAt number p deletes adds counts f starts finishes conditions nowStarts nowFinishes nowConditions
+      → length nowConditions ≡ length conditions → fixed' ≡ foundTotals number p f nowConditions fixed
+      → Writes (text (foundLines number p f nowConditions)) out out' n → SpacePrinted number p deletes adds counts fixed fixed' out out'
+  space-printed {f} {nowConditions = nowConditions} {out = out} found kept entered written = record {
+    buffer =
+        λ {t} {preconditions} given.
+        let of = found-of (asked-of given) found kept in
+        one-turn (foundLines number p f nowConditions) written
+        ∙ ap (λ (section : List Line). inTurn (section ∷ []) out) (lines-found of ∙ sym (section-of-space t number (of .known)));
+    totals =
+        λ {t} {preconditions} given before.
+        entered ∙ ap (foundTotals number p f nowConditions) before ∙ totals-with (found-of (asked-of given) found kept);
+  }
+    where
+      asked-of : {t : Task} {preconditions : List ℕ} → Given t p preconditions deletes adds counts
+          → Analysable number p deletes adds counts starts finishes conditions
+      asked-of {t} {preconditions} given = record {
+        task = t;
+        preconditions = preconditions;
+        given = given;
+        known = asked .known;
+        starts-long = asked .starts-long;
+        finishes-long = asked .finishes-long;
+        conditions-long = asked .conditions-long;
+      }
+
+-- What is known before the section with this number: what the sections so far leave in the buffer, and their totals.
+pub record Before (t : Task) (number : ℕ) (fixed out₀ out : List ℕ) : Type 0 where
+  pub buffer : out ≡ inTurn (take number (sections t)) out₀
+  pub totals : fixed ≡ totalsOf (take number (analysis t))
+
+-- The tables and the buffer keep their lengths.
+pub record Kept (starts₀ starts finishes₀ finishes conditions₀ conditions out₀ out : List ℕ) : Type 0 where
+  pub starts-kept : length starts ≡ length starts₀
+  pub finishes-kept : length finishes ≡ length finishes₀
+  pub conditions-kept : length conditions ≡ length conditions₀
+  pub out-kept : length out ≡ length out₀
+
+pub lent-again : {moves : ℕ} {starts₀ starts finishes₀ finishes conditions₀ conditions out₀ out : List ℕ}
+    → Lent moves starts₀ finishes₀ conditions₀ out₀ → Kept starts₀ starts finishes₀ finishes conditions₀ conditions out₀ out
+    → Lent moves starts finishes conditions out
+lent-again lent k = record {
+  starts-long = omega (arith, lent .starts-long, k .starts-kept);
+  finishes-long = omega (arith, lent .finishes-long, k .finishes-kept);
+  conditions-long = k .conditions-kept ∙ lent .conditions-long;
+  out-long = omega (arith, lent .out-long, k .out-kept);
 }
 
-module _ (t : Task) (spaces : Spaces) (are : SpacesOf t spaces) (number : ℕ) {out origins targets : List ℕ} where
-  -- one section more
-  pub next-left : {out' out'' origins' origins'' targets' targets'' : List ℕ} → number ≤ spaces .count
-      → Leaves (take number (sections t)) out out' origins origins' targets targets'
-      → Leaves (getD (sections t) number [] ∷ []) out' out'' origins' origins'' targets' targets''
-      → Leaves (take (number + 1) (sections t)) out out'' origins origins'' targets targets''
-  next-left {out'' = out''} {origins'' = origins''} {targets'' = targets''} h l m =
-      subst (λ (s : List (List Line)). Leaves s out out'' origins origins'' targets targets'')
-      (sym
-      (ap (λ (n : ℕ). take n (sections t)) (add-one number)
-      ∙ take-suc (sections t) number [] (omega (arith, h, are .count, section-count t))))
-      (then-left (take number (sections t)) (getD (sections t) number [] ∷ []) l m)
+module _ {t : Task} {p : Prepared} {preconditions deletes adds counts : List ℕ} (given : Given t p preconditions deletes adds counts) where
+  -- a task has few spaces, and each can be analysed with what is lent
+  pub spaces-low : p .spaces .count ≤ 60
+  spaces-low = spaces-few t (p .spaces) (given .prepared .spaces-are) (properties-few t (given .checked))
 
--- a task has at most 60 spaces
-pub spaces-few : (t : Task) → checkTask t ≡ accepted tt → length (spaces t) ≤ 60
-spaces-few t ok =
-    by-test (ltb 0 (length (spaces t)))
-    (λ e. let some = ltb-true 0 (length (spaces t)) e in omega (arith, place-few t (length (spaces t) - 1) (omega arith) ok))
-    (λ e. omega (arith, ltb-false 0 (length (spaces t)) e))
+  pub analysable-next : {number : ℕ} {starts finishes conditions out : List ℕ} → number < p .spaces .count
+      → Lent (p .parameters + p .properties) starts finishes conditions out
+      → Analysable number p deletes adds counts starts finishes conditions
+  analysable-next h lent = record {
+    task = t;
+    preconditions = preconditions;
+    given = given;
+    known = h;
+    starts-long = lent .starts-long;
+    finishes-long = lent .finishes-long;
+    conditions-long = lent .conditions-long;
+  }
+
+-- the table of totals has its length
+pub fixed-long : {t : Task} {number : ℕ} {fixed out₀ out : List ℕ} → Before t number fixed out₀ out → length fixed ≡ 60
+fixed-long {t} {number} before = ap length (before .totals) ∙ length-totals (take number (analysis t))
+
+-- before the first
+pub before-first : (t : Task) (out : List ℕ) → Before t 0 (replicate stride 0) out out
+unfolding inTurn
+before-first t out = record { buffer = refl; totals = totals-none t }
+
+-- one section more
+next-turn : {t : Task} {number : ℕ} {fixed out₀ out : List ℕ} → Before t number fixed out₀ out → number < length (sections t)
+    → {out' : List ℕ} → out' ≡ inTurn (getD (sections t) number [] ∷ []) out → out' ≡ inTurn (take (number + 1) (sections t)) out₀
+unfolding inTurn
+next-turn {t} {number} {out₀ = out₀} before there written =
+    written
+    ∙ ap (inTurn (getD (sections t) number [] ∷ [])) (before .buffer)
+    ∙ sym (foldl-append over out₀ (take number (sections t)) (getD (sections t) number [] ∷ []))
+    ∙ ap (λ (some : List (List Line)). inTurn some out₀)
+    (sym (ap (λ (n : ℕ). take n (sections t)) (add-one number) ∙ take-suc (sections t) number [] there))
+
+module _ {t : Task} {p : Prepared} {preconditions deletes adds counts : List ℕ} (given : Given t p preconditions deletes adds counts) {number : ℕ}
+    {fixed out₀ out : List ℕ} (before : Before t number fixed out₀ out) where
+  -- that of a space
+  pub space-next : {fixed' out' : List ℕ} → number < p .spaces .count → SpacePrinted number p deletes adds counts fixed fixed' out out'
+      → Before t (number + 1) fixed' out₀ out'
+  space-next h printed = record {
+    buffer = next-turn before (omega (arith, h, given .prepared .spaces-are .count, section-count t)) (printed .buffer given);
+    totals = printed .totals given (before .totals);
+  }
+
+  -- the closing one, behind those of all spaces
+  pub closing-next : {out' : List ℕ} → number ≡ p .spaces .count → out' ≡ inTurn (closingLines t (analysis t) ∷ []) out
+      → out' ≡ inTurn (take (number + 1) (sections t)) out₀
+  closing-next e written =
+      let last = e ∙ given .prepared .spaces-are .count in
+      next-turn before (omega (arith, last, section-count t))
+      (written ∙ ap (λ (section : List Line). inTurn (section ∷ []) out) (sym (section-closing t number last)))
+
+-- a listing of which the closing section was made
+pub to-the-end : {t : Task} {p : Prepared} {preconditions deletes adds counts : List ℕ} → Given t p preconditions deletes adds counts → {r : Printing}
+    → r .sections ≡ p .spaces .count + 1 → Reaches (sections t) r
+to-the-end {t} given e = record { whole = λ w. omega (arith, e, given .prepared .spaces-are .count, section-count t) }
 
 -- a listing that a write cut off
 pub cut-off : {sections : List (List Line)} {r : Printing} → r .written ≡ false → Reaches sections r
 cut-off e = record { whole = λ w. never (sym w ∙ e) }
-
--- a listing of which the closing section was made, behind those of all spaces
-pub to-the-end : {t : Task} {spaces : Spaces} {r : Printing} → SpacesOf t spaces → r .sections ≤ spaces .count + 1 → spaces .count < r .sections
-    → Reaches (sections t) r
-to-the-end {t} are h k = record { whole = λ w. omega (arith, are .count, section-count t) }
-
--- what was lent is lent again
-pub lent-again : {sections : List (List Line)} {out out' origins origins' targets targets' : List ℕ} → Lent origins targets out
-    → Leaves sections out out' origins origins' targets targets' → Lent origins' targets' out'
-lent-again lent l = record {
-  origins-long = omega (arith, lent .origins-long, l .origins-sized);
-  targets-long = omega (arith, lent .targets-long, l .targets-sized);
-  out-long = omega (arith, lent .out-long, l .out-sized);
-}

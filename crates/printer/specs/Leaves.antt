@@ -1,16 +1,20 @@
 -- What printing leaves in the buffer and in the tables lent to it.
-use Prim.Native.Nat.{ℕ, _≤_}
+use Prim.Native.Nat.{ℕ, _+_, _≤_}
 use mathlib.Core.Path.{_≡_}
 use mathlib.Core.Bool.{true}
-use mathlib.Core.List.{List, map, foldl}
-use lib.ListN.{length, take}
+use mathlib.Core.List.{List, [], _∷_, foldl}
+use lib.ListN.{length, getD, take}
 use Rattle.model.specs.Answer.{Answer, refused, accepted}
 use Rattle.model.specs.Card.{Task, decode}
-use Rattle.model.specs.Transitions.{transitions}
-use Rattle.model.specs.Lines.{Line, sections}
+use Rattle.model.specs.Lines.{Line, analysis, sections}
 use Rattle.model.specs.Text.{text}
 use Rattle.model.specs.Calls.{output}
-use Rattle.analysis.specs.Analysed.{Begins, initialBags}
+use Rattle.properties.specs.Tables.{rowsBefore}
+use Rattle.properties.specs.Represented.{objectBags}
+use Rattle.properties.specs.Parameters.{parametersIn, ParameterTables}
+use Rattle.totals.specs.Totals.{totalsOf}
+use Rattle.prepared.specs.Prepared.{Given}
+use Rattle.prepared.specs.declared.Prepared.{Prepared}
 use Rattle.printer.specs.declared.Printed.{Printed}
 use Rattle.printer.specs.declared.Printed.the-variants.{Unread, Whole, CutOff}
 use Rattle.printer.specs.declared.printing.Printing.{Printing}
@@ -48,15 +52,14 @@ PrintsFrom Unread window out out' = out' ≡ out
 PrintsFrom (Whole n) window out out' = (n ≤ length window) × (out' ≡ shown (decode (take n window)) out)
 PrintsFrom (CutOff n k) window out out' = (n ≤ length window) × (out' ≡ shownTo k (decode (take n window)) out)
 
--- The buffer, after these sections, and the two tables that take the moves of a space, of which only the lengths are known.
-pub record Leaves (sections : List (List Line)) (out out' origins origins' targets targets' : List ℕ) : Type 0 where
-  pub buffer : out' ≡ inTurn sections out
-  pub out-sized : length out' ≡ length out
-  pub origins-sized : length origins' ≡ length origins
-  pub targets-sized : length targets' ≡ length targets
+-- The section of a space was written and its totals entered, for each task whose tables were given.
+pub record SpacePrinted (number : ℕ) (p : Prepared) (deletes adds counts fixed fixed' out out' : List ℕ) : Type 0 where
+  pub buffer : {t : Task} {preconditions : List ℕ} → Given t p preconditions deletes adds counts
+      → out' ≡ inTurn (getD (sections t) number [] ∷ []) out
+  pub totals : {t : Task} {preconditions : List ℕ} → Given t p preconditions deletes adds counts
+      → fixed ≡ totalsOf (take number (analysis t)) → fixed' ≡ totalsOf (take (number + 1) (analysis t))
 
--- The tables of a task: each begins with its rows.
-pub record Filled (t : Task) (starts finishes counts : List ℕ) : Type 0 where
-  pub starts-are : Begins (map (λ r. r .start) (transitions t)) starts
-  pub finishes-are : Begins (map (λ r. r .finish) (transitions t)) finishes
-  pub counts-are : Begins (initialBags t) counts
+-- The tables of a task were filled: every number of them, before and after.
+pub record Filled (t : Task) (preconditions deletes adds counts p d a c : List ℕ) : Type 0 where
+  pub parameters-are : ParameterTables t (parametersIn t) preconditions deletes adds p d a
+  pub counts-are : c ≡ rowsBefore (objectBags t) counts

@@ -3,6 +3,7 @@
 mod printing;
 mod refusals;
 
+use card::OUTPUT_BYTES;
 use card::Verdict;
 use input::Reading;
 use input::read_front;
@@ -25,7 +26,7 @@ pub enum Printed {
 }
 
 // Prints a card's listing, section by section from `out`, or the line that refuses it. A refused card has no section.
-fn print_card(card: &[u8], out: &mut [u8; 65536]) -> Printing
+fn print_card(card: &[u8], out: &mut [u8; OUTPUT_BYTES]) -> Printing
     ensures { λ r. ⌜ Prints (decode (now (card .entry))) r (now (out .entry)) (now (out .exit)) ⌝ }
 {
     let decoded = decode(card);
@@ -47,7 +48,7 @@ fn print_card(card: &[u8], out: &mut [u8; 65536]) -> Printing
 }
 
 // Prints the card that an input brings to the front of `window`. The first 5,306 bytes decide (theorem `decode-window`).
-pub fn print_from(input: i32, window: &mut [u8; 5306], out: &mut [u8; 65536]) -> Printed
+pub fn print_from(input: i32, window: &mut [u8; 5306], out: &mut [u8; OUTPUT_BYTES]) -> Printed
     ensures { λ r. ⌜ PrintsFrom r (now (window .exit)) (now (out .entry)) (now (out .exit)) ⌝ }
 {
     let reading = read_front(input, window);

@@ -1,20 +1,32 @@
-// An accepted card's listing, section after section, from tables that are filled once. Printing ends at the first write that fails, so
-// that a listing with a hole in it is never printed.
+// An accepted card's listing, section after section, from tables that are filled once. Each space is analysed once: its section is written
+// and its totals are entered for the closing one. Printing ends at the first write that fails, so that a listing with a hole in it is never
+// printed.
+use card::OUTPUT_BYTES;
 use card::Task;
+use closing::write_closing;
 use libc::STDOUT_FILENO;
 use prepared::Prepared;
+use prepared::analyse_space;
+use prepared::enter_space;
 use prepared::prepare;
-use prepared::write_section;
+use prepared::rows_at_most;
+use prepared::write_space_section;
+use spaces::Spaces;
 ghost use mathlib.Core.Path.{_≡_};
 ghost use mathlib.Core.List.{[], _∷_};
-ghost use Prim.Native.Nat.{_≤_};
-ghost use lib.ListN.{length, getD, take};
-ghost use Rattle.model.specs.Lines.{sections};
+ghost use Prim.Native.Nat.{_+_, _≤_};
+ghost use lib.ListN.{length, take};
+ghost use Rattle.model.specs.Calls.{outputBytes};
+ghost use Rattle.model.specs.Lines.{analysis, closingLines, sections};
 ghost use Rattle.card.specs.Represents.{taskOf, Represented};
-ghost use Rattle.rules.specs.Tables.{rulesAtMost};
-ghost use Rattle.rules.specs.Appended.{Room};
+ghost use Rattle.properties.specs.Parameters.{parametersIn, RoomForBags};
+ghost use Rattle.spaces.specs.SpaceTable.{SpacesOf};
+ghost use Rattle.closing.specs.Fixed.{fixedTable};
+ghost use Rattle.closing.specs.Typing.{PreconditionRows};
+ghost use Rattle.prepared.specs.Prepared.{rowsAtMost};
+ghost use Rattle.prepared.specs.Found.{Analysable};
 ghost use Rattle.printer.specs.Ready.{Ready, Lent};
-ghost use Rattle.printer.specs.Leaves.{inTurn, Leaves, Reaches, Filled};
+ghost use Rattle.printer.specs.Leaves.{inTurn, SpacePrinted, Reaches, Filled};
 
 // How far a listing was printed: how many of its sections were made, and whether all of it was written.
 pub struct Printing {
@@ -22,43 +34,71 @@ pub struct Printing {
     pub written: bool,
 }
 
-// Writes a section from byte 0 of `out`, prints it from there, and answers whether it was written whole.
-fn print_section(
+// Analyses a space, enters its totals, writes its section from byte 0 of `out`, prints it from there, and answers whether it was written
+// whole.
+fn print_space(
     number: usize,
-    task: Task,
     prepared: Prepared,
-    starts: &[u8],
-    finishes: &[u8],
+    deletes: &[u8],
+    adds: &[u8],
     counts: &[u16],
-    origins: &mut [u8],
-    targets: &mut [u8],
+    starts: &mut [u8],
+    finishes: &mut [u8],
+    conditions: &mut [u16],
+    fixed: &mut [u32],
     out: &mut [u8],
 ) -> bool
-    requires { ⌜ Ready task prepared (now starts) (now finishes) (now counts) ⌝ }
-    requires { ⌜ Lent (now origins) (now targets) (now out) ⌝ }
-    requires { ⌜ number ≤ prepared .spaces .count ⌝ }
+    requires { ⌜
+        Analysable number prepared (now deletes) (now adds) (now counts) (now starts) (now finishes) (now conditions)
+        ⌝ }
+    requires { ⌜ length (now fixed) ≡ 60 ⌝ }
+    requires { ⌜ outputBytes ≤ length (now out) ⌝ }
     ensures { λ _. ⌜
-        Leaves
-        (getD (sections (taskOf task)) number [] ∷ [])
+        SpacePrinted
+        number
+        prepared
+        (now (deletes .entry))
+        (now (adds .entry))
+        (now (counts .entry))
+        (now (fixed .entry))
+        (now (fixed .exit))
         (now (out .entry))
         (now (out .exit))
-        (now (origins .entry))
-        (now (origins .exit))
-        (now (targets .entry))
-        (now (targets .exit))
         ⌝ }
 {
-    let length = write_section(
-        out,
+    let found = analyse_space(
         number,
-        task,
         prepared,
+        deletes,
+        adds,
+        counts,
         starts,
         finishes,
-        counts,
-        origins,
-        targets,
+        conditions,
     );
+    enter_space(fixed, number, prepared, found, conditions);
+    let length = write_space_section(out, number, prepared, found, conditions);
+    io::write_all(STDOUT_FILENO, &out[0..length])
+}
+
+// Writes the closing section and prints it, in the same way.
+fn print_closing(
+    task: Task,
+    spaces: Spaces,
+    preconditions: &[u8],
+    fixed: &[u32],
+    out: &mut [u8],
+) -> bool
+    requires { ⌜ Represented task (taskOf task) ⌝ }
+    requires { ⌜ SpacesOf (taskOf task) spaces ⌝ }
+    requires { ⌜ now fixed ≡ fixedTable (taskOf task) ⌝ }
+    requires { ⌜ PreconditionRows (taskOf task) (now preconditions) ⌝ }
+    requires { ⌜ outputBytes ≤ length (now out) ⌝ }
+    ensures { λ _. ⌜
+        now (out .exit) ≡ inTurn (closingLines (taskOf task) (analysis (taskOf task)) ∷ []) (now (out .entry))
+        ⌝ }
+{
+    let length = write_closing(out, task, spaces, fixed, preconditions);
     io::write_all(STDOUT_FILENO, &out[0..length])
 }
 
@@ -66,40 +106,37 @@ fn print_section(
 fn print_sections(
     task: Task,
     prepared: Prepared,
-    starts: &[u8],
-    finishes: &[u8],
+    preconditions: &[u8],
+    deletes: &[u8],
+    adds: &[u8],
     counts: &[u16],
-    origins: &mut [u8],
-    targets: &mut [u8],
+    starts: &mut [u8],
+    finishes: &mut [u8],
+    conditions: &mut [u16],
     out: &mut [u8],
 ) -> Printing
-    requires { ⌜ Ready task prepared (now starts) (now finishes) (now counts) ⌝ }
-    requires { ⌜ Lent (now origins) (now targets) (now out) ⌝ }
-    ensures { λ r. ⌜ Reaches (sections (taskOf task)) r ⌝ }
-    ensures { λ r. ⌜
-        Leaves
-        (take (r .sections) (sections (taskOf task)))
-        (now (out .entry))
-        (now (out .exit))
-        (now (origins .entry))
-        (now (origins .exit))
-        (now (targets .entry))
-        (now (targets .exit))
+    requires { ⌜ Ready task prepared (now preconditions) (now deletes) (now adds) (now counts) ⌝ }
+    requires { ⌜
+        Lent (prepared .parameters + prepared .properties) (now starts) (now finishes) (now conditions) (now out)
         ⌝ }
+    ensures { λ r. ⌜ Reaches (sections (taskOf task)) r ⌝ }
+    ensures { λ r. ⌜ now (out .exit) ≡ inTurn (take (r .sections) (sections (taskOf task))) (now (out .entry)) ⌝ }
 {
     let spaces = prepared.spaces;
     let last = spaces.count;
+    let mut fixed = [0u32; 60];
     let mut number = 0;
-    while number <= last {
-        let written = print_section(
+    while number < last {
+        let written = print_space(
             number,
-            task,
             prepared,
+            deletes,
+            adds,
+            counts,
             starts,
             finishes,
-            counts,
-            origins,
-            targets,
+            conditions,
+            &mut fixed,
             out,
         );
         number = number + 1;
@@ -110,73 +147,121 @@ fn print_sections(
             };
         }
     }
+    let written = print_closing(task, spaces, preconditions, &fixed, out);
     Printing {
-        sections: number,
-        written: true,
+        sections: number + 1,
+        written,
     }
 }
 
-// With tables lent to it.
+// The listing of a task, with tables lent to it.
 fn print_with(
     task: Task,
-    enablers: &mut [u8],
+    preconditions: &mut [u8],
+    deletes: &mut [u8],
+    adds: &mut [u8],
+    counts: &mut [u16],
     starts: &mut [u8],
     finishes: &mut [u8],
-    counts: &mut [u16],
-    origins: &mut [u8],
-    targets: &mut [u8],
+    conditions: &mut [u16],
     out: &mut [u8],
 ) -> Printing
     requires { ⌜ Represented task (taskOf task) ⌝ }
-    requires { ⌜ Room (rulesAtMost (taskOf task)) (now enablers) (now starts) (now finishes) ⌝ }
+    requires { ⌜ RoomForBags (parametersIn (taskOf task)) (now preconditions) (now deletes) (now adds) ⌝ }
     requires { ⌜ 3840 ≤ length (now counts) ⌝ }
-    requires { ⌜ Lent (now origins) (now targets) (now out) ⌝ }
-    ensures { λ _. ⌜ Filled (taskOf task) (now (starts .exit)) (now (finishes .exit)) (now (counts .exit)) ⌝ }
-    ensures { λ r. ⌜ Reaches (sections (taskOf task)) r ⌝ }
-    ensures { λ r. ⌜
-        Leaves
-        (take (r .sections) (sections (taskOf task)))
-        (now (out .entry))
-        (now (out .exit))
-        (now (origins .entry))
-        (now (origins .exit))
-        (now (targets .entry))
-        (now (targets .exit))
+    requires { ⌜ Lent (rowsAtMost (taskOf task)) (now starts) (now finishes) (now conditions) (now out) ⌝ }
+    ensures { λ _. ⌜
+        Filled
+        (taskOf task)
+        (now (preconditions .entry))
+        (now (deletes .entry))
+        (now (adds .entry))
+        (now (counts .entry))
+        (now (preconditions .exit))
+        (now (deletes .exit))
+        (now (adds .exit))
+        (now (counts .exit))
         ⌝ }
+    ensures { λ r. ⌜ Reaches (sections (taskOf task)) r ⌝ }
+    ensures { λ r. ⌜ now (out .exit) ≡ inTurn (take (r .sections) (sections (taskOf task))) (now (out .entry)) ⌝ }
 {
-    let prepared = prepare(task, enablers, starts, finishes, counts);
+    let prepared = prepare(task, preconditions, deletes, adds, counts);
     print_sections(
         task,
         prepared,
+        preconditions,
+        deletes,
+        adds,
+        counts,
         starts,
         finishes,
-        counts,
-        origins,
-        targets,
+        conditions,
         out,
     )
 }
 
-// Each section is written to `out` from byte 0 on and printed from there. The tables are of the sizes that the largest task asks for.
-pub fn print_listing(task: Task, out: &mut [u8; 65536]) -> Printing
+// The listing of a task whose parameters and properties are at most 32 together.
+fn print_small(task: Task, out: &mut [u8]) -> Printing
+    requires { ⌜ Represented task (taskOf task) ⌝ }
+    requires { ⌜ (rowsAtMost (taskOf task) ≤ 32) × (outputBytes ≤ length (now out)) ⌝ }
+    ensures { λ r. ⌜ Reaches (sections (taskOf task)) r ⌝ }
+    ensures { λ r. ⌜ now (out .exit) ≡ inTurn (take (r .sections) (sections (taskOf task))) (now (out .entry)) ⌝ }
+{
+    let mut preconditions = [0u8; 1920];
+    let mut deletes = [0u8; 1920];
+    let mut adds = [0u8; 1920];
+    let mut counts = [0u16; 3840];
+    let mut starts = [0u8; 1920];
+    let mut finishes = [0u8; 1920];
+    let mut conditions = [0u16; 3840];
+    print_with(
+        task,
+        &mut preconditions,
+        &mut deletes,
+        &mut adds,
+        &mut counts,
+        &mut starts,
+        &mut finishes,
+        &mut conditions,
+        out,
+    )
+}
+
+// The listing of any task: at most 192 parameters, and 60 properties.
+fn print_large(task: Task, out: &mut [u8]) -> Printing
+    requires { ⌜ Represented task (taskOf task) ⌝ }
+    requires { ⌜ outputBytes ≤ length (now out) ⌝ }
+    ensures { λ r. ⌜ Reaches (sections (taskOf task)) r ⌝ }
+    ensures { λ r. ⌜ now (out .exit) ≡ inTurn (take (r .sections) (sections (taskOf task))) (now (out .entry)) ⌝ }
+{
+    let mut preconditions = [0u8; 11520];
+    let mut deletes = [0u8; 11520];
+    let mut adds = [0u8; 11520];
+    let mut counts = [0u16; 3840];
+    let mut starts = [0u8; 15120];
+    let mut finishes = [0u8; 15120];
+    let mut conditions = [0u16; 3840];
+    print_with(
+        task,
+        &mut preconditions,
+        &mut deletes,
+        &mut adds,
+        &mut counts,
+        &mut starts,
+        &mut finishes,
+        &mut conditions,
+        out,
+    )
+}
+
+// Each section is written to `out` from byte 0 on and printed from there. A small task does not pay for clearing the tables of the largest.
+pub fn print_listing(task: Task, out: &mut [u8; OUTPUT_BYTES]) -> Printing
     requires { ⌜ Represented task (taskOf task) ⌝ }
     ensures { λ r. ⌜ Reaches (sections (taskOf task)) r ⌝ }
     ensures { λ r. ⌜ now (out .exit) ≡ inTurn (take (r .sections) (sections (taskOf task))) (now (out .entry)) ⌝ }
 {
-    let mut enablers = [0u8; 57600];
-    let mut starts = [0u8; 57600];
-    let mut finishes = [0u8; 57600];
-    let mut counts = [0u16; 3840];
-    let mut origins = [0u8; 57600];
-    let mut targets = [0u8; 57600];
-    print_with(
-        task,
-        &mut enablers,
-        &mut starts,
-        &mut finishes,
-        &mut counts,
-        &mut origins,
-        &mut targets,
-        out,
-    )
+    if rows_at_most(task) <= 32 {
+        return print_small(task, out);
+    }
+    print_large(task, out)
 }

@@ -1,8 +1,12 @@
 pub mod Firsts
 pub mod Rows
+pub mod RowTables
 pub mod Tally
 pub mod Predicates
-pub mod ParameterBag
+pub mod AtomCounts
 pub mod TaskParts
-pub mod ObjectTable
-pub mod ObjectBags
+pub mod Entering
+pub mod AtomByAtom
+pub mod ParameterRows
+pub mod ArityTable
+pub mod ParameterRules

@@ -1,23 +1,25 @@
 -- What the arrays of arities and first properties say of a known predicate, and what a list of the code's atoms says of each atom.
 use Prim.Native.Nat.{ℕ, suc, _+_, _-_, _≤_, _<_}
 use native.Mathlib.Omega.{arith}
-use mathlib.Core.Path.{_≡_, sym, ap, _∙_, subst}
-use mathlib.Core.Bool.{true}
+use mathlib.Core.Path.{_≡_, sym, ap, _∙_}
+use mathlib.Core.Bool.{true, _&&_}
 use mathlib.Core.List.{List, map}
-use lib.Dec.{ltb}
-use lib.ListN.{length, getD, take, replicate, length-map, length-take, List·getD-append, List·getD-map}
-use lib.Seq.{getD-take, length-take-le}
+use lib.Dec.{ltb, eqb}
+use lib.ListN.{length, getD, take, replicate, length-map, List·getD-append, List·getD-map}
 use borrow.Author.Tests.{ltb-true}
 use Rattle.laws.specs.Lists.{all, sum, upTo}
+use Rattle.laws.proofs.Tests.{and-left}
 use Rattle.laws.proofs.Lists.{all-at, mem-getD, length-upTo, getD-upTo}
 use Rattle.laws.proofs.Fronts.{sum-take-next, sum-take-all}
 use Rattle.model.specs.Card as model
 use Rattle.model.specs.Card.{between}
+use Rattle.model.specs.Writer.{known}
 use Rattle.model.proofs.Checked.{between-low, between-high}
 use Rattle.model.proofs.RuleCount.{sum-all}
 use Rattle.card.specs.declared.Atom.{Atom}
 use Rattle.card.specs.declared.ArityList.{ArityList}
-use Rattle.card.specs.Represents.{padded, aritiesOf, atomOf}
+use Rattle.card.specs.Represents.{padded, blankAtom, entries, aritiesOf, atomOf}
+use Rattle.card.proofs.Entries.{getD-entries, item-in, length-arities}
 use Rattle.properties.specs.Represented.{AritiesRight, firstProperties}
 
 -- What the arrays hold for predicate p: its arity, and where its properties begin.
@@ -31,27 +33,17 @@ pub record Placed (predicates : ArityList) (firsts : List ℕ) (p : ℕ) : Type 
 
 -- at most 60 properties
 pub sum-arities : (predicates : ArityList) → AritiesRight predicates → sum (aritiesOf predicates) ≤ 60
-unfolding aritiesOf
 sum-arities predicates right =
-    omega (
-      arith,
-      sum-all 3 (aritiesOf predicates) (right .in-range),
-      length-take (predicates .count) (predicates .arities),
-      right .few,
-    )
+    omega (arith, sum-all 3 (aritiesOf predicates) (right .in-range), length-arities predicates, right .few)
 
-module _ (predicates : ArityList) (firsts : List ℕ) (right : AritiesRight predicates) (sized : length (predicates .arities) ≡ 20)
+module _ (predicates : ArityList) (firsts : List ℕ) (right : AritiesRight predicates)
     (numbered : firsts ≡ padded 20 0 (firstProperties (aritiesOf predicates))) where
-  pub length-arities : length (aritiesOf predicates) ≡ predicates .count
-  unfolding aritiesOf
-  length-arities = length-take-le (predicates .count) (predicates .arities) (let few = right .few in omega arith)
-
   pub placed : (p : ℕ) → p < length (aritiesOf predicates) → Placed predicates firsts p
-  placed p known =
+  placed p there =
       let arities = aritiesOf predicates in
       let few = right .few in
-      let is : getD (predicates .arities) p 0 ≡ getD arities p 0 = unfold aritiesOf in sym (getD-take (predicates .count) (predicates .arities) p 0 inside) in
-      let range = all-at (between 1 3) arities (right .in-range) (getD arities p 0) (mem-getD arities p 0 known) in
+      let is : getD (predicates .arities) p 0 ≡ getD arities p 0 = unfold aritiesOf in sym (getD-entries (predicates .count) 0 (predicates .arities) p inside) in
+      let range = all-at (between 1 3) arities (right .in-range) (getD arities p 0) (mem-getD arities p 0 there) in
       let low = between-low 1 3 (getD arities p 0) range in
       let high = between-high 1 3 (getD arities p 0) range in
       record {
@@ -61,11 +53,11 @@ module _ (predicates : ArityList) (firsts : List ℕ) (right : AritiesRight pred
         arity-high = omega arith;
         first-is = first;
         room =
-            omega (arith, first, is, sum-arities predicates right, sum-take-next arities p known, sum-take-all (suc p) arities);
+            omega (arith, first, is, sum-arities predicates right, sum-take-next arities p there, sum-take-all (suc p) arities);
       }
     where
       inside : p < predicates .count
-      inside = omega (arith, known, length-arities)
+      inside = omega (arith, there, length-arities predicates)
 
       first : getD firsts p 0 ≡ sum (take p (aritiesOf predicates))
       first =
@@ -74,38 +66,34 @@ module _ (predicates : ArityList) (firsts : List ℕ) (right : AritiesRight pred
           let starts : List ℕ = map (λ q. sum (take q arities)) (upTo (length arities)) in
           let many : length starts ≡ length arities = length-map (upTo (length arities)) (λ q. sum (take q arities)) ∙ length-upTo (length arities) in
           ap (λ (l : List ℕ). getD l p 0) numbered
-          ∙ List·getD-append starts (replicate (20 - length starts) 0) 0 p (omega (arith, many, known))
+          ∙ List·getD-append starts (replicate (20 - length starts) 0) 0 p (omega (arith, many, there))
           ∙ List·getD-map (λ q. sum (take q arities)) (upTo (length arities)) p 0
-          ∙ ap (λ (q : ℕ). sum (take q arities)) (getD-upTo (length arities) p 0 known)
+          ∙ ap (λ (q : ℕ). sum (take q arities)) (getD-upTo (length arities) p 0 there)
 
--- the code's atoms as the model's
-module _ (arities : List ℕ) (atoms : List Atom) (n : ℕ) (inside : n ≤ length atoms) where
-  -- as many as are counted
-  pub length-atoms : length (map (atomOf arities) (take n atoms)) ≡ n
-  length-atoms = length-map (take n atoms) (atomOf arities) ∙ length-take-le n atoms inside
+  -- the predicate of a known atom is known, and its properties have their places
+  pub known-placed : (bound : ℕ) (a : Atom) → known (aritiesOf predicates) bound (atomOf (aritiesOf predicates) a) ≡ true
+      → (a .predicate < length (aritiesOf predicates)) × Placed predicates firsts (a .predicate)
+  unfolding known atomOf
+  known-placed bound a there =
+      let arities = aritiesOf predicates in
+      let arguments = atomOf arities a .arguments in
+      let p : a .predicate < length arities =
+      ltb-true (a .predicate) (length arities)
+      (and-left (ltb (a .predicate) (length arities)) (eqb (length arguments) (getD arities (a .predicate) 0))
+      (and-left (ltb (a .predicate) (length arities) && eqb (length arguments) (getD arities (a .predicate) 0))
+      (all (λ x. ltb x bound) arguments) there)) in
+      (p, placed (a .predicate) p)
 
-  -- each is the code's at its place
-  pub atom-at : (i : ℕ) (d : Atom) → i < n → getD (map (atomOf arities) (take n atoms)) i (atomOf arities d) ≡ atomOf arities (getD atoms i d)
-  atom-at i d h = List·getD-map (atomOf arities) (take n atoms) i d ∙ ap (atomOf arities) (getD-take n atoms i d h)
+-- an atom of a list is known, if all are
+pub atom-known : (arities : List ℕ) (atoms : List Atom) (n bound : ℕ) → all (known arities bound) (map (atomOf arities) (entries n blankAtom atoms)) ≡ true
+    → (i : ℕ) → i < n → known arities bound (atomOf arities (getD atoms i blankAtom)) ≡ true
+atom-known arities atoms n bound all-known i h =
+    all-at (known arities bound) (map (atomOf arities) (entries n blankAtom atoms)) all-known (atomOf arities (getD atoms i blankAtom))
+    (item-in (atomOf arities) n blankAtom atoms i h)
 
-  -- and of a known predicate, if all are
-  pub atom-known : all (λ a. ltb (a .predicate) (length arities)) (map (atomOf arities) (take n atoms)) ≡ true
-      → (i : ℕ) (d : Atom) → i < n → getD atoms i d .predicate < length arities
-  unfolding atomOf
-  atom-known known i d h =
-      let m = mem-getD (map (atomOf arities) (take n atoms)) i (atomOf arities d) (omega (arith, h, length-atoms)) in
-      ltb-true (getD atoms i d .predicate) (length arities)
-      (subst (λ (a : model.Atom). ltb (a .predicate) (length arities) ≡ true) (atom-at i d h)
-      (all-at (λ a. ltb (a .predicate) (length arities)) (map (atomOf arities) (take n atoms)) known
-      (getD (map (atomOf arities) (take n atoms)) i (atomOf arities d)) m))
-
--- what counting an atom asks, of a predicate and an arity that were read
-pub atom-asked : (predicates : ArityList) (firsts : List ℕ) (p q arity : ℕ) (size : ℕ) → Placed predicates firsts p → q ≡ p
-    → arity ≡ getD (predicates .arities) q 0 → 60 ≤ size → (1 ≤ arity) × (arity ≤ 3) × (getD firsts q 0 + arity ≤ size)
-atom-asked predicates firsts p q arity size r e f h =
-    let g : arity ≡ getD (predicates .arities) p 0 = f ∙ ap (λ (k : ℕ). getD (predicates .arities) k 0) e in
-    let first : getD firsts q 0 ≡ getD firsts p 0 = ap (λ (k : ℕ). getD firsts k 0) e in
-    let low = r .arity-low in
-    let high = r .arity-high in
-    let room = r .room in
-    (omega arith, omega arith, omega arith)
+-- an arity that was read is 1, 2 or 3
+pub arity-asked : {predicates : ArityList} {firsts : List ℕ} {p q arity : ℕ} → Placed predicates firsts p → q ≡ p
+    → arity ≡ getD (predicates .arities) q 0 → (1 ≤ arity) × (arity ≤ 3)
+arity-asked {predicates} r e f =
+    let same = f ∙ ap (λ (k : ℕ). getD (predicates .arities) k 0) e in
+    (omega (arith, same, r .arity-low), omega (arith, same, r .arity-high))

@@ -35,10 +35,6 @@ pub row-ext : (l : List ℕ) (b : Bag) → length l ≡ 60 → length b ≤ 60 �
 row-ext l b e h same =
     ext-getD 0 l (row b) (e ∙ sym (length-row b h)) (λ i k. same i (subst (λ (n : ℕ). i < n) e k) ∙ sym (getD-row b i))
 
--- the row of 60 counts is these
-pub row-whole : (b : Bag) → length b ≡ 60 → row b ≡ b
-row-whole b e = sym (row-ext b b e (omega arith) (λ i h. refl))
-
 -- no bag is over more than 60 properties
 abbrev pub Narrow : List Bag → Type 0
 Narrow bags = (b : Bag) → List·Memᴰ b bags → length b ≤ 60

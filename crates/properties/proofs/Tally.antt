@@ -1,7 +1,6 @@
 -- What a pass over the arguments of an atom does to a bag: it counts the atom for each property that x has in it.
 use Prim.Native.Nat.{ℕ, zero, suc, _+_, _-_, _≤_, _<_}
 use native.Mathlib.Nat.{zero-add, add-zero, le-refl, not-suc-le-zero, le-of-suc-le-suc}
-use native.Mathlib.Numerals.{add-one, add-two}
 use native.Mathlib.Omega.{arith}
 use mathlib.Core.Path.{_≡_, refl, sym, ap, _∙_, subst}
 use mathlib.Core.Bool.{Bool, true, false, cond, _&&_}
@@ -80,38 +79,6 @@ tallied-from x first (y ∷ ys) bag (suc i) h =
   where
     shift : (first i : ℕ) → first + suc i ≡ suc first + i
     shift first i = omega arith
-
--- a later place has room after an argument as before it
-pub room-next : (x y place next : ℕ) (bag later : List ℕ) → later ≡ marked x y place bag → place < next → next < length bag
-    → getD bag next 0 < 255 → (next < length later) × (getD later next 0 < 255)
-room-next x y place next bag later e h k small = (
-  omega (arith, k, ap length e, length-marked x y place bag),
-  omega (arith, small, ap (λ (l : List ℕ). getD l next 0) e, marked-elsewhere x y place bag next (λ q. omega arith)),
-)
-
--- one, two or three arguments counted one after the other
-module _ (x first y z w : ℕ) (bag : List ℕ) where
-  pub tallied-one : (arity : ℕ) (a : List ℕ) → arity ≡ 1 → a ≡ marked x y first bag
-      → a ≡ tallied x first (take arity (y ∷ z ∷ w ∷ [])) bag
-  unfolding tallied
-  tallied-one arity a e p = rw e p
-
-  pub tallied-two : (arity : ℕ) (a b : List ℕ) → arity ≡ 2 → a ≡ marked x y first bag → b ≡ marked x z (first + 1) a
-      → b ≡ tallied x first (take arity (y ∷ z ∷ w ∷ [])) bag
-  unfolding tallied
-  tallied-two arity a b e p q =
-      rw e
-      (q ∙ ap (λ (l : List ℕ). marked x z (first + 1) l) p
-      ∙ ap (λ (n : ℕ). marked x z n (marked x y first bag)) (add-one first))
-
-  pub tallied-three : (arity : ℕ) (a b c : List ℕ) → arity ≡ 3 → a ≡ marked x y first bag → b ≡ marked x z (first + 1) a
-      → c ≡ marked x w (first + 2) b → c ≡ tallied x first (take arity (y ∷ z ∷ w ∷ [])) bag
-  unfolding tallied
-  tallied-three arity a b c e p q r =
-      rw e
-      (r ∙ ap (λ (l : List ℕ). marked x w (first + 2) l) (q ∙ ap (λ (l : List ℕ). marked x z (first + 1) l) p)
-      ∙ ap (λ (n : ℕ). marked x w (first + 2) (marked x z n (marked x y first bag))) (add-one first)
-      ∙ ap (λ (n : ℕ). marked x w n (marked x z (suc first) (marked x y first bag))) (add-two first))
 
 -- ---- an atom counted
 

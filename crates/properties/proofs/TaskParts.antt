@@ -2,57 +2,28 @@
 use Prim.Native.Nat.{ℕ, _<_}
 use native.Mathlib.Omega.{arith}
 use mathlib.Core.Path.{_≡_, ap, _∙_, subst}
-use mathlib.Core.Bool.{Bool, true, _&&_}
-use mathlib.Core.List.{List, [], map}
-use lib.Dec.{ltb, eqb}
-use lib.ListN.{length, getD, take, length-map, List·getD-map}
+use mathlib.Core.Bool.{Bool, true}
+use mathlib.Core.List.{List}
+use lib.ListN.{getD, take, List·getD-map}
 use lib.Seq.{getD-take}
-use borrow.Author.Tests.{ltb-true}
-use Rattle.laws.specs.Lists.{all}
-use Rattle.laws.proofs.Tests.{and-left}
-use Rattle.laws.proofs.Lists.{all-at, all-intro, mem-getD}
-use Rattle.laws.proofs.Mapped.{getD-map}
+use Rattle.laws.proofs.Lists.{mem-getD}
 use Rattle.model.specs.Card as model
 use Rattle.model.specs.Writer.{known}
 use Rattle.model.proofs.Checked.{CheckedSchema, CheckedList}
-use Rattle.card.specs.declared.Atom.{Atom}
 use Rattle.card.specs.declared.Schema.{Schema}
 use Rattle.card.specs.declared.AtomList.{AtomList}
 use Rattle.card.specs.declared.Task.{Task}
-use Rattle.card.specs.Represents.{taskFor, atomOf, schemasFor, schemaFor, atomsFor, padded, blankSchema, Represented}
-use Rattle.card.specs.Represents.{taskOf, schemasOf, aritiesOf, schemaOf, atomsOf, factsOf}
-use Rattle.card.proofs.Padded.{padded-at}
-use Rattle.card.proofs.Counts.{right, predicates-few, schema-count, fact-count, facts-inside}
-use Rattle.properties.specs.Represented.{AritiesRight, AtomsRight, SchemaRight, firstProperties}
-use Rattle.properties.proofs.Predicates.{Placed, placed, atom-at}
+use Rattle.card.specs.Represents.{blankAtom, atomOf, Represented}
+use Rattle.card.specs.Represents.{taskOf, aritiesOf, schemaOf, atomsOf, factsOf}
+use Rattle.card.proofs.Entries.{schemas-within, length-atoms}
+use Rattle.card.proofs.Counts.{right, predicates-few, schema-count, schemas-inside}
+use Rattle.properties.specs.Represented.{AritiesRight, AtomsRight, SchemaRight}
+use Rattle.properties.proofs.Predicates.{atom-known}
 
--- a known atom's predicate is known
-predicate-known : (arities : List ℕ) (bound : ℕ) (atoms : List model.Atom) → all (known arities bound) atoms ≡ true
-    → all (λ a. ltb (a .predicate) (length arities)) atoms ≡ true
-unfolding known
-predicate-known arities bound atoms e =
-    all-intro (λ a. ltb (a .predicate) (length arities)) atoms
-    (λ a m.
-    and-left (ltb (a .predicate) (length arities)) (eqb (length (a .arguments)) (getD arities (a .predicate) 0))
-    (and-left (ltb (a .predicate) (length arities) && eqb (length (a .arguments)) (getD arities (a .predicate) 0))
-    (all (λ x. ltb x bound) (a .arguments)) (all-at (known arities bound) atoms e a m)))
-
--- a list of atoms that passed, with its count beside it
-atoms-right : (arities : List ℕ) (bound : ℕ) (test : model.Atom → Bool) (l : AtomList) → l .count ≡ length (atomsOf arities l)
-    → CheckedList arities bound test (atomsOf arities l) → AtomsRight arities l
-atoms-right arities bound test l e c = record {
-  few = let h = c .few in omega arith;
-  predicates-known = predicate-known arities bound (atomsOf arities l) (c .atoms-known);
-}
-
--- what stands past the schemas
-abbrev pub noSchema : Schema
-noSchema = record {
-  parameters = 0;
-  preconditions = record { count = 0; atoms = [] };
-  deletes = record { count = 0; atoms = [] };
-  adds = record { count = 0; atoms = [] };
-}
+-- a list of atoms that passed
+atoms-right : (arities : List ℕ) (parameters : ℕ) (test : model.Atom → Bool) (l : AtomList)
+    → CheckedList arities parameters test (atomsOf arities l) → AtomsRight arities parameters l
+atoms-right arities parameters test l c = record { few = omega (arith, c .few, length-atoms arities l); atoms-known = c .atoms-known }
 
 module _ (task : Task) (r : Represented task (taskOf task)) where
   -- the arities
@@ -62,23 +33,15 @@ module _ (task : Task) (r : Represented task (taskOf task)) where
 
   -- the schemas
   module _ (i : ℕ) (d : Schema) (h : i < task .schemas .count) where
-    -- the code's schema is the model's, and the other way round
+    -- the code's schema is the model's
     pub schema-at : getD (taskOf task .schemas) i (schemaOf (aritiesOf (task .predicates)) d)
         ≡ schemaOf (aritiesOf (task .predicates)) (getD (task .schemas .schemas) i d)
-    unfolding taskOf schemasOf
+    unfolding taskOf
     schema-at =
-        List·getD-map (schemaOf (aritiesOf (task .predicates))) (take (task .schemas .count) (task .schemas .schemas)) i d
+        ap (λ (l : List model.Schema). getD l i (schemaOf (aritiesOf (task .predicates)) d))
+        (schemas-within (aritiesOf (task .predicates)) (task .schemas) (schemas-inside task r))
+        ∙ List·getD-map (schemaOf (aritiesOf (task .predicates))) (take (task .schemas .count) (task .schemas .schemas)) i d
         ∙ ap (schemaOf (aritiesOf (task .predicates))) (getD-take (task .schemas .count) (task .schemas .schemas) i d h)
-
-    schema-from : getD (task .schemas .schemas) i d ≡ schemaFor (schemaOf (aritiesOf (task .predicates)) (getD (task .schemas .schemas) i d))
-    unfolding taskFor schemasFor
-    schema-from =
-        let arities = aritiesOf (task .predicates) in
-        let all = taskOf task .schemas in
-        ap (λ (x : Task). getD (x .schemas .schemas) i d) (r .stands)
-        ∙ padded-at 32 blankSchema (map schemaFor all) i d (omega (arith, h, schema-count task r, length-map all schemaFor))
-        ∙ getD-map schemaFor all i (schemaOf arities d) d (omega (arith, h, schema-count task r))
-        ∙ ap schemaFor schema-at
 
     passed : CheckedSchema (aritiesOf (task .predicates)) (schemaOf (aritiesOf (task .predicates)) (getD (task .schemas .schemas) i d))
     unfolding taskOf
@@ -88,50 +51,23 @@ module _ (task : Task) (r : Represented task (taskOf task)) where
         (right task r .schemas-right (getD (taskOf task .schemas) i (schemaOf arities d))
         (mem-getD (taskOf task .schemas) i (schemaOf arities d) (omega (arith, h, schema-count task r))))
 
-    -- the added atoms are counted
-    pub adds-counted : getD (task .schemas .schemas) i d .adds .count
-        ≡ length (schemaOf (aritiesOf (task .predicates)) (getD (task .schemas .schemas) i d) .adds)
-    unfolding schemaOf schemaFor atomsFor
-    adds-counted = ap (λ (x : Schema). x .adds .count) schema-from
-
     pub schema-right : SchemaRight (aritiesOf (task .predicates)) (getD (task .schemas .schemas) i d)
-    unfolding schemaOf schemaFor atomsFor
+    unfolding schemaOf
     schema-right =
         let arities = aritiesOf (task .predicates) in
         let s = getD (task .schemas .schemas) i d in
         record {
           few-parameters = passed .few-parameters;
-          preconditions-right =
-              atoms-right arities _ _ (s .preconditions) (ap (λ (x : Schema). x .preconditions .count) schema-from) (passed .preconditions-right);
-          deletes-right = atoms-right arities _ _ (s .deletes) (ap (λ (x : Schema). x .deletes .count) schema-from) (passed .deletes-right);
-          adds-right = atoms-right arities _ _ (s .adds) adds-counted (passed .adds-right);
+          preconditions-right = atoms-right arities _ _ (s .preconditions) (passed .preconditions-right);
+          deletes-right = atoms-right arities _ _ (s .deletes) (passed .deletes-right);
+          adds-right = atoms-right arities _ _ (s .adds) (passed .adds-right);
         }
 
 -- the facts
 module _ (task : Task) (r : Represented task (taskOf task)) where
   -- each is a known atom
-  pub fact-known : (i : ℕ) (d : Atom) → i < task .facts .count
-      → known (aritiesOf (task .predicates)) (task .objects) (atomOf (aritiesOf (task .predicates)) (getD (task .facts .facts) i d)) ≡ true
+  pub fact-known : (i : ℕ) → i < task .facts .count
+      → known (aritiesOf (task .predicates)) (task .objects) (atomOf (aritiesOf (task .predicates)) (getD (task .facts .facts) i blankAtom)) ≡ true
   unfolding taskOf factsOf
-  fact-known i d h =
-      let arities = aritiesOf (task .predicates) in
-      subst (λ (a : model.Atom). known arities (task .objects) a ≡ true)
-      (atom-at arities (task .facts .facts) (task .facts .count) (facts-inside task r) i d h)
-      (all-at (known arities (task .objects)) (taskOf task .facts) (right task r .facts-right .facts-known)
-      (getD (taskOf task .facts) i (atomOf arities d)) (mem-getD (taskOf task .facts) i (atomOf arities d) (omega (arith, h, fact-count task r))))
-
-  -- of a predicate whose properties have their places
-  pub fact-placed : (firsts : List ℕ) → firsts ≡ padded 20 0 (firstProperties (aritiesOf (task .predicates)))
-      → length (task .predicates .arities) ≡ 20 → (i : ℕ) (d : Atom) → i < task .facts .count
-      → (getD (task .facts .facts) i d .predicate < length (aritiesOf (task .predicates)))
-      × Placed (task .predicates) firsts (getD (task .facts .facts) i d .predicate)
-  unfolding atomOf known
-  fact-placed firsts numbered e i d h =
-      let arities = aritiesOf (task .predicates) in
-      let a = atomOf arities (getD (task .facts .facts) i d) in
-      let p : a .predicate < length arities =
-      ltb-true (a .predicate) (length arities)
-      (and-left (ltb (a .predicate) (length arities)) (eqb (length (a .arguments)) (getD arities (a .predicate) 0))
-      (and-left (ltb (a .predicate) (length arities) && eqb (length (a .arguments)) (getD arities (a .predicate) 0))
-      (all (λ x. ltb x (task .objects)) (a .arguments)) (fact-known i d h))) in
-      (p, placed (task .predicates) firsts (arities-right task r) e numbered (a .predicate) p)
+  fact-known =
+      atom-known (aritiesOf (task .predicates)) (task .facts .facts) (task .facts .count) (task .objects) (right task r .facts-right .facts-known)

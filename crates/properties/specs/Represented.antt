@@ -2,13 +2,13 @@
 use Prim.Native.Nat.{ℕ, _≤_}
 use mathlib.Core.Path.{_≡_}
 use mathlib.Core.Bool.{true}
-use mathlib.Core.List.{List, map}
-use lib.Dec.{ltb}
-use lib.ListN.{length, take}
+use mathlib.Core.List.{List, map, flatMap}
+use lib.ListN.{length, take, replicate}
 use Rattle.laws.specs.Lists.{all, sum, upTo}
 use Rattle.laws.specs.Bags.{Bag}
 use Rattle.model.specs.Card as model
 use Rattle.model.specs.Card.{between}
+use Rattle.model.specs.Writer.{known}
 use Rattle.model.specs.Transitions.{propertiesFrom, properties, bagOf}
 use Rattle.card.specs.declared.ArityList.{ArityList}
 use Rattle.card.specs.declared.AtomList.{AtomList}
@@ -24,6 +24,10 @@ objectBags t = map (bagOf (properties t) (t .facts)) (upTo (t .objects))
 unfoldable pub firstProperties : List ℕ → List ℕ
 firstProperties arities = map (λ p. sum (take p arities)) (upTo (length arities))
 
+-- the arity of each property's predicate, property by property
+unfoldable pub propertyArities : List ℕ → List ℕ
+propertyArities arities = flatMap (λ n. replicate n n) arities
+
 -- how the properties of predicates with these arities are numbered: how many there are, and where each predicate's begin
 pub record Numbers (arities : List ℕ) (r : Numbering) : Type 0 where
   pub counted : r .count ≡ length (propertiesFrom 0 arities)
@@ -35,14 +39,14 @@ pub record AritiesRight (l : ArityList) : Type 0 where
   pub few : l .count ≤ 20
   pub in-range : all (between 1 3) (aritiesOf l) ≡ true
 
--- a list of atoms of such predicates
-pub record AtomsRight (arities : List ℕ) (l : AtomList) : Type 0 where
+-- a list of atoms of such predicates over so many parameters
+pub record AtomsRight (arities : List ℕ) (parameters : ℕ) (l : AtomList) : Type 0 where
   pub few : l .count ≤ 8
-  pub predicates-known : all (λ a. ltb (a .predicate) (length arities)) (atomsOf arities l) ≡ true
+  pub atoms-known : all (known arities parameters) (atomsOf arities l) ≡ true
 
 -- a schema over such predicates
 pub record SchemaRight (arities : List ℕ) (s : Schema) : Type 0 where
   pub few-parameters : s .parameters ≤ 6
-  pub preconditions-right : AtomsRight arities (s .preconditions)
-  pub deletes-right : AtomsRight arities (s .deletes)
-  pub adds-right : AtomsRight arities (s .adds)
+  pub preconditions-right : AtomsRight arities (s .parameters) (s .preconditions)
+  pub deletes-right : AtomsRight arities (s .parameters) (s .deletes)
+  pub adds-right : AtomsRight arities (s .parameters) (s .adds)

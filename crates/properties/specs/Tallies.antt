@@ -1,4 +1,4 @@
--- What one pass over an atom's arguments does to the counts of a bag, and to a table of the bags of all objects.
+-- What one pass over an atom's arguments does to the counts of a bag, and to a table of the bags of all objects or parameters.
 use Prim.Native.Nat.{ℕ, suc, _+_, _*_, _≤_, _<_}
 use mathlib.Core.Bool.{cond}
 use mathlib.Core.List.{List, [], _∷_, List·Memᴰ}
@@ -19,13 +19,13 @@ unfoldable pub tallied : ℕ → ℕ → List ℕ → List ℕ → List ℕ
 tallied x first [] bag = bag
 tallied x first (argument ∷ arguments) bag = tallied x (suc first) arguments (marked x argument first bag)
 
--- the table of all objects' bags after such an atom: the object in each argument counts it in its own row
+-- a table of the bags of all arguments (objects or parameters) after such an atom: each argument counts it in its own row
 unfoldable pub entered : ℕ → List ℕ → List ℕ → List ℕ
 entered first [] table = table
-entered first (object ∷ objects) table = entered (suc first) objects (raised table (stride * object + first))
+entered first (argument ∷ arguments) table = entered (suc first) arguments (raised table (stride * argument + first))
 
--- the arguments can be entered: their rows are in the table, and no count from the first property on is at its end
-pub record Enterable (first : ℕ) (arguments table : List ℕ) : Type 0 where
+-- the arguments can be entered: their rows are in the table, and from the first property on each count is below the most that it can be
+pub record Enterable (most first : ℕ) (arguments table : List ℕ) : Type 0 where
   pub one-row : first + length arguments ≤ stride
   pub rows-there : (o : ℕ) → List·Memᴰ o arguments → stride * o + stride ≤ length table
-  pub small : (o c : ℕ) → List·Memᴰ o arguments → first ≤ c → c < stride → getD table (stride * o + c) 0 < 65535
+  pub small : (o c : ℕ) → List·Memᴰ o arguments → first ≤ c → c < stride → getD table (stride * o + c) 0 < most

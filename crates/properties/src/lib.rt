@@ -1,18 +1,18 @@
 // Properties, and the bags of parameters and objects, in tables of rows.
+pub mod arities;
+pub mod parameters;
 
 use card::ArityList;
 use card::Atom;
-use card::AtomList;
 use card::Task;
 ghost use mathlib.Core.List.{[], _∷_, _++_};
 ghost use mathlib.Core.Path.{_≡_};
-ghost use Prim.Native.Nat.{ℕ, _+_, _*_, _≤_, _<_};
+ghost use Prim.Native.Nat.{_+_, _*_, _≤_, _<_};
 ghost use lib.ListN.{length, getD, take, drop, replicate};
-ghost use Rattle.model.specs.Transitions.{propertiesFrom, bagOf};
-ghost use Rattle.card.specs.Represents.{aritiesOf, atomsOf, taskOf, padded, Represented};
-ghost use Rattle.properties.specs.Represented.{objectBags, Numbers, AritiesRight, AtomsRight, firstProperties};
-ghost use Rattle.properties.specs.Tables.{row, rowsBefore};
-ghost use Rattle.properties.specs.Tallies.{raised, marked, tallied, entered, Enterable};
+ghost use Rattle.card.specs.Represents.{aritiesOf, taskOf, Represented};
+ghost use Rattle.properties.specs.Represented.{objectBags, Numbers};
+ghost use Rattle.properties.specs.Tables.{rowsBefore};
+ghost use Rattle.properties.specs.Tallies.{raised, entered, Enterable};
 
 // How properties are numbered: how many there are, and the number of each predicate's first one.
 pub struct Numbering {
@@ -45,59 +45,6 @@ pub fn numbered(predicates: ArityList) -> Numbering
     Numbering { count, firsts }
 }
 
-// Counts one argument: the property at `place` is x's if the argument is x.
-fn count_argument(bag: &mut [u8], place: usize, argument: u8, x: u8)
-    requires { ⌜ place < length (now bag) ⌝ }
-    requires { ⌜ getD (now bag) place 0 < 255 ⌝ }
-    ensures { λ _. ⌜ now (bag .exit) ≡ marked x argument place (now (bag .entry)) ⌝ }
-{
-    if x == argument {
-        bag[place] = bag[place] + 1;
-    }
-}
-
-// Counts an atom: the properties of its predicate begin at `first`, and it has `arity` arguments.
-fn count_atom(bag: &mut [u8], first: usize, a: Atom, arity: usize, x: u8)
-    requires { ⌜ (1 ≤ arity) × (arity ≤ 3) × (first + arity ≤ length (now bag)) ⌝ }
-    requires { ⌜ ((i : ℕ) → getD (now bag) i 0 < 255) ⌝ }
-    ensures { λ _. ⌜ now (bag .exit) ≡ tallied x first (take arity (a .first ∷ a .second ∷ a .third ∷ [])) (now (bag .entry)) ⌝ }
-{
-    count_argument(bag, first, a.first, x);
-    if arity < 2 {
-        return;
-    }
-    count_argument(bag, first + 1, a.second, x);
-    if arity < 3 {
-        return;
-    }
-    count_argument(bag, first + 2, a.third, x);
-}
-
-// The bag of a parameter over a list of atoms, as a row.
-pub fn bag_of_parameter(
-    atoms: AtomList,
-    predicates: ArityList,
-    firsts: [usize; 20],
-    k: u8,
-) -> [u8; 60]
-    requires { ⌜ AritiesRight predicates ⌝ }
-    requires { ⌜ AtomsRight (aritiesOf predicates) atoms ⌝ }
-    requires { ⌜ firsts ≡ padded 20 0 (firstProperties (aritiesOf predicates)) ⌝ }
-    ensures { λ r. ⌜ r ≡ row (bagOf (propertiesFrom 0 (aritiesOf predicates)) (atomsOf (aritiesOf predicates) atoms) k) ⌝ }
-{
-    let n = atoms.count;
-    let mut bag = [0u8; 60];
-    let mut i: usize = 0;
-    while i < n {
-        let a = atoms.atoms[i];
-        let p = wide(a.predicate);
-        let arity = wide(predicates.arities[p]);
-        count_atom(&mut bag, firsts[p], a, arity, k);
-        i = i + 1;
-    }
-    bag
-}
-
 // Empties the first rows of a table of objects' bags.
 fn clear_rows(counts: &mut [u16], rows: usize)
     requires { ⌜ 60 * rows ≤ length (now counts) ⌝ }
@@ -124,7 +71,7 @@ fn enter_argument(counts: &mut [u16], object: u8, property: usize)
 // Counts a fact for each of its objects: the properties of its predicate begin at `first`, and it has `arity` arguments.
 fn enter_fact(counts: &mut [u16], first: usize, fact: Atom, arity: usize)
     requires { ⌜ (1 ≤ arity) × (arity ≤ 3) ⌝ }
-    requires { ⌜ Enterable first (take arity (fact .first ∷ fact .second ∷ fact .third ∷ [])) (now counts) ⌝ }
+    requires { ⌜ Enterable 65535 first (take arity (fact .first ∷ fact .second ∷ fact .third ∷ [])) (now counts) ⌝ }
     ensures { λ _. ⌜ now (counts .exit) ≡ entered first (take arity (fact .first ∷ fact .second ∷ fact .third ∷ [])) (now (counts .entry)) ⌝ }
 {
     enter_argument(counts, fact.first, first);

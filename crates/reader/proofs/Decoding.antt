@@ -18,6 +18,7 @@ use Rattle.card.specs.declared.Decoded.{Decoded}
 use Rattle.card.specs.declared.Verdict.the-variants.{Accepted}
 use Rattle.card.specs.Represents.{refusalNumber, aritiesOf, aritiesFor, schemasOf, schemasFor, factsOf, factsFor, padded}
 use Rattle.card.specs.Represents.{taskOf, taskFor, answerOf, taskBeside, Decodes}
+use Rattle.card.proofs.Entries.{arities-part}
 use Rattle.model.proofs.Answers.{need-both}
 use Rattle.reader_bytes.proofs.Answers.{goes, halts, fails, differ, byteThat-held}
 use Rattle.reader_atoms.proofs.Many.{many-all}
@@ -90,11 +91,6 @@ arities-room {l} e =
     let size = ap (λ l. length (l .arities)) e ∙ length-append (aritiesOf l) _ in
     omega arith
 
--- the part of the array up to the count is what it stands for
-pub arities-part : (l : ArityList) → take (l .count - 0) (l .arities) ≡ aritiesOf l
-unfolding aritiesOf
-arities-part l = let whole : l .count - 0 ≡ l .count = omega arith in ap (λ n. take n (l .arities)) whole
-
 -- the code's answer to a refused card
 pub decodes-refused : {card : List ℕ} {d : Decoded} {k : Refusal} → d ≡ decodedRefused k
     → model.decode card ≡ refused (refusalNumber k) → Decodes card d
@@ -109,16 +105,16 @@ unfolding answerOf taskBeside
 decodes-accepted a k = record { answer = sym a; kept = k ∙ sym (ap taskBeside a) }
 
 -- reads with the part of the array are reads with the arities
-module _ (l : ArityList) {card : List ℕ} (s : List ℕ) where
+module _ {l : ArityList} (kept : l ≡ aritiesFor (aritiesOf l)) {card : List ℕ} (s : List ℕ) where
   pub schemas-with : {r : SchemasRead}
       → SchemasReads (take (l .count - 0) (l .arities)) card (model.schemas (take (l .count - 0) (l .arities)) s) r
       → SchemasReads (aritiesOf l) card (model.schemas (aritiesOf l) s) r
-  schemas-with {r} w = subst (λ a. SchemasReads a card (model.schemas a s) r) (arities-part l) w
+  schemas-with {r} w = subst (λ a. SchemasReads a card (model.schemas a s) r) (arities-part l (arities-room kept)) w
 
   pub facts-with : (objects : ℕ) {r : FactsRead}
       → FactsReads (take (l .count - 0) (l .arities)) card (model.facts (take (l .count - 0) (l .arities)) objects s) r
       → FactsReads (aritiesOf l) card (model.facts (aritiesOf l) objects s) r
-  facts-with objects {r} w = subst (λ a. FactsReads a card (model.facts a objects s) r) (arities-part l) w
+  facts-with objects {r} w = subst (λ a. FactsReads a card (model.facts a objects s) r) (arities-part l (arities-room kept)) w
 
 -- a task is kept as its parts are
 pub task-kept : {l : ArityList} (objects : ℕ) {sl : SchemaList} {fl : FactList} → l ≡ aritiesFor (aritiesOf l)

@@ -11,7 +11,7 @@ use Rattle.model.specs.Card as model
 use Rattle.card.specs.declared.AtomList.{AtomList}
 use Rattle.card.specs.declared.Schema.{Schema}
 use Rattle.card.specs.declared.Refusal.{Refusal}
-use Rattle.card.specs.Represents.{refusalNumber, atomsOf, atomsFor, schemaOf, schemaFor}
+use Rattle.card.specs.Represents.{refusalNumber, entries, atomsOf, atomsFor, schemaOf, schemaFor}
 use Rattle.reader_bytes.specs.declared.Cursor.{Cursor}
 use Rattle.reader_bytes.specs.declared.Step.{Step}
 use Rattle.reader_bytes.specs.declared.Step.the-variants.{At}
@@ -54,7 +54,7 @@ list-kept arities present read s {l = l} w e =
     record { few = omega arith; kept = kept }
 
 pub no-list-kept : (arities : List ℕ) {l : AtomList} → l ≡ atomsFor [] → AtomsKept arities l
-unfolding atomsFor atomsOf
+unfolding atomsFor atomsOf entries
 no-list-kept arities e = subst⁻¹ (λ l. AtomsKept arities l) e (record { few = omega arith; kept = refl })
 
 module _ (arities : List ℕ) (bits parameters : ℕ) (none-yet : List model.Atom) (s : List ℕ) where

@@ -1,17 +1,16 @@
 -- The checks at a whole atom: its place on its list, and what its own list asks.
-use Prim.Native.Nat.{ℕ, _+_, _-_}
+use Prim.Native.Nat.{ℕ}
 use native.Mathlib.Omega.{arith}
 use mathlib.Core.Bool.{true, false, not}
-use mathlib.Core.List.{List, _++_, map}
+use mathlib.Core.List.{List, map}
 use mathlib.Core.Option.{Option}
 use mathlib.Core.Path.{_≡_, refl, ap, _∙_, sym}
-use lib.ListN.{length, take, replicate, length-append, length-replicate, length-map}
-use lib.Seq.{take-at}
+use lib.ListN.{length, length-map}
 use Rattle.model.specs.Answer.{refused, accepted}
 use Rattle.model.specs.Card as model
 use Rattle.card.specs.declared.Atom.{Atom}
 use Rattle.card.specs.declared.AtomList.{AtomList}
-use Rattle.card.specs.Represents.{refusalNumber, atomOf, atomFor, atomsOf, atomsFor, padded, blankAtom}
+use Rattle.card.specs.Represents.{refusalNumber, atomOf, atomFor, atomsOf, atomsFor, padded, entries, blankAtom}
 use Rattle.reader_atoms.specs.declared.Previous.{Previous}
 use Rattle.reader_atoms.specs.declared.Previous.the-variants.{Nothing, Atom as After}
 use Rattle.card.specs.declared.ListField.{ListField}
@@ -19,6 +18,8 @@ use Rattle.card.specs.declared.ListField.the-variants.{Preconditions, Deletes, 
 use Rattle.card.specs.Fields.{fieldTest, fieldRefusal}
 use Rattle.reader_atoms.specs.Atoms.{previousOf, previousFor, aboveBytes, hasBytes, AtomsKept, PreviousKept}
 use Rattle.reader_atoms.specs.Atoms.{belongsBytes, fieldAtom}
+use Rattle.card.proofs.Padded.{length-padded}
+use Rattle.card.proofs.Entries.{entries-kept}
 use Rattle.model.proofs.Answers.{need-both}
 use Rattle.reader_bytes.proofs.Answers.{goes, halts, fails}
 use Rattle.reader_atoms.proofs.Orders.{Kept, below-bytes, has-bytes}
@@ -39,19 +40,18 @@ module _ {arities : List ℕ} {l : AtomList} (k : AtomsKept arities l) where
   unfolding listed atomsFor
   listed-count = length-map (atomsOf arities l) atomFor ∙ sym (ap (λ l. l .count) (k .kept))
 
-  listed-first : l .atoms ≡ listed ++ replicate (8 - length listed) blankAtom
-  unfolding listed atomsFor padded
+  listed-first : l .atoms ≡ padded 8 blankAtom listed
+  unfolding listed atomsFor
   listed-first = ap (λ l. l .atoms) (k .kept)
 
   -- the atoms of a list as read are kept as atoms are
-  pub list-exact : take (l .count) (l .atoms) ≡ map atomFor (map (atomOf arities) (take (l .count) (l .atoms)))
+  pub list-exact :
+      entries (l .count) blankAtom (l .atoms) ≡ map atomFor (map (atomOf arities) (entries (l .count) blankAtom (l .atoms)))
   unfolding listed atomsOf
-  list-exact = ap (take (l .count)) listed-first ∙ take-at _ _ _ listed-count
+  list-exact = ap (entries (l .count) blankAtom) listed-first ∙ entries-kept 8 (l .count) blankAtom listed listed-count
 
   pub list-long : length (l .atoms) ≡ 8
-  list-long =
-      let sum : length listed + (8 - length listed) ≡ 8 = omega (arith, listed-count, k .few) in
-      ap length listed-first ∙ length-append listed _ ∙ ap (λ m. length listed + m) (length-replicate _ blankAtom) ∙ sum
+  list-long = ap length listed-first ∙ length-padded 8 blankAtom listed (omega (arith, listed-count, k .few))
 
 -- the check of its own list, by the bytes
 pub belongs-bytes : (arities : List ℕ) (a : Atom) (field : ListField) (l : AtomList) → Kept arities a → AtomsKept arities l

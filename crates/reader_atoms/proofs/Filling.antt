@@ -5,11 +5,12 @@ use native.Mathlib.Numerals.{add-one}
 use mathlib.Core.List.{List, [], _∷_, _++_, map, append-assoc, append-nil, map-append}
 use mathlib.Core.Option.{Option, none, some}
 use mathlib.Core.Path.{_≡_, refl, ap, ap₂, _∙_, sym, subst}
-use lib.ListN.{length, take, drop, set, replicate, length-set, length-take, length-replicate, length-map, take-append-drop}
-use lib.Seq.{take-suc-set, drop-set-lt, drop-drop}
+use lib.ListN.{length, take, drop, set, replicate, length-set, length-replicate, take-append-drop}
+use lib.Seq.{length-take-le, take-suc-set, drop-set-lt, drop-drop}
 use Rattle.model.specs.Answer.{Answer, refused, accepted, _>>=_}
 use Rattle.model.specs.Card.{Reader, many}
-use Rattle.card.specs.Represents.{padded}
+use Rattle.card.specs.Represents.{padded, entries}
+use Rattle.card.proofs.Entries.{entries-within, length-table}
 use Rattle.reader_bytes.proofs.Answers.{goes}
 use Rattle.reader_atoms.proofs.Many.{many-stops}
 
@@ -123,29 +124,33 @@ module _ {A B : Type 0} {value : B → A} {keep : A → B} {blank : B} {size : �
       }
 
   module _ (done : n ≤ i) where
+    -- the first n places of the array are its n entries
+    items : take n array ≡ entries n blank array
+    items = sym (entries-within n blank array (omega (arith, f .long, f .room)))
+
     -- all is read
-    pub filling-ends : many read none n start ≡ accepted (map value (take n array), s)
+    pub filling-ends : many read none n start ≡ accepted (map value (entries n blank array), s)
     unfolding many prepend
     filling-ends =
         let all : i ≡ n = omega (arith, f .far) in
         let none-left : n - i ≡ 0 = omega arith in
         sym (f .left)
         ∙ ap (λ m. prepend (map value (take i array)) (many read (lastOf none (map value (take i array))) m s)) none-left
-        ∙ ap (λ xs. accepted (xs, s)) (append-nil (map value (take i array)) ∙ ap (λ m. map value (take m array)) all)
+        ∙ ap (λ xs. accepted (xs, s)) (append-nil (map value (take i array)) ∙ ap (λ m. map value (take m array)) all ∙ ap (map value) items)
 
     -- there are as many items as were asked for
-    pub filled-count : n ≡ length (map value (take n array))
-    filled-count =
-        let counted : length (take n array) ≡ n = length-take n array ∙ rw (f .long) (omega (arith, f .room)) in
-        sym (length-map (take n array) value ∙ counted)
+    pub filled-count : n ≡ length (map value (entries n blank array))
+    filled-count = sym (length-table value n blank array)
 
     -- the array holds them, and blanks after them
-    pub filled : array ≡ padded size blank (map keep (map value (take n array)))
+    pub filled : array ≡ padded size blank (map keep (map value (entries n blank array)))
     unfolding padded
     filled =
         let all : i ≡ n = omega (arith, f .far) in
         let exact : map keep (map value (take n array)) ≡ take n array =
         subst (λ m. map keep (map value (take m array)) ≡ take m array) all (f .exact) in
         let blanks : drop n array ≡ replicate (size - n) blank = subst (λ m. drop m array ≡ replicate (size - m) blank) all (f .blanks) in
-        let counted : length (map keep (map value (take n array))) ≡ n = length-map (map value (take n array)) keep ∙ sym filled-count in
-        sym (take-append-drop n array) ∙ ap₂ _++_ (sym exact) (blanks ∙ ap (λ m. replicate (size - m) blank) (sym counted))
+        let counted : length (map keep (map value (take n array))) ≡ n = ap length exact ∙ length-take-le n array (omega (arith, f .long, f .room)) in
+        sym (take-append-drop n array)
+        ∙ ap₂ _++_ (sym exact) (blanks ∙ ap (λ m. replicate (size - m) blank) (sym counted))
+        ∙ ap (λ xs. padded size blank (map keep (map value xs))) items

@@ -1,21 +1,19 @@
 -- Two atoms compared by all their bytes: as the definitions compare them, since places past the arity hold 0.
 use Prim.Native.Nat.{ℕ, zero, suc, _+_, _≤_, _<_}
-use native.Mathlib.Nat.{le-trans}
-use native.Mathlib.Numerals.{add-one}
 use native.Mathlib.Omega.{arith}
 use mathlib.Core.Bool.{Bool, true, false, _&&_, _||_, or-false, and-true}
 use mathlib.Core.List.{List, [], _∷_, _++_, map}
 use mathlib.Core.Path.{_≡_, refl, ap, ap₂, _∙_, sym, subst, subst⁻¹}
 use borrow.Author.Tests.{eq-eqb, ne-eqb, le-ltb, eqb-true}
 use lib.Dec.{ltb, eqb}
-use lib.ListN.{length, take, drop, getD, length-take, drop-of-length-le}
-use lib.Seq.{drop-cons, getD-take}
+use lib.ListN.{length, take, drop, getD, length-take}
 use Rattle.laws.specs.Lists.{any, same, before}
 use Rattle.laws.proofs.Orders.{before-append}
 use Rattle.model.specs.Card as model
 use Rattle.card.specs.declared.Atom.{Atom}
 use Rattle.card.specs.declared.AtomList.{AtomList}
-use Rattle.card.specs.Represents.{atomOf, atomFor}
+use Rattle.card.specs.Represents.{entries, blankAtom, atomOf, atomFor}
+use Rattle.card.proofs.Entries.{next-entry, no-entry}
 use Rattle.reader_atoms.specs.Atoms.{bytesOf, placesOf, hasBytes}
 
 -- a number is the same as itself, and not below itself
@@ -131,7 +129,7 @@ has-bytes arities a (b ∷ bs) ka ks =
 
 -- an atom with the same bytes is on the list from place i on
 unfoldable pub hasFrom : AtomList → Atom → ℕ → Bool
-hasFrom l a i = any (λ b. same (bytesOf a) (bytesOf b)) (drop i (take (l .count) (l .atoms)))
+hasFrom l a i = any (λ b. same (bytesOf a) (bytesOf b)) (drop i (entries (l .count) blankAtom (l .atoms)))
 
 pub has-first : (l : AtomList) (a : Atom) → hasBytes l a ≡ hasFrom l a 0
 unfolding hasBytes hasFrom
@@ -139,18 +137,15 @@ has-first l a = refl
 
 pub has-last : (l : AtomList) (a : Atom) (i : ℕ) → l .count ≤ i → hasFrom l a i ≡ false
 unfolding hasFrom any
-has-last l a i h =
-    rw (drop-of-length-le (take (l .count) (l .atoms)) (le-trans (rw (length-take (l .count) (l .atoms)) (omega arith)) h))
+has-last l a i h = rw (no-entry (l .count) blankAtom (l .atoms) i h)
 
-module _ (l : AtomList) (a blank : Atom) (i : ℕ) (fits : length (l .atoms) ≡ 8) (room : l .count ≤ 8) (more : i < l .count) where
-  has-step : hasFrom l a i ≡ (same (bytesOf a) (bytesOf (getD (l .atoms) i blank)) || hasFrom l a (i + 1))
+module _ (l : AtomList) (a : Atom) (i : ℕ) (more : i < l .count) where
+  has-step : hasFrom l a i ≡ (same (bytesOf a) (bytesOf (getD (l .atoms) i blankAtom)) || hasFrom l a (i + 1))
   unfolding hasFrom any
-  has-step =
-      let there : i < length (take (l .count) (l .atoms)) = rw (length-take (l .count) (l .atoms)) (omega arith) in
-      rw (add-one i, drop-cons (take (l .count) (l .atoms)) i blank there, getD-take (l .count) (l .atoms) i blank more)
+  has-step = rw (next-entry (l .count) blankAtom (l .atoms) i more)
 
-  pub has-found : {t : Bool} → t ≡ same (bytesOf a) (bytesOf (getD (l .atoms) i blank)) → t ≡ true → hasFrom l a i ≡ true
+  pub has-found : {t : Bool} → t ≡ same (bytesOf a) (bytesOf (getD (l .atoms) i blankAtom)) → t ≡ true → hasFrom l a i ≡ true
   has-found e h = has-step ∙ ap (λ t. t || hasFrom l a (i + 1)) (sym e ∙ h)
 
-  pub has-next : {t : Bool} → t ≡ same (bytesOf a) (bytesOf (getD (l .atoms) i blank)) → t ≡ false → hasFrom l a i ≡ hasFrom l a (i + 1)
+  pub has-next : {t : Bool} → t ≡ same (bytesOf a) (bytesOf (getD (l .atoms) i blankAtom)) → t ≡ false → hasFrom l a i ≡ hasFrom l a (i + 1)
   has-next e h = has-step ∙ ap (λ t. t || hasFrom l a (i + 1)) (sym e ∙ h)

@@ -16,7 +16,7 @@ use Rattle.card.specs.declared.ListField.the-variants.{Preconditions, Deletes, 
 use Rattle.card.specs.declared.Refusal.{Refusal}
 use Rattle.card.specs.declared.Refusal.the-variants.{CardEnds}
 use Rattle.card.specs.Fields.{fieldTest, fieldRefusal}
-use Rattle.card.specs.Represents.{atomOf, atomFor, atomsOf, atomsFor, blankAtom, refusalNumber}
+use Rattle.card.specs.Represents.{entries, atomOf, atomFor, atomsOf, atomsFor, blankAtom, refusalNumber}
 use Rattle.reader_bytes.specs.declared.Step.{Step}
 use Rattle.reader_bytes.specs.declared.Step.the-variants.{At, Refused}
 use Rattle.reader_atoms.specs.declared.AtomRead.{AtomRead}
@@ -65,7 +65,7 @@ bytesOf a = a .predicate ∷ placesOf a
 
 -- an atom with the same bytes is on the list
 unfoldable pub hasBytes : AtomList → Atom → Bool
-hasBytes l a = any (λ b. same (bytesOf a) (bytesOf b)) (take (l .count) (l .atoms))
+hasBytes l a = any (λ b. same (bytesOf a) (bytesOf b)) (entries (l .count) blankAtom (l .atoms))
 
 -- the atom before it, if there is one
 unfoldable pub previousOf : List ℕ → Previous → Option model.Atom

@@ -11,7 +11,7 @@ use Rattle.model.specs.Answer.{Answer, refused, accepted}
 use Rattle.model.specs.Card as model
 use Rattle.card.specs.declared.AtomList.{AtomList}
 use Rattle.card.specs.declared.Refusal.{Refusal}
-use Rattle.card.specs.Represents.{atomsOf, atomsFor}
+use Rattle.card.specs.Represents.{entries, atomsOf, atomsFor}
 use Rattle.reader_bytes.specs.declared.Cursor.{Cursor}
 use Rattle.reader_bytes.specs.declared.Step.{Step}
 use Rattle.reader_bytes.specs.declared.Step.the-variants.{At, Refused}
@@ -80,6 +80,6 @@ module _
 pub no-list : (arities : List ℕ) {card : List ℕ} {answer : Answer (List model.Atom × List ℕ)} {c : Cursor} {kept : AtomList} → kept ≡ atomsFor []
     → answer ≡ accepted ([], drop (c .at) card) → c .at ≤ length card
     → Reads (atomsOf arities) atomsFor (atomsFor []) card answer (At c) kept
-unfolding atomsOf atomsFor
+unfolding atomsOf atomsFor entries
 no-list arities {card} {answer} {c} k e within =
     subst⁻¹ (λ l. Reads (atomsOf arities) atomsFor (atomsFor []) card answer (At c) l) k (accepts e within refl)

@@ -3,14 +3,14 @@ use Prim.Native.Nat.{ℕ, _≤_}
 use mathlib.Core.List.{List, [], map, map-id}
 use mathlib.Core.Option.{Option, none}
 use mathlib.Core.Path.{_≡_, ap, ap₂, _∙_}
-use lib.ListN.{length, take, drop, replicate}
+use lib.ListN.{length, drop, replicate}
 use Rattle.model.specs.Answer.{accepted}
 use Rattle.model.specs.Card as model
 use Rattle.card.specs.declared.Atom.{Atom}
 use Rattle.card.specs.declared.AtomList.{AtomList}
 use Rattle.card.specs.declared.ArityList.{ArityList}
 use Rattle.card.specs.declared.FactList.{FactList}
-use Rattle.card.specs.Represents.{padded, atomOf, atomFor, blankAtom, atomsOf, atomsFor, aritiesOf, aritiesFor, factsOf, factsFor}
+use Rattle.card.specs.Represents.{padded, entries, atomOf, atomFor, blankAtom, atomsOf, atomsFor, aritiesOf, aritiesFor, factsOf, factsFor}
 use Rattle.reader_bytes.specs.declared.Step.the-variants.{At}
 use Rattle.reader_bytes.specs.Reads.{Reads}
 use Rattle.reader_bytes.proofs.Reading.{accepts}
@@ -54,8 +54,8 @@ module _ {card start : List ℕ} {n i at : ℕ} (within : at ≤ length card) (d
       (record { count = n; arities = array })
   unfolding aritiesOf aritiesFor
   arities-filled {array} read f =
-      let plain : map (λ b. b) (take n array) ≡ take n array = map-id (take n array) in
-      let whole : array ≡ padded 20 0 (take n array) =
-      filled f done ∙ ap (padded 20 0) (map-id (map (λ b. b) (take n array)) ∙ plain) in
+      let read-all : List ℕ = entries n 0 array in
+      let plain : map (λ b. b) read-all ≡ read-all = map-id read-all in
+      let whole : array ≡ padded 20 0 read-all = filled f done ∙ ap (padded 20 0) (map-id (map (λ b. b) read-all) ∙ plain) in
       accepts (filling-ends f done ∙ ap (λ xs. accepted (xs, drop at card)) plain) within
       (ap₂ {C = ArityList} (λ n a. record { count = n; arities = a }) (filled-count f done ∙ ap length plain) whole)

@@ -1,22 +1,24 @@
 -- M lines of a space, property by property.
 use Prim.Native.Nat.{ℕ, _+_, _≤_, _<_}
+use native.Mathlib.Numerals.{add-one}
 use native.Mathlib.Omega.{arith}
 use mathlib.Core.Path.{_≡_, refl, sym, ap, _∙_}
 use mathlib.Core.Bool.{Bool, true, false, cond}
 use mathlib.Core.List.{List, [], _∷_, _++_, map, flatMap, List·Memᴰ}
 use borrow.Author.Tests.{le-leb, lt-leb}
 use lib.Dec.{leb}
-use lib.ListN.{length, getD}
+use lib.ListN.{length, getD, drop, drop-of-length-le}
+use lib.Seq.{drop-cons}
 use Rattle.laws.specs.Bags.{Bag}
-use Rattle.laws.specs.Lists.{keep, upTo, from}
-use Rattle.laws.proofs.Walks.{left, kept-all, kept-passes, kept-fails, kept-none}
+use Rattle.laws.specs.Lists.{keep, upTo, from, distinct}
+use Rattle.laws.proofs.Mapped.{keep-ext}
 use Rattle.model.specs.Card.{Task}
 use Rattle.model.specs.Lines.{Line, limit, limits, largest, countOf, arityOf}
 use Rattle.model.specs.Text.{lineText, text}
 use Rattle.sections.specs.Limits.{limitsBy, columnOf}
 use Rattle.properties.specs.Tables.{bagsIn, HasRows}
-use Rattle.conditions.proofs.RowLists.{keep-ext, length-bagsIn}
-use Rattle.sections.proofs.Columns.{Passed, column-inside, column-counts, largest-column}
+use Rattle.properties.proofs.RowTables.{length-bagsIn}
+use Rattle.sections.proofs.Columns.{column-is}
 use Rattle.sections.proofs.LinesLeft.{no-lines}
 use Rattle.text.specs.Room.{Room}
 use Rattle.text.specs.Written.{Writes}
@@ -83,35 +85,30 @@ module _ (arity c most : ℕ) where
       → Writes (cond (leb 2 arity) (lineText (limit c most)) []) before after n
   wide-written h e w = rw (le-leb 2 arity h) (rw e at w)
 
--- M lines of the properties from c on, those of the space being the ones that pass a test
-module _ (test : ℕ → Bool) (size : ℕ) (arities properties : List ℕ) (count : ℕ) (table : List ℕ) where
+-- M lines of the own properties from a place on
+module _ (arities own : List ℕ) (count : ℕ) (table : List ℕ) where
+  abbrev bags : List Bag
+  bags = bagsIn (length own) count table
+
   abbrev pub limitsFrom : ℕ → List ℕ
-  limitsFrom c = limitsOf arities properties (bagsIn (length properties) count table) (keep test (left c size))
+  limitsFrom k = limitsOf arities own bags (drop k own)
 
-  pub limits-start : 0 < count → properties ≡ keep test (upTo size)
-      → text (limitsBy arities properties (bagsIn (length properties) count table)) ≡ limitsFrom 0
-  limits-start some e =
-      limits-all arities properties _ (rw (length-bagsIn (length properties) count table) some)
-      ∙ ap (limitsOf arities properties (bagsIn (length properties) count table)) (e ∙ sym (kept-all test size))
+  pub limits-start : 0 < count → text (limitsBy arities own bags) ≡ limitsFrom 0
+  limits-start some = limits-all arities own bags (rw (length-bagsIn (length own) count table) some)
 
-  pub limit-at : {c column : ℕ} → HasRows (length properties) count table → Passed test size properties c column → c < size → test c ≡ true
-      → Begins (limitsFrom c) (cond (leb 2 (getD arities c 0)) (lineText (limit c (largest (columnOf table count column)))) [])
-      (limitsFrom (c + 1))
-  limit-at {c} {column} rows p h e =
+  pub limit-at : (k : ℕ) → HasRows (length own) count table → distinct own ≡ true → k < length own
+      → Begins (limitsFrom k) (cond (leb 2 (getD arities (getD own k 0) 0)) (lineText (limit (getD own k 0) (largest (columnOf table count k)))) [])
+      (limitsFrom (k + 1))
+  limit-at k rows apart h =
       record {
         path =
-            ap (limitsOf arities properties (bagsIn (length properties) count table)) (kept-passes test c size h e)
-            ∙ limits-next arities properties _ c _
-            (largest-column properties c (length properties) count column table rows (column-inside p h e) (column-counts p h e)) .path;
+            ap (limitsOf arities own bags) (drop-cons own k 0 h ∙ ap (λ (n : ℕ). getD own k 0 ∷ drop n own) (sym (add-one k)))
+            ∙ limits-next arities own bags (getD own k 0) (drop (k + 1) own)
+            (ap largest (column-is own count table k rows apart h)) .path;
       }
 
-  pub limit-skipped : (c : ℕ) → c < size → test c ≡ false → limitsFrom c ≡ limitsFrom (c + 1)
-  limit-skipped c h e = ap (limitsOf arities properties (bagsIn (length properties) count table)) (kept-fails test c size h e)
-
-  pub limits-end : (c : ℕ) → size ≤ c → limitsFrom c ≡ []
-  limits-end c h =
-      ap (limitsOf arities properties (bagsIn (length properties) count table)) (kept-none test c size h)
-      ∙ limits-none arities properties (bagsIn (length properties) count table)
+  pub limits-end : (k : ℕ) → length own ≤ k → limitsFrom k ≡ []
+  limits-end k h = ap (limitsOf arities own bags) (drop-of-length-le own h) ∙ limits-none arities own bags
 
 -- and none without a condition
 pub no-limits : (arities properties : List ℕ) (size : ℕ) {count : ℕ} (table before : List ℕ) → count ≡ 0

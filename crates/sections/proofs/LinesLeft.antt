@@ -4,7 +4,7 @@ use mathlib.Core.Path.{_≡_, refl, sym, ap, _∙_}
 use mathlib.Core.Bool.{Bool, true, false}
 use mathlib.Core.List.{List, [], _∷_, map, flatMap}
 use native.Mathlib.Numerals.{add-one}
-use borrow.Author.Tests.{ltb-true}
+use borrow.Author.Tests.{ltb-true, eq-eqb, ne-eqb}
 use lib.Dec.{ltb}
 use lib.ListN.{length, take, drop, getD, drop-of-length-le, length-drop}
 use lib.Seq.{drop-cons, take-all}
@@ -13,10 +13,12 @@ use Rattle.laws.specs.Bags.{Bag}
 use Rattle.laws.specs.Lists.{all, keep}
 use Rattle.laws.proofs.Lists.{all-at, mem-getD, flatMap-append}
 use Rattle.laws.proofs.Tests.{and-right}
-use Rattle.model.specs.Lines.{Line, state, membership, exclusion, exclusions, excluded}
+use Rattle.model.specs.Lines.{Line, state, membership, exclusion}
 use Rattle.model.specs.Text.{lineText, text}
 use Rattle.properties.specs.Tables.{bagsIn}
-use Rattle.conditions.proofs.Rows.{bagsFrom, rows-start, rows-next, rows-end, lent, row-lent}
+use Rattle.properties.proofs.RowTables.{bagsFrom, rows-start, rows-left, rows-end, lent, row-lent}
+use Rattle.masks.specs.Sets.{commonOf}
+use Rattle.sections.specs.Exclusions.{apartBy, exclusionsBy}
 use Rattle.text.proofs.Writing.{Begins}
 
 -- a text begins with its first line
@@ -36,7 +38,7 @@ module _ (size count : ℕ) (table : List ℕ) where
   pub states-next : (i : ℕ) → i < count
       → Begins (text (map state (bagsFrom size count table i))) (lineText (state (lent size table i)))
       (text (map state (bagsFrom size count table (i + 1))))
-  states-next i h = rw (rows-next size count table i h, row-lent size i table) (first-line _ _)
+  states-next i h = rw (rows-left size count table i h, row-lent size i table) (first-line _ _)
 
   pub states-end : (i : ℕ) → count ≤ i → text (map state (bagsFrom size count table i)) ≡ []
   states-end i h = rw (rows-end size count table i h) no-lines
@@ -61,24 +63,34 @@ skipped-at : (test : ℕ → Bool) (l : List ℕ) (k : ℕ) → k < length l →
 unfolding keep
 skipped-at test l k h e = ap (keep test) (drop-cons l k 0 h) ∙ rw (e, add-one k)
 
--- X lines of one index with later ones, from a place among those on
-module _ (bags : List Bag) (i : ℕ) (later : List ℕ) where
-  unfoldable pub exclusionsFrom : ℕ → List ℕ
-  exclusionsFrom k = text (map (exclusion i) (keep (excluded bags i) (drop k later)))
+-- two masks share no member, or one
+module _ (masks : List ℕ) (i j : ℕ) {r : ℕ} (e : r ≡ commonOf (getD masks i 0) (getD masks j 0)) where
+  apart : r ≡ 0 → apartBy masks i j ≡ true
+  unfolding apartBy
+  apart f = eq-eqb _ 0 (sym e ∙ f)
 
-  pub exclusions-start : text (map (exclusion i) (keep (excluded bags i) later)) ≡ exclusionsFrom 0
+  not-apart : (r ≡ 0 → ⊥) → apartBy masks i j ≡ false
+  unfolding apartBy
+  not-apart f = ne-eqb _ 0 (λ g. f (e ∙ g))
+
+-- X lines of one index with later ones, from a place among those on
+module _ (masks : List ℕ) (i : ℕ) (later : List ℕ) where
+  unfoldable pub exclusionsFrom : ℕ → List ℕ
+  exclusionsFrom k = text (map (exclusion i) (keep (apartBy masks i) (drop k later)))
+
+  pub exclusions-start : text (map (exclusion i) (keep (apartBy masks i) later)) ≡ exclusionsFrom 0
   unfolding exclusionsFrom
   exclusions-start = refl
 
-  pub exclusion-next : (k : ℕ) {r : Bool} → k < length later → r ≡ excluded bags i (getD later k 0) → r ≡ true
+  pub exclusion-next : (k : ℕ) {r : ℕ} → k < length later → r ≡ commonOf (getD masks i 0) (getD masks (getD later k 0) 0) → r ≡ 0
       → Begins (exclusionsFrom k) (lineText (exclusion i (getD later k 0))) (exclusionsFrom (k + 1))
   unfolding exclusionsFrom
-  exclusion-next k h e f = rw (kept-at (excluded bags i) later k h (sym e ∙ f)) (first-line _ _)
+  exclusion-next k h e f = rw (kept-at (apartBy masks i) later k h (apart masks i (getD later k 0) e f)) (first-line _ _)
 
-  pub exclusion-skipped : (k : ℕ) {r : Bool} → k < length later → r ≡ excluded bags i (getD later k 0) → r ≡ false
+  pub exclusion-skipped : (k : ℕ) {r : ℕ} → k < length later → r ≡ commonOf (getD masks i 0) (getD masks (getD later k 0) 0) → (r ≡ 0 → ⊥)
       → exclusionsFrom k ≡ exclusionsFrom (k + 1)
   unfolding exclusionsFrom
-  exclusion-skipped k h e f = rw (skipped-at (excluded bags i) later k h (sym e ∙ f))
+  exclusion-skipped k h e f = rw (skipped-at (apartBy masks i) later k h (not-apart masks i (getD later k 0) e f))
 
   pub exclusions-end : (k : ℕ) → length later ≤ k → exclusionsFrom k ≡ []
   unfolding exclusionsFrom keep
@@ -89,16 +101,16 @@ pub lent-from : (l : List ℕ) (k : ℕ) → drop k l ≡ take (length l - k) (d
 lent-from l k = sym (take-all (length l - k) (drop k l) (omega (arith, length-drop k l)))
 
 -- X lines of a list of indices, from a place on: those of the index there, with the later ones, and the others
-module _ (bags : List Bag) (indices : List ℕ) where
+module _ (masks indices : List ℕ) where
   pub pairs-next : (k : ℕ) → k < length indices
-      → Begins (text (exclusions bags (drop k indices)))
-      (text (map (exclusion (getD indices k 0)) (keep (excluded bags (getD indices k 0)) (take (length indices - (k + 1)) (drop (k + 1) indices)))))
-      (text (exclusions bags (drop (k + 1) indices)))
-  unfolding exclusions text
+      → Begins (text (exclusionsBy masks (drop k indices)))
+      (text (map (exclusion (getD indices k 0)) (keep (apartBy masks (getD indices k 0)) (take (length indices - (k + 1)) (drop (k + 1) indices)))))
+      (text (exclusionsBy masks (drop (k + 1) indices)))
+  unfolding exclusionsBy text
   pairs-next k h = record { path = rw (← lent-from indices (k + 1), drop-cons indices k 0 h, add-one k) (flatMap-append lineText _ _) }
 
-  pub pairs-end : (k : ℕ) → length indices ≤ k → text (exclusions bags (drop k indices)) ≡ []
-  unfolding exclusions
+  pub pairs-end : (k : ℕ) → length indices ≤ k → text (exclusionsBy masks (drop k indices)) ≡ []
+  unfolding exclusionsBy
   pairs-end k h = rw (drop-of-length-le indices h) no-lines
 
 -- an index of a list is below a bound that all are below

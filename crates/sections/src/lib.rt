@@ -1,6 +1,5 @@
 // The lines of a property space, from the table of its conditions: all `T`, all `M`, all `D` and all `X` lines.
 // Document 01, "Listing".
-pub mod exclusions;
 pub mod limits;
-pub mod memberships;
+pub mod minimal;
 pub mod states;

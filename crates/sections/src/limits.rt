@@ -1,16 +1,16 @@
 // The largest count of each property of arity 2 or 3: the `M` lines.
 use text::lines::write_limit;
 ghost use mathlib.Core.Path.{_≡_};
-ghost use mathlib.Core.Bool.{cond};
+ghost use mathlib.Core.Bool.{cond, true};
 ghost use mathlib.Core.List.{[]};
 ghost use Prim.Native.Nat.{_*_, _≤_, _<_, max};
-ghost use lib.Dec.{leb};
+ghost use lib.Dec.{leb, ltb};
 ghost use lib.ListN.{length};
+ghost use Rattle.laws.specs.Lists.{all, distinct};
 ghost use Rattle.model.specs.Lines.{limit, largest};
 ghost use Rattle.model.specs.Text.{lineText, text};
 ghost use Rattle.sections.specs.Limits.{limitsBy, columnOf};
 ghost use Rattle.properties.specs.Tables.{bagsIn, HasRows};
-ghost use Rattle.text.specs.Kinds.{propertiesOf};
 ghost use Rattle.text.specs.Room.{Room};
 ghost use Rattle.text.specs.Written.{Writes};
 
@@ -65,36 +65,23 @@ fn write_limit_of(
     write_limit(out, c, most)
 }
 
-// The `M` lines of the space whose lowest property is given: its properties, of so many, are those of its group, and the first counts of
-// each row are theirs. No condition: no line.
+// The `M` lines of a space, whose own properties are given: the first counts of each row are theirs. No condition: no line.
 pub fn write_limits(
     out: &mut [u8],
     table: &[u16],
     count: usize,
-    groups: &[u8],
-    properties: usize,
-    lowest: u8,
+    own: &[usize],
     arities: &[u8],
 ) -> usize
     requires { ⌜
-        HasRows (length (propertiesOf (now groups) properties lowest)) count (now table)
-        × (properties ≤ length (now groups))
-        × (properties ≤ length (now arities))
-        × Room
-        (text
-        (limitsBy
-        (now arities)
-        (propertiesOf (now groups) properties lowest)
-        (bagsIn (length (propertiesOf (now groups) properties lowest)) count (now table))))
-        (now out)
+        HasRows (length (now own)) count (now table)
+        × (distinct (now own) ≡ true)
+        × (all (λ c. ltb c (length (now arities))) (now own) ≡ true)
+        × Room (text (limitsBy (now arities) (now own) (bagsIn (length (now own)) count (now table)))) (now out)
         ⌝ }
     ensures { λ r. ⌜
         Writes
-        (text
-        (limitsBy
-        (now (arities .entry))
-        (propertiesOf (now (groups .entry)) properties lowest)
-        (bagsIn (length (propertiesOf (now (groups .entry)) properties lowest)) count (now (table .entry)))))
+        (text (limitsBy (now (arities .entry)) (now (own .entry)) (bagsIn (length (now (own .entry))) count (now (table .entry)))))
         (now (out .entry))
         (now (out .exit))
         r
@@ -105,10 +92,8 @@ pub fn write_limits(
     }
     let mut at = 0;
     let mut column = 0;
-    for c in 0..properties {
-        if groups[c] != lowest {
-            continue;
-        }
+    while column < own.len() {
+        let c = own[column];
         let n = write_limit_of(&mut out[at..], c, arities[c], table, count, column);
         at = at + n;
         column = column + 1;

@@ -1,10 +1,10 @@
 -- The conditions that are listed for a space: each has a count for every property, and the code's table holds them.
-use Prim.Native.Nat.{ℕ, _-_, _*_, _≤_}
+use Prim.Native.Nat.{ℕ, _*_, _≤_}
 use native.Mathlib.Omega.{arith}
-use mathlib.Core.Path.{_≡_, ap, subst}
+use mathlib.Core.Path.{_≡_, ap, subst, _∙_}
 use mathlib.Core.Logic.{⊎-elim}
 use mathlib.Core.List.{List, [], map, List·Memᴰ, List·Memᴰ·not-nil, Memᴰ·of-map}
-use lib.ListN.{length, replicate, length-append}
+use lib.ListN.{length, drop, length-append}
 use Rattle.laws.specs.Bags.{Bag, restrict}
 use Rattle.laws.proofs.Bags.{length-restrict}
 use Rattle.model.specs.Card.{Task}
@@ -15,12 +15,10 @@ use Rattle.model.specs.Extension.{Move}
 use Rattle.model.specs.Lines.{analyse, movesOf, initialConditions}
 use Rattle.model.proofs.ListedSpace.{extensionOf, listed-as-property, conditions-listed}
 use Rattle.model.proofs.OwnLists.{lists-sized, joined-from, adjoin-all-from}
-use Rattle.properties.specs.Tables.{stride, rows, bagsIn, HasRows}
+use Rattle.properties.specs.Tables.{stride, rows, rowsBefore, bagsIn, HasRows}
 use Rattle.properties.proofs.Rows.{length-rows}
-use Rattle.extension.specs.Extended.{rowsWithin}
-use Rattle.analysis.specs.declared.Analysed.{Analysed}
-use Rattle.analysis.specs.Analysed.{AnalysisOf}
-use Rattle.conditions.proofs.RowTables.{bags-of-rows}
+use Rattle.properties.proofs.RowTables.{rows-before-back}
+use Rattle.space_lines.specs.OwnLines.{Held}
 
 -- rules and initial conditions are over the space's properties
 moves-sized : (u : Space) (m : Move) → List·Memᴰ m (movesOf u)
@@ -44,40 +42,36 @@ initial-sized t u b m =
     (adjoin-all-from [] (map (condition t (u .properties) (t .facts)) (u .members)) b m)
 
 -- so every listed condition is
-condition-sized : (t : Task) (u : Space) (b : Bag) → List·Memᴰ b (analyse t u .conditions) → length b ≡ length (u .properties)
+pub condition-sized : (t : Task) (u : Space) (b : Bag) → List·Memᴰ b (analyse t u .conditions) → length b ≡ length (u .properties)
 condition-sized t u b m =
     let l = listed-as-property t u (conditions-listed t u b m) in
     let p = joined-from (extensionOf t u .lists) b (subst (List·Memᴰ b) (l .conditions-are) m) in
     lists-sized (length (u .properties)) (movesOf u) (initialConditions t u) (moves-sized u) (initial-sized t u) (p .0) (p .1) b (p .2)
 
--- The table of a space's analysis, where its properties fit a row.
-module _ (t : Task) (u : Space) (narrow : length (u .properties) ≤ 60) (r : Analysed) {origins targets nowOrigins nowTargets : List ℕ}
-    (a : AnalysisOf t u r origins targets nowOrigins nowTargets) where
+-- A table that begins with the rows of these conditions, where the space's properties fit a row.
+module _ (t : Task) (u : Space) (narrow : length (u .properties) ≤ stride) {before table : List ℕ} {count : ℕ}
+    (held : Held (analyse t u .conditions) before table count) where
   abbrev conditions : List Bag
   conditions = analyse t u .conditions
 
-  table-length : 60 * r .count ≤ length (r .bags)
-  unfolding rowsWithin
+  table-length : stride * count ≤ length table
+  unfolding rowsBefore
   table-length =
       omega (
         arith,
-        ap length (a .bags),
-        length-append (rows conditions) (replicate (3840 - stride * length conditions) 0),
+        ap length (held .table-is) ∙ length-append (rows conditions) (drop (stride * length conditions) before),
         length-rows conditions (λ b m. omega (arith, condition-sized t u b m)),
-        a .count,
+        held .counted,
       )
 
   -- it has a row for each condition
-  pub has-rows : HasRows (r .size) (r .count) (r .bags)
-  has-rows = record { narrow = omega (arith, a .sized); long = table-length }
+  pub rows-there : HasRows (length (u .properties)) count table
+  rows-there = record { narrow = narrow; long = table-length }
 
   -- at most 64 of them
-  pub few-conditions : length (r .bags) ≡ 3840 → r .count ≤ 64
-  few-conditions long = omega (arith, table-length)
+  pub few-conditions : length table ≤ 3840 → count ≤ 64
+  few-conditions short = omega (arith, table-length)
 
   -- and these are the conditions
-  pub bags-are : bagsIn (r .size) (r .count) (r .bags) ≡ conditions
-  unfolding rowsWithin
-  bags-are =
-      rw (a .sized, a .count, a .bags)
-      (bags-of-rows (length (u .properties)) conditions (replicate (3840 - stride * length conditions) 0) narrow (condition-sized t u))
+  pub bags-are : bagsIn (length (u .properties)) count table ≡ conditions
+  bags-are = rw (held .counted, held .table-is) (rows-before-back (length (u .properties)) narrow conditions (condition-sized t u) before)

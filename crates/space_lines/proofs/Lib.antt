@@ -1,5 +1,4 @@
-pub mod Conditions
 pub mod Parts
+pub mod Conditions
 pub mod SectionRoom
-pub mod Section
-pub mod Writing
+pub mod TaskSections

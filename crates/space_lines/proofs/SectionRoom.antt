@@ -1,28 +1,33 @@
--- A space's section is shorter than 65,536 bytes.
+-- A space's section is no longer than 65,536 bytes.
 use Prim.Native.Nat.{ℕ, _+_, _*_, _≤_, _<_}
 use native.Mathlib.Omega.{arith}
-use mathlib.Core.Path.{refl, sym, subst, _∙_}
-use mathlib.Core.Bool.{Bool, true, false, cond, not}
+use mathlib.Core.Path.{_≡_, refl, sym, ap, subst, _∙_}
+use mathlib.Core.Bool.{Bool, true, false, cond}
 use mathlib.Core.List.{List, [], _∷_, map, List·Memᴰ, List·Memᴰ·head, List·Memᴰ·tail, Memᴰ·of-map}
 use lib.Dec.{eqb}
-use lib.ListN.{length, getD, drop, length-take}
+use lib.ListN.{length, getD, drop, length-append, length-take}
 use lib.Seq.{getD-drop}
-use Rattle.laws.specs.Bags.{Bag, strictlyContains}
-use Rattle.laws.specs.Lists.{any, upTo}
-use Rattle.laws.proofs.Lists.{keep-at, upTo-at, place-of, mem-take}
-use Rattle.laws.proofs.Walks.{keep-few}
-use Rattle.model.specs.Lines.{minimal, largest, countOf}
+use Rattle.laws.specs.Bags.{Bag}
+use Rattle.laws.specs.Lists.{upTo}
+use Rattle.laws.proofs.Lists.{place-of, mem-take}
+use Rattle.masks.specs.Sets.{membersOf}
+use Rattle.masks.proofs.Members.{members-below, members-few}
+use Rattle.model.specs.Lines.{largest, countOf}
+use Rattle.model.specs.Spaces.{Kind}
 use Rattle.model.specs.Text.{text}
 use Rattle.properties.specs.Tables.{stride, bagAt, bagsIn}
-use Rattle.sections.proofs.SectionLengths.{states-length, limits-length, memberships-length, exclusions-length}
-use Rattle.text.proofs.Lengths.{AllBelow}
-use Rattle.space_lines.specs.Listed.{conditionLines}
-use Rattle.space_lines.proofs.Parts.{parts-length}
+use Rattle.properties.proofs.RowTables.{length-bagsIn}
+use Rattle.sections.proofs.SectionLengths.{states-length, limits-length, minimal-length}
+use Rattle.text.specs.Room.{Room}
+use Rattle.masks.proofs.Ascending.{Below}
+use Rattle.text.proofs.Lengths.{parts-length, space-length}
+use Rattle.space_lines.specs.OwnLines.{conditionLines, ownLines, Listable}
+use Rattle.space_lines.proofs.Parts.{limits-first, states-first, space-first}
 
 -- ---- numbers below a bound
 
 module _ (bound : ℕ) (some : 0 < bound) where
-  count-below : (properties : List ℕ) (c : ℕ) (b : Bag) → AllBelow bound b → countOf properties c b < bound
+  count-below : (properties : List ℕ) (c : ℕ) (b : Bag) → Below bound b → countOf properties c b < bound
   unfolding countOf
   count-below [] c b h = some
   count-below (d ∷ ds) c [] h = some
@@ -32,13 +37,13 @@ module _ (bound : ℕ) (some : 0 < bound) where
       go true p q = p
       go false p q = q
 
-  largest-below : (ns : List ℕ) → AllBelow bound ns → largest ns < bound
+  largest-below : (ns : List ℕ) → Below bound ns → largest ns < bound
   unfolding largest
   largest-below [] h = some
   largest-below (n ∷ ns) h = omega (arith, h n (List·Memᴰ·head refl), largest-below ns (λ m k. h m (List·Memᴰ·tail k)))
 
   -- so is the largest count of any property over bags of such counts
-  most-below : (properties : List ℕ) (bags : List Bag) → ((b : Bag) → List·Memᴰ b bags → AllBelow bound b)
+  most-below : (properties : List ℕ) (bags : List Bag) → ((b : Bag) → List·Memᴰ b bags → Below bound b)
       → (c : ℕ) → largest (map (countOf properties c) bags) < bound
   most-below properties bags h c =
       largest-below (map (countOf properties c) bags)
@@ -47,42 +52,51 @@ module _ (bound : ℕ) (some : 0 < bound) where
       subst (λ (x : ℕ). x < bound) (p .2) (count-below properties c (p .0) (h (p .0) (p .1))))
 
 -- the bags of a table: no longer than their size, with the table's counts
-pub bag-of-table : (bound size count : ℕ) (table : List ℕ) → ((i : ℕ) → getD table i 0 < bound)
-    → (b : Bag) → List·Memᴰ b (bagsIn size count table) → (length b ≤ size) × AllBelow bound b
+bag-of-table : (bound size count : ℕ) (table : List ℕ) → ((i : ℕ) → getD table i 0 < bound)
+    → (b : Bag) → List·Memᴰ b (bagsIn size count table) → (length b ≤ size) × Below bound b
 unfolding bagsIn bagAt
 bag-of-table bound size count table h b m =
     let p = Memᴰ·of-map (bagAt size table) (upTo count) m in
-    subst (λ (x : Bag). (length x ≤ size) × AllBelow bound x) (p .2) (
+    subst (λ (x : Bag). (length x ≤ size) × Below bound x) (p .2) (
       omega (arith, length-take size (drop (stride * p .0) table)),
       λ n k.
           let q = place-of (drop (stride * p .0) table) n 0 (mem-take size (drop (stride * p .0) table) n k) in
           subst (λ (x : ℕ). x < bound) (sym (getD-drop (stride * p .0) table (q .0) 0) ∙ q .2) (h (stride * p .0 + q .0)),
     )
 
--- ---- the lines of the conditions
+-- ---- the lines of a section
 
-module _ (bags : List Bag) where
-  -- indices of conditions are below their number, and no more
-  pub minimal-below : (i : ℕ) → List·Memᴰ i (minimal bags) → i < length bags
-  unfolding minimal
-  minimal-below i m = upTo-at (length bags) i (keep-at _ (upTo (length bags)) i m .0)
+-- the lines of at most 64 conditions over at most 60 properties
+conditions-length : (arities own : List ℕ) (bags : List Bag) → length bags ≤ 64 → length own ≤ 60 → Below 100 own
+    → ((b : Bag) → List·Memᴰ b bags → (length b ≤ 60) × Below 100000 b)
+    → length (text (conditionLines arities own bags)) ≤ 57044
+conditions-length arities own bags few narrow below small =
+    omega (
+      arith,
+      parts-length (states-first arities own bags),
+      parts-length (limits-first arities own bags),
+      states-length bags small,
+      limits-length arities own bags below (most-below 100000 (omega arith) own bags (λ b m. small b m .1)),
+      minimal-length bags few,
+    )
 
-  minimal-few : length (minimal bags) ≤ length bags
-  unfolding minimal
-  minimal-few = keep-few (λ i. not (any (strictlyContains (getD bags i [])) bags)) (length bags)
-
-  -- the lines of at most 64 conditions over at most 60 properties
-  pub conditions-length : (arities properties : List ℕ) → length bags ≤ 64 → length properties ≤ 60 → AllBelow 100 properties
-      → ((b : Bag) → List·Memᴰ b bags → (length b ≤ 60) × AllBelow 100000 b)
-      → length (text (conditionLines arities properties bags)) ≤ 57044
-  conditions-length arities properties few narrow below small =
-      let indices : AllBelow 100 (minimal bags) = λ i m. omega (arith, minimal-below i m) in
-      omega (
-        arith,
-        parts-length arities properties bags,
-        states-length bags small,
-        limits-length arities properties bags below (most-below 100000 (omega arith) properties bags (λ b m. small b m .1)),
-        memberships-length (minimal bags) indices,
-        exclusions-length bags (minimal bags) indices (omega (arith, minimal-few)),
-        minimal-few,
-      )
+-- so there is room for the whole section
+pub section-fits : {own arities table : List ℕ} {count : ℕ} (number : ℕ) (kind : Kind) (members : ℕ) → Listable own arities table count
+    → number < 100 → Below 100 own → ((i : ℕ) → getD table i 0 < 65536) → (out : List ℕ) → 65536 ≤ length out
+    → Room (text (ownLines number kind own (membersOf members) arities (bagsIn (length own) count table))) out
+section-fits {own} {arities} {table} {count} number kind members l h below small out room =
+    let bags = bagsIn (length own) count table in
+    record {
+      fits =
+          omega (
+            arith,
+            parts-length (space-first arities own bags number kind (membersOf members)),
+            space-length number kind own (membersOf members) h below (λ o m. omega (arith, members-below members o m)),
+            l .rows .narrow,
+            members-few members,
+            conditions-length arities own bags (omega (arith, length-bagsIn (length own) count table, l .few)) (l .rows .narrow) below
+                (λ b m.
+                let s = bag-of-table 65536 (length own) count table small b m in
+                (omega (arith, s .0, l .rows .narrow), λ n k. omega (arith, s .1 n k))),
+          );
+    }

@@ -1,90 +1,74 @@
--- What a rule brings into its space, as the code finds it: a start that is not empty, no property moved, or a first one.
-use Prim.Native.Nat.{ℕ, zero, suc, _+_, _-_, _*_, _≤_, _<_}
-use native.Mathlib.Nat.{lt-irrefl}
+-- What a parameter brings into spaces, as the code finds it: it has a start, changes nothing, or brings in properties.
+use Prim.Native.Nat.{ℕ, zero, suc, _+_, _-_, _≤_, _<_}
 use native.Mathlib.Omega.{arith}
 use mathlib.Core.Path.{_≡_, refl, sym, ap, _∙_}
 use mathlib.Core.Bool.{true, false}
-use mathlib.Core.List.{List, [], _∷_, List·Memᴰ, List·Memᴰ·head}
-use lib.ListN.{length}
-use Rattle.laws.specs.Bags.{isEmpty}
+use mathlib.Core.List.{List, [], _∷_, foldl, List·Memᴰ, List·Memᴰ·head}
+use Rattle.laws.specs.Bags.{Bag}
 use Rattle.laws.proofs.Tests.{cond-true, cond-false}
-use Rattle.model.specs.Transitions.{Transition}
-use Rattle.model.specs.Spaces.{moved}
-use Rattle.properties.specs.Tables.{bagAt}
-use Rattle.spaces.specs.Steps.{ruleAt, movedAt, firstOr, joinAt, joinFirst, enabledBy, gainBy, roundOf, roundsOf}
-use Rattle.spaces.proofs.Rows.{moved-below}
+use Rattle.properties.specs.Tables.{bagAt, HasRow}
+use Rattle.spaces.specs.Steps.{hasStart, changedBy, gainedBy, firstOr, joinAt, enabledBy, gainRow, roundIn, roundsIn}
+use Rattle.spaces.proofs.Rows.{changed-below}
 
--- no property is moved: nobody joins
-join-none : (groups : List ℕ) (those : ℕ) (masks : List ℕ) (size : ℕ) (cs : List ℕ) → ((c : ℕ) → List·Memᴰ c cs → c < size)
-    → size ≤ firstOr size cs → masks ≡ joinFirst groups those masks cs
-unfolding joinFirst firstOr
-join-none groups those masks size [] known h = refl
-join-none groups those masks size (c ∷ cs) known h = let below = known c (List·Memᴰ·head refl) in absurd (omega arith)
+-- where the first of some properties below a size is not, there is none
+none-first : (size : ℕ) (cs : List ℕ) → ((c : ℕ) → List·Memᴰ c cs → c < size) → size ≤ firstOr size cs → cs ≡ []
+unfolding firstOr
+none-first size [] known h = refl
+none-first size (c ∷ cs) known h = let below = known c (List·Memᴰ·head refl) in absurd (omega arith)
 
--- those join the space of the first
-join-some : (groups : List ℕ) (those : ℕ) (masks : List ℕ) (size : ℕ) (cs : List ℕ) → firstOr size cs < size
-    → joinAt groups those masks (firstOr size cs) ≡ joinFirst groups those masks cs
-unfolding joinFirst firstOr
-join-some groups those masks size [] h = absurd (lt-irrefl size h)
-join-some groups those masks size (c ∷ cs) h = refl
+module _ (groups : List ℕ) (objects : ℕ) (old masks : List ℕ) (p : Bag) where
+  -- a parameter with a start brings nobody
+  pub gain-started : (d a : Bag) → hasStart d a ≡ true → masks ≡ gainRow groups objects old masks p d a
+  unfolding gainRow gainedBy
+  gain-started d a e = ap (foldl (joinAt groups (enabledBy groups objects old p)) masks) (sym (cond-true (hasStart d a) [] (changedBy d a) e))
 
-module _ (groups : List ℕ) (objects : ℕ) (old masks : List ℕ) (size : ℕ) (enablers starts finishes : List ℕ) (row : ℕ) where
-  -- a rule with a start brings nobody
-  pub gain-started : isEmpty (bagAt size starts row) ≡ false → masks ≡ gainBy groups objects old masks (ruleAt size enablers starts finishes row)
-  unfolding gainBy ruleAt
-  gain-started e = sym (cond-false (isEmpty (bagAt size starts row)) _ masks e)
+  -- any other brings those whom it enables into the space of each property that it changes
+  pub gain-some : (d a : Bag) → hasStart d a ≡ false
+      → foldl (joinAt groups (enabledBy groups objects old p)) masks (changedBy d a) ≡ gainRow groups objects old masks p d a
+  unfolding gainRow gainedBy
+  gain-some d a e = ap (foldl (joinAt groups (enabledBy groups objects old p)) masks) (sym (cond-false (hasStart d a) [] (changedBy d a) e))
 
-  module _ (increasing : isEmpty (bagAt size starts row) ≡ true) where
-    -- nor does one that moves nothing
-    pub gain-still : size ≤ 60 → 60 * row + 60 ≤ length starts → 60 * row + 60 ≤ length finishes
-        → size ≤ firstOr size (movedAt size starts finishes row)
-        → masks ≡ gainBy groups objects old masks (ruleAt size enablers starts finishes row)
-    unfolding gainBy ruleAt moved movedAt
-    gain-still narrow s f h =
-        join-none groups (enabledBy groups objects old (bagAt size enablers row)) masks size (movedAt size starts finishes row)
-        (moved-below size narrow row starts finishes s f) h
-        ∙ sym (cond-true (isEmpty (bagAt size starts row)) _ masks increasing)
-
-    -- any other brings those that it admits into the space of its first property
-    pub gain-some : firstOr size (movedAt size starts finishes row) < size
-        → joinAt groups (enabledBy groups objects old (bagAt size enablers row)) masks (firstOr size (movedAt size starts finishes row))
-        ≡ gainBy groups objects old masks (ruleAt size enablers starts finishes row)
-    unfolding gainBy ruleAt moved movedAt
-    gain-some h =
-        join-some groups (enabledBy groups objects old (bagAt size enablers row)) masks size (movedAt size starts finishes row) h
-        ∙ sym (cond-true (isEmpty (bagAt size starts row)) _ masks increasing)
+  -- and nobody where it changes none
+  pub gain-still : {size row : ℕ} {deletes adds : List ℕ} → HasRow size row deletes → HasRow size row adds
+      → hasStart (bagAt size deletes row) (bagAt size adds row) ≡ false
+      → size ≤ firstOr size (changedBy (bagAt size deletes row) (bagAt size adds row))
+      → masks ≡ gainRow groups objects old masks p (bagAt size deletes row) (bagAt size adds row)
+  gain-still {size} {row} {deletes} {adds} d a e h =
+      let changed = changedBy (bagAt size deletes row) (bagAt size adds row) in
+      ap (foldl (joinAt groups (enabledBy groups objects old p)) masks) (sym (none-first size changed (changed-below d a) h))
+      ∙ gain-some (bagAt size deletes row) (bagAt size adds row) e
 
 -- Rounds left of so many, done with the members so far: the answer stays the same.
-module _ (groups : List ℕ) (objects : ℕ) (rules : List Transition) where
+module _ (groups : List ℕ) (objects size count : ℕ) (p d a : List ℕ) where
   -- a round that adds nothing is the last
-  pub rounds-fixed : (n : ℕ) (masks : List ℕ) → roundOf groups objects rules masks ≡ masks → roundsOf groups objects rules n masks ≡ masks
-  unfolding roundsOf
+  pub rounds-fixed : (n : ℕ) (masks : List ℕ) → roundIn groups objects size count p d a masks ≡ masks → roundsIn groups objects size count p d a n masks ≡ masks
+  unfolding roundsIn
   rounds-fixed zero masks e = refl
-  rounds-fixed (suc n) masks e = ap (roundsOf groups objects rules n) e ∙ rounds-fixed n masks e
+  rounds-fixed (suc n) masks e = ap (roundsIn groups objects size count p d a n) e ∙ rounds-fixed n masks e
 
   module _ (answer : List ℕ) (n : ℕ) where
-    pub rounds-start : (masks : List ℕ) → roundsOf groups objects rules n masks ≡ answer → roundsOf groups objects rules (n - 0) masks ≡ answer
-    rounds-start masks e = ap (λ (k : ℕ). roundsOf groups objects rules k masks) (whole n) ∙ e
+    pub rounds-start : (masks : List ℕ) → roundsIn groups objects size count p d a n masks ≡ answer → roundsIn groups objects size count p d a (n - 0) masks ≡ answer
+    rounds-start masks e = ap (λ (k : ℕ). roundsIn groups objects size count p d a k masks) (whole n) ∙ e
       where
         whole : (k : ℕ) → k - 0 ≡ k
         whole k = omega arith
 
-    pub rounds-next : (i : ℕ) (masks next : List ℕ) → i < n → next ≡ roundOf groups objects rules masks
-        → roundsOf groups objects rules (n - i) masks ≡ answer → roundsOf groups objects rules (n - (i + 1)) next ≡ answer
-    unfolding roundsOf
+    pub rounds-next : (i : ℕ) (masks next : List ℕ) → i < n → next ≡ roundIn groups objects size count p d a masks
+        → roundsIn groups objects size count p d a (n - i) masks ≡ answer → roundsIn groups objects size count p d a (n - (i + 1)) next ≡ answer
+    unfolding roundsIn
     rounds-next i masks next h e now =
-        ap (roundsOf groups objects rules (n - (i + 1))) e ∙ ap (λ (k : ℕ). roundsOf groups objects rules k masks) (sym (one-less h)) ∙ now
+        ap (roundsIn groups objects size count p d a (n - (i + 1))) e ∙ ap (λ (k : ℕ). roundsIn groups objects size count p d a k masks) (sym (one-less h)) ∙ now
       where
         one-less : {a b : ℕ} → a < b → b - a ≡ suc (b - (a + 1))
         one-less h = omega arith
 
-    pub rounds-end : (i : ℕ) (masks : List ℕ) → n ≤ i → roundsOf groups objects rules (n - i) masks ≡ answer → masks ≡ answer
-    unfolding roundsOf
-    rounds-end i masks h now = ap (λ (k : ℕ). roundsOf groups objects rules k masks) (sym (nothing h)) ∙ now
+    pub rounds-end : (i : ℕ) (masks : List ℕ) → n ≤ i → roundsIn groups objects size count p d a (n - i) masks ≡ answer → masks ≡ answer
+    unfolding roundsIn
+    rounds-end i masks h now = ap (λ (k : ℕ). roundsIn groups objects size count p d a k masks) (sym (nothing h)) ∙ now
       where
         nothing : {a b : ℕ} → a ≤ b → a - b ≡ 0
         nothing p = omega arith
 
-    pub rounds-stop : (i : ℕ) (masks : List ℕ) → roundOf groups objects rules masks ≡ masks
-        → roundsOf groups objects rules (n - i) masks ≡ answer → masks ≡ answer
+    pub rounds-stop : (i : ℕ) (masks : List ℕ) → roundIn groups objects size count p d a masks ≡ masks
+        → roundsIn groups objects size count p d a (n - i) masks ≡ answer → masks ≡ answer
     rounds-stop i masks e now = sym (rounds-fixed (n - i) masks e) ∙ now

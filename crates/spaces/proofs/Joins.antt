@@ -4,7 +4,6 @@ use mathlib.Core.Path.{_≡_, refl, sym, ap, _∙_, subst}
 use mathlib.Core.Bool.{Bool, true, false, cond, _&&_, _||_}
 use mathlib.Core.List.{List, [], _∷_, map, foldl, List·Memᴰ, List·Memᴰ·head, List·Memᴰ·tail}
 use lib.Dec.{eqb}
-use lib.Bits.{bitAnd, bitOr}
 use lib.ListN.{length, getD, set, replicate, length-map, length-set, length-replicate, getD-replicate}
 use lib.Seq.{ext-getD, getD-set-same, getD-set-other}
 use borrow.Author.Tests.{eqb-true, eqb-false, eq-eqb}
@@ -13,11 +12,13 @@ use Rattle.laws.specs.Bags.{isEmpty, support}
 use Rattle.laws.proofs.Tests.{by-test, same-test, and-left, and-right, and-intro, and-false-left, or-assoc, and-assoc, and-neutral, or-neutral}
 use Rattle.laws.proofs.Lists.{any-at, any-intro, length-upTo, getD-upTo, upTo-at, upTo-intro}
 use Rattle.laws.proofs.Mapped.{getD-map, map-ext, keep-ext}
-use Rattle.laws.proofs.Masks.{mask, mask-and, mask-or, mask-none, mask-one, mask-all}
+use Rattle.masks.specs.Sets.{maskOf, unionOf, commonOf}
+use Rattle.masks.proofs.Kept.{common-kept, union-kept, none-kept, one-kept, all-kept}
 use Rattle.model.specs.Transitions.{Transition}
 use Rattle.model.specs.Spaces.{moved}
 use Rattle.properties.specs.Tables.{bagAt}
-use Rattle.spaces.specs.Steps.{openAt, opened, joinAt, joinFirst, enabledBy, gainBy, roundOf, roundsOf}
+use Rattle.spaces.specs.Steps.{openAt, opened, joinAt, enabledBy}
+use Rattle.spaces.proofs.RuleSteps.{joinFirst, gainBy, roundOf, roundsOf}
 
 -- an object is a member of the space of a label
 abbrev pub Joins : Type 0
@@ -25,7 +26,7 @@ Joins = ℕ → ℕ → Bool
 
 -- the mask of the members at a label, and the masks at all labels
 abbrev pub maskAt : ℕ → Joins → ℕ → ℕ
-maskAt n joins l = mask (keep (λ o. joins o l) (upTo n))
+maskAt n joins l = maskOf (keep (λ o. joins o l) (upTo n))
 
 unfoldable pub masksOf : ℕ → Joins → List ℕ
 masksOf n joins = map (maskAt n joins) (upTo 60)
@@ -41,8 +42,8 @@ module _ (n : ℕ) where
       getD-map (maskAt n joins) (upTo 60) l 0 0 (subst (λ (k : ℕ). l < k) (sym (length-upTo 60)) h) ∙ ap (maskAt n joins) (getD-upTo 60 l 0 h)
 
   -- tests that agree have the same masks
-  pub mask-ext : (f g : ℕ → Bool) → ((o : ℕ) → o < n → f o ≡ g o) → mask (keep f (upTo n)) ≡ mask (keep g (upTo n))
-  mask-ext f g h = ap mask (keep-ext f g (upTo n) (λ o m. h o (upTo-at n o m)))
+  pub mask-ext : (f g : ℕ → Bool) → ((o : ℕ) → o < n → f o ≡ g o) → maskOf (keep f (upTo n)) ≡ maskOf (keep g (upTo n))
+  mask-ext f g h = ap maskOf (keep-ext f g (upTo n) (λ o m. h o (upTo-at n o m)))
 
   pub masks-ext : (f g : Joins) → ((o l : ℕ) → o < n → f o l ≡ g o l) → masksOf n f ≡ masksOf n g
   unfolding masksOf
@@ -54,20 +55,20 @@ module _ (n : ℕ) where
       ext-getD 0 (replicate 60 0) (masksOf n (λ o l. false)) (length-replicate {A = ℕ} 60 0 ∙ sym (length-masks (λ o l. false)))
       (λ l h.
       let k = subst (λ (m : ℕ). l < m) (length-replicate {A = ℕ} 60 0) h in
-      getD-replicate 60 l 0 0 k ∙ sym (masks-at (λ o j. false) l k ∙ mask-none n))
+      getD-replicate 60 l 0 0 k ∙ sym (masks-at (λ o j. false) l k ∙ none-kept n))
 
   -- some objects join at a label
   joined-at : (joins : Joins) (those : ℕ → Bool) (l : ℕ) → l < 60
-      → set (masksOf n joins) l (bitOr (getD (masksOf n joins) l 0) (mask (keep those (upTo n))))
+      → set (masksOf n joins) l (unionOf (getD (masksOf n joins) l 0) (maskOf (keep those (upTo n))))
       ≡ masksOf n (λ o k. joins o k || (eqb k l && those o))
   joined-at joins those l hl =
       ext-getD 0 before (masksOf n after) (size ∙ sym (length-masks after)) (λ k h. at k (subst (λ (m : ℕ). k < m) size h))
     where
       new : ℕ
-      new = bitOr (getD (masksOf n joins) l 0) (mask (keep those (upTo n)))
+      new = unionOf (getD (masksOf n joins) l 0) (maskOf (keep those (upTo n)))
 
       before : List ℕ
-      before = set (masksOf n joins) l (bitOr (getD (masksOf n joins) l 0) (mask (keep those (upTo n))))
+      before = set (masksOf n joins) l (unionOf (getD (masksOf n joins) l 0) (maskOf (keep those (upTo n))))
 
       after : Joins
       after o k = joins o k || (eqb k l && those o)
@@ -75,9 +76,9 @@ module _ (n : ℕ) where
       size : length before ≡ 60
       size = length-set (masksOf n joins) l new ∙ length-masks joins
 
-      here : bitOr (getD (masksOf n joins) l 0) (mask (keep those (upTo n))) ≡ mask (keep (λ o. joins o l || those o) (upTo n))
+      here : unionOf (getD (masksOf n joins) l 0) (maskOf (keep those (upTo n))) ≡ maskOf (keep (λ o. joins o l || those o) (upTo n))
       here =
-          ap (λ (m : ℕ). bitOr m (mask (keep those (upTo n)))) (masks-at joins l hl) ∙ mask-or (λ o. joins o l) those n
+          ap (λ (m : ℕ). unionOf m (maskOf (keep those (upTo n)))) (masks-at joins l hl) ∙ union-kept (λ o. joins o l) those n
 
       at : (k : ℕ) → k < 60 → getD before k 0 ≡ getD (masksOf n after) k 0
       at k h =
@@ -113,21 +114,21 @@ module _ (n : ℕ) where
 module _ (n : ℕ) (groups : List ℕ) (known : (c : ℕ) → getD groups c 0 < 60) where
   -- some objects join the space of a property
   pub join-joins : (joins : Joins) (those : ℕ → Bool) (c : ℕ)
-      → joinAt groups (mask (keep those (upTo n))) (masksOf n joins) c ≡ masksOf n (λ o l. joins o l || (eqb l (getD groups c 0) && those o))
+      → joinAt groups (maskOf (keep those (upTo n))) (masksOf n joins) c ≡ masksOf n (λ o l. joins o l || (eqb l (getD groups c 0) && those o))
   unfolding joinAt
   join-joins joins those c = joined-at n joins those (getD groups c 0) (known c)
 
   -- the members of the space of each of some properties
   pub enabled-joins : (joins : Joins) (cs : List ℕ) (those : ℕ → Bool)
-      → foldl (λ m c. bitAnd m (getD (masksOf n joins) (getD groups c 0) 0)) (mask (keep those (upTo n))) cs
-      ≡ mask (keep (λ o. those o && all (λ c. joins o (getD groups c 0)) cs) (upTo n))
+      → foldl (λ m c. commonOf m (getD (masksOf n joins) (getD groups c 0) 0)) (maskOf (keep those (upTo n))) cs
+      ≡ maskOf (keep (λ o. those o && all (λ c. joins o (getD groups c 0)) cs) (upTo n))
   unfolding all
   enabled-joins joins [] those = mask-ext n those (λ o. those o && true) (λ o m. sym (and-neutral (those o)))
   enabled-joins joins (c ∷ cs) those =
       let l = getD groups c 0 in
       let next : ℕ → Bool = λ o. those o && joins o l in
-      ap (λ (m : ℕ). foldl (λ k d. bitAnd k (getD (masksOf n joins) (getD groups d 0) 0)) m cs)
-      (ap (bitAnd (mask (keep those (upTo n)))) (masks-at n joins l (known c)) ∙ mask-and those (λ o. joins o l) n)
+      ap (λ (m : ℕ). foldl (λ k d. commonOf k (getD (masksOf n joins) (getD groups d 0) 0)) m cs)
+      (ap (commonOf (maskOf (keep those (upTo n)))) (masks-at n joins l (known c)) ∙ common-kept those (λ o. joins o l) n)
       ∙ enabled-joins joins cs next
       ∙ mask-ext n _ _ (λ o m. and-assoc (those o) (joins o l) (all (λ d. joins o (getD groups d 0)) cs))
 
@@ -147,10 +148,10 @@ module _ (n : ℕ) (groups : List ℕ) (known : (c : ℕ) → getD groups c 0 < 
   unfoldable pub oneRound : List Transition → Joins → Joins
   oneRound rules joins o l = joins o l || any (λ r. brings joins r o l) rules
 
-  enabledBy-joins : (joins : Joins) (r : Transition) → enabledBy groups n (masksOf n joins) (r .enablers) ≡ mask (keep (admittedBy joins r) (upTo n))
+  enabledBy-joins : (joins : Joins) (r : Transition) → enabledBy groups n (masksOf n joins) (r .enablers) ≡ maskOf (keep (admittedBy joins r) (upTo n))
   unfolding enabledBy admittedBy
   enabledBy-joins joins r =
-      ap (λ (m : ℕ). foldl (λ k c. bitAnd k (getD (masksOf n joins) (getD groups c 0) 0)) m (support (r .enablers))) (sym (mask-all n))
+      ap (λ (m : ℕ). foldl (λ k c. commonOf k (getD (masksOf n joins) (getD groups c 0) 0)) m (support (r .enablers))) (sym (all-kept n))
       ∙ enabled-joins joins (support (r .enablers)) (λ o. true)
 
   gain-joins : (old joins : Joins) (r : Transition)
@@ -197,8 +198,8 @@ module _ (n : ℕ) (groups : List ℕ) (known : (c : ℕ) → getD groups c 0 < 
       ≡ masksOf n (λ o l. joins o l || any (λ c. eqb l (getD groups c 0) && eqb x o) (support (bagAt size counts x)))
   unfolding openAt
   open-joins size counts x h joins =
-      ap (λ (m : ℕ). foldl (joinAt groups m) (masksOf n joins) (support (bagAt size counts x))) (sym (mask-one x n h))
-      ∙ fold-joins n (joinAt groups (mask (keep (eqb x) (upTo n)))) (λ c o l. eqb l (getD groups c 0) && eqb x o) (support (bagAt size counts x))
+      ap (λ (m : ℕ). foldl (joinAt groups m) (masksOf n joins) (support (bagAt size counts x))) (sym (one-kept x n h))
+      ∙ fold-joins n (joinAt groups (maskOf (keep (eqb x) (upTo n)))) (λ c o l. eqb l (getD groups c 0) && eqb x o) (support (bagAt size counts x))
       (λ c m now. join-joins now (eqb x) c) joins
 
   pub opened-joins : (size : ℕ) (counts : List ℕ) → opened groups size counts n ≡ masksOf n (opensBy size counts)

@@ -1,9 +1,13 @@
 pub mod Filling
 pub mod Rows
+pub mod RuleSteps
+pub mod RowRules
 pub mod Uniting
 pub mod Gaining
+pub mod Joining
+pub mod RowRounds
 pub mod Joins
 pub mod TaskSpaces
 pub mod Found
 pub mod Held
-pub mod Walked
+pub mod Places

@@ -1,72 +1,74 @@
--- Rows of the tables: what the counts at a place of a table say of a bag and of a rule, and the first property that a rule moves.
+-- Rows of the tables: what the counts at a place of a table say of a bag, and the first property that a parameter changes.
 use Prim.Native.Nat.{ℕ, _+_, _*_, _≤_, _<_}
-use native.Mathlib.Omega.{arith}
 use mathlib.Core.Path.{_≡_, refl, sym, ap, _∙_, subst}
-use mathlib.Core.Bool.{Bool, true, false}
+use mathlib.Core.Bool.{Bool, true, false, cond, not}
 use mathlib.Core.List.{List, [], _∷_, List·Memᴰ, List·Memᴰ·head, List·Memᴰ·not-nil}
-use lib.Dec.{ltb}
+use lib.Dec.{eqb, ltb}
 use lib.ListN.{length, getD}
+use borrow.Author.Tests.{lt-ltb, le-ltb}
 use Rattle.laws.specs.Lists.{keep, upTo}
-use Rattle.laws.specs.Bags.{plus, support, isEmpty}
-use Rattle.laws.proofs.Tests.{by-test}
-use Rattle.laws.proofs.Lists.{upTo-at, upTo-intro, keep-at, keep-intro}
-use Rattle.laws.proofs.Bags.{getD-plus, length-plus, isEmpty-at, isEmpty-intro}
+use Rattle.laws.specs.Bags.{support}
+use Rattle.laws.proofs.Lists.{upTo-at, upTo-intro, keep-at, keep-intro, any-intro, any-false}
 use Rattle.laws.proofs.Mapped.{keep-ext}
 use Rattle.laws.proofs.Walks.{left, kept-passes, kept-fails, kept-none}
 use Rattle.properties.specs.Tables.{bagAt, HasRow}
 use Rattle.properties.proofs.Rows.{length-bagAt, getD-bagAt}
-use Rattle.spaces.specs.Steps.{movedAt, firstOr}
+use Rattle.spaces.specs.Steps.{hasStart, changedBy, unitedBy, firstOr}
 
--- a property has a count in the row of a table that begins at a place; and a rule moves it by its counts in two tables
+-- a property has a count in the row of a table that begins at a place; and its counts in the rows of two tables differ
 unfoldable pub used : List ℕ → ℕ → ℕ → Bool
 used table at c = ltb 0 (getD table (at + c) 0)
 
-unfoldable pub movedBy : List ℕ → List ℕ → ℕ → ℕ → Bool
-movedBy starts finishes at c = ltb 0 (getD starts (at + c) 0 + getD finishes (at + c) 0)
+unfoldable pub differs : List ℕ → List ℕ → ℕ → ℕ → Bool
+differs deletes adds at c = not (eqb (getD deletes (at + c) 0) (getD adds (at + c) 0))
 
-module _ (size : ℕ) (narrow : size ≤ 60) (row : ℕ) where
-  module _ (table : List ℕ) (whole : 60 * row + 60 ≤ length table) where
-    inside : HasRow size row table
-    inside = record { inside = omega arith }
+-- the properties of a row's bag
+pub support-kept : {size row : ℕ} {table : List ℕ} → HasRow size row table
+    → support (bagAt size table row) ≡ keep (used table (60 * row)) (upTo size)
+unfolding support used
+support-kept {size} {row} {table} there =
+    ap (λ (n : ℕ). keep (λ c. ltb 0 (getD (bagAt size table row) c 0)) (upTo n)) (length-bagAt there)
+    ∙ keep-ext _ _ (upTo size) (λ c m. ap (ltb 0) (getD-bagAt there c (upTo-at size c m)))
 
-    -- the properties of a row's bag
-    pub support-kept : support (bagAt size table row) ≡ keep (used table (60 * row)) (upTo size)
-    unfolding support used
-    support-kept =
-        ap (λ (n : ℕ). keep (λ c. ltb 0 (getD (bagAt size table row) c 0)) (upTo n)) (length-bagAt inside)
-        ∙ keep-ext _ _ (upTo size) (λ c m. ap (ltb 0) (getD-bagAt inside c (upTo-at size c m)))
+module _ {size row : ℕ} {deletes adds : List ℕ} (d : HasRow size row deletes) (a : HasRow size row adds) where
+  -- the properties that a row's parameter changes
+  pub changed-kept : changedBy (bagAt size deletes row) (bagAt size adds row) ≡ keep (differs deletes adds (60 * row)) (upTo size)
+  unfolding changedBy differs
+  changed-kept =
+      ap (λ (n : ℕ). keep (λ c. not (eqb (getD (bagAt size deletes row) c 0) (getD (bagAt size adds row) c 0))) (upTo n)) (length-bagAt d)
+      ∙ keep-ext _ _ (upTo size)
+      (λ c m. let h = upTo-at size c m in λ i. not (eqb (getD-bagAt d c h i) (getD-bagAt a c h i)))
 
-    -- the bag is empty where every count is 0, and not where one is not
-    pub row-empty : ((c : ℕ) → c < size → getD table (60 * row + c) 0 ≡ 0) → isEmpty (bagAt size table row) ≡ true
-    row-empty none =
-        isEmpty-intro (bagAt size table row)
-        (λ c h. let k = subst (λ (n : ℕ). c < n) (length-bagAt inside) h in getD-bagAt inside c k ∙ none c k)
+  -- they are among the first `size`
+  pub changed-below : (c : ℕ) → List·Memᴰ c (changedBy (bagAt size deletes row) (bagAt size adds row)) → c < size
+  changed-below c m =
+      upTo-at size c (keep-at (differs deletes adds (60 * row)) (upTo size) c (subst (List·Memᴰ c) changed-kept m) .0)
 
-    pub row-used : (c : ℕ) → c < size → (getD table (60 * row + c) 0 ≡ 0 → ⊥) → isEmpty (bagAt size table row) ≡ false
-    row-used c h some =
-        by-test (isEmpty (bagAt size table row)) (λ e. absurd (some (sym (getD-bagAt inside c h) ∙ isEmpty-at (bagAt size table row) e c))) (λ e. e)
+  pub united-below : (c : ℕ) → List·Memᴰ c (unitedBy (bagAt size deletes row) (bagAt size adds row)) → c < size
+  unfolding unitedBy
+  united-below c = go (hasStart (bagAt size deletes row) (bagAt size adds row))
+    where
+      go : (b : Bool) → List·Memᴰ c (cond b (changedBy (bagAt size deletes row) (bagAt size adds row)) []) → c < size
+      go true m = changed-below c m
+      go false m = absurd (List·Memᴰ·not-nil m)
 
-  module _ (starts finishes : List ℕ) (s : 60 * row + 60 ≤ length starts) (f : 60 * row + 60 ≤ length finishes) where
-    same-length : length (bagAt size starts row) ≡ length (bagAt size finishes row)
-    same-length = length-bagAt (inside starts s) ∙ sym (length-bagAt (inside finishes f))
+  -- a property that is deleted more often than it is added, or none
+  pub start-found : (c : ℕ) → c < size → getD adds (60 * row + c) 0 < getD deletes (60 * row + c) 0
+      → hasStart (bagAt size deletes row) (bagAt size adds row) ≡ true
+  unfolding hasStart
+  start-found c h more =
+      any-intro (λ c. ltb (getD (bagAt size adds row) c 0) (getD (bagAt size deletes row) c 0)) (upTo (length (bagAt size deletes row))) c
+      (upTo-intro (length (bagAt size deletes row)) c (subst (λ (n : ℕ). c < n) (sym (length-bagAt d)) h))
+      ((λ i. ltb (getD-bagAt a c h i) (getD-bagAt d c h i)) ∙ lt-ltb (getD adds (60 * row + c) 0) (getD deletes (60 * row + c) 0) more)
 
-    -- the properties that a row's rule moves
-    pub moved-kept : movedAt size starts finishes row ≡ keep (movedBy starts finishes (60 * row)) (upTo size)
-    unfolding movedAt support movedBy
-    moved-kept =
-        ap (λ (n : ℕ). keep (λ c. ltb 0 (getD (plus (bagAt size starts row) (bagAt size finishes row)) c 0)) (upTo n))
-        (length-plus size (bagAt size starts row) (bagAt size finishes row) (length-bagAt (inside starts s)) (length-bagAt (inside finishes f)))
-        ∙ keep-ext _ _ (upTo size)
-        (λ c m.
-        let h = upTo-at size c m in
-        ap (ltb 0)
-        (getD-plus (bagAt size starts row) (bagAt size finishes row) same-length c
-        ∙ (λ i. getD-bagAt (inside starts s) c h i + getD-bagAt (inside finishes f) c h i)))
-
-    -- they are among the first `size`
-    pub moved-below : (c : ℕ) → List·Memᴰ c (movedAt size starts finishes row) → c < size
-    moved-below c m =
-        upTo-at size c (keep-at (movedBy starts finishes (60 * row)) (upTo size) c (subst (List·Memᴰ c) moved-kept m) .0)
+  pub start-none : ((c : ℕ) → c < size → getD deletes (60 * row + c) 0 ≤ getD adds (60 * row + c) 0)
+      → hasStart (bagAt size deletes row) (bagAt size adds row) ≡ false
+  unfolding hasStart
+  start-none none =
+      any-false (λ c. ltb (getD (bagAt size adds row) c 0) (getD (bagAt size deletes row) c 0)) (upTo (length (bagAt size deletes row)))
+      (λ c m.
+      let h : c < size = subst (λ (n : ℕ). c < n) (length-bagAt d) (upTo-at (length (bagAt size deletes row)) c m) in
+      (λ i. ltb (getD-bagAt a c h i) (getD-bagAt d c h i)) ∙ le-ltb (getD adds (60 * row + c) 0) (getD deletes (60 * row + c) 0) (none c h))
 
 -- the first of a list with an element is in the list
 first-in : (other n : ℕ) (ns : List ℕ) → List·Memᴰ n ns → List·Memᴰ (firstOr other ns) ns

@@ -16,7 +16,7 @@ use Rattle.laws.proofs.Mapped.{any-ext, all-ext, keep-ext, map-ext}
 use Rattle.laws.proofs.Numbers.{member-keep-upTo}
 use Rattle.laws.proofs.Closure.{repeat}
 use Rattle.laws.proofs.Bags.{isEmpty-at, isEmpty-not, length-restrict, getD-restrict, support-at, support-intro}
-use Rattle.laws.proofs.Masks.{mask}
+use Rattle.masks.specs.Sets.{maskOf}
 use Rattle.laws.proofs.Walks.{any-keep}
 use Rattle.model.specs.Card.{Task}
 use Rattle.model.specs.Transitions.{Transition, properties, bagOf, transitions}
@@ -25,8 +25,8 @@ use Rattle.model.proofs.Grouping.{Lowest, label-known, grouping-joins, grouping
 use Rattle.model.proofs.Closing.{groups, labels, propertiesAt, rulesAt, opens, spaceWith, spacesWith, admitted, step, belongs, spaces-alone}
 use Rattle.card.specs.Represents.{padded}
 use Rattle.properties.specs.Tables.{bagAt}
-use Rattle.spaces.specs.Steps.{labelled, opened, roundsOf}
-use Rattle.spaces.specs.SpaceTable.{maskOf}
+use Rattle.spaces.specs.Steps.{labelled, opened}
+use Rattle.spaces.proofs.RuleSteps.{roundsOf}
 use Rattle.card.proofs.Padded.{padded-at}
 use Rattle.spaces.proofs.Filling.{padded-below}
 use Rattle.spaces.proofs.Joins.{Joins, firstLabel, admittedBy, brings, oneRound, manyRounds, opensBy}
@@ -241,14 +241,14 @@ module _ (t : Task) where
     pub members-found : (counts : List ℕ)
         → ((o : ℕ) → o < t .objects → bagAt (length (properties t)) counts o ≡ bagOf (properties t) (t .facts) o)
         → map (λ l. getD (closedMasks counts) l 0) (labels t) ≡ map (λ s. maskOf (s .members)) (spaces t)
-    unfolding maskOf spacesWith spaceWith belongs closedMasks
+    unfolding spacesWith spaceWith belongs closedMasks
     members-found counts held =
         map-ext _ _ (labels t) (λ l m. at l m)
         ∙ sym (map-map (λ s. maskOf (s .members)) (spaceWith t (belongs t)) (labels t))
         ∙ ap (map (λ s. maskOf (s .members))) (sym (spaces-alone t))
       where
         at : (l : ℕ) → List·Memᴰ l (labels t)
-            → getD (closedMasks counts) l 0 ≡ mask (keep (λ o. belongs t o l) (upTo (t .objects)))
+            → getD (closedMasks counts) l 0 ≡ maskOf (keep (λ o. belongs t o l) (upTo (t .objects)))
         at l m =
             let n = t .objects in
             let size = length (properties t) in

@@ -1,23 +1,20 @@
 -- Uniting groups: one label gives way to another, in as many places as hold it; places past the properties stay as they are.
-use Prim.Native.Nat.{ℕ, zero, suc, _+_, _*_, _≤_, _<_, _-_, min}
+use Prim.Native.Nat.{ℕ, zero, suc, _+_, _≤_, _<_, _-_, min}
 use native.Mathlib.Omega.{arith}
 use mathlib.Core.Path.{_≡_, refl, sym, ap, _∙_, subst}
 use mathlib.Core.Bool.{Bool, true, false, cond, _||_}
 use mathlib.Core.Logic.{_⊎_, inl, inr, ⊎-elim}
-use mathlib.Core.List.{List, [], _∷_, _++_, map, map-id, map-append, foldl, foldl-map, List·Memᴰ, List·Memᴰ·head, List·Memᴰ·tail}
+use mathlib.Core.List.{List, [], _∷_, _++_, map, map-id, map-append, foldl, List·Memᴰ, List·Memᴰ·head, List·Memᴰ·tail}
 use lib.Dec.{eqb}
 use lib.ListN.{length, getD, set, replicate, List·getD-append}
 use borrow.Author.Tests.{eqb-true, eqb-false, eq-eqb, ne-eqb}
-use Rattle.laws.specs.Lists.{upTo}
-use Rattle.laws.proofs.Lists.{length-upTo, upTo-at}
 use Rattle.laws.proofs.Tests.{cond-true, cond-false, or-cases, or-left, or-right, by-test}
 use Rattle.laws.proofs.Mapped.{map-ext}
 use Rattle.laws.proofs.Walks.{changed, changed-at, changed-next, changed-left}
-use Rattle.model.specs.Spaces.{unite, uniteAll, moved, grouping}
+use Rattle.model.specs.Spaces.{unite, uniteAll}
 use Rattle.model.proofs.Grouping.{length-unite, uniteAll-keeps}
 use Rattle.card.specs.Represents.{padded}
-use Rattle.spaces.specs.Steps.{firstOr, ruleAt, rulesIn, movedAt}
-use Rattle.spaces.proofs.Rows.{moved-below}
+use Rattle.spaces.specs.Steps.{firstOr}
 
 -- one label in the place of another
 abbrev pub replaced : ℕ → ℕ → ℕ → ℕ
@@ -152,20 +149,3 @@ module _ (n size : ℕ) where
       ap (λ (l : List ℕ). foldl (λ k r. uniteAll k (lists r)) l rows) (uniteAll-padded (lists row) groups e (known row (List·Memᴰ·head refl)))
       ∙ unitings-padded lists rows (uniteAll groups (lists row))
       (uniteAll-keeps (λ l. length l ≡ size) (lists row) (λ l a b i j p. length-unite a l b ∙ p) groups e) (λ r m. known r (List·Memᴰ·tail m))
-
--- the properties that the rule in a row moves come together
-abbrev pub uniteRow : ℕ → List ℕ → List ℕ → List ℕ → ℕ → List ℕ
-uniteRow size starts finishes groups row = uniteAll groups (movedAt size starts finishes row)
-
--- by all rows in turn the array comes to hold the grouping of the tables' rules
-pub grouped : (size count : ℕ) → size ≤ 60 → (enablers starts finishes : List ℕ) → 60 * count ≤ length starts → 60 * count ≤ length finishes
-    → foldl (uniteRow size starts finishes) (padded 60 0 (upTo size)) (upTo count)
-    ≡ padded 60 0 (grouping size (rulesIn size count enablers starts finishes))
-unfolding grouping rulesIn ruleAt moved movedAt
-grouped size count narrow enablers starts finishes s f =
-    unitings-padded 60 size (movedAt size starts finishes) (upTo count) (upTo size) (length-upTo size)
-    (λ row m.
-    let h = upTo-at count row m in
-    moved-below size narrow row starts finishes (omega arith) (omega arith))
-    ∙ ap (padded 60 0)
-    (sym (foldl-map (ruleAt size enablers starts finishes) (λ groups r. uniteAll groups (moved r)) (upTo count) (upTo size)))

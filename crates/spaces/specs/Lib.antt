@@ -1,3 +1,4 @@
 pub mod SpaceTable
 pub mod Steps
 pub mod Tabled
+pub mod Own

@@ -1,32 +1,41 @@
--- What each step of the code computes: rules read back from their tables, and members as masks, one for each label of a group.
-use Prim.Native.Nat.{ℕ, zero, suc, _^_, _-_}
-use mathlib.Core.Bool.{cond}
-use mathlib.Core.List.{List, [], _∷_, map, foldl}
-use lib.Dec.{eqb}
-use lib.ListN.{getD, set, replicate}
-use lib.Bits.{bitAnd, bitOr}
-use Rattle.laws.specs.Lists.{keep, upTo}
-use Rattle.laws.specs.Bags.{Bag, plus, isEmpty, support}
-use Rattle.model.specs.Transitions.{Transition}
-use Rattle.model.specs.Spaces.{moved}
+-- What each step of the code computes: which properties a parameter's rows unite and increase, and members as masks, one for each label of a group.
+use Prim.Native.Nat.{ℕ, zero, suc}
+use mathlib.Core.Bool.{Bool, cond, not}
+use mathlib.Core.List.{List, [], _∷_, foldl}
+use lib.Dec.{eqb, ltb}
+use lib.ListN.{length, getD, set, replicate}
+use Rattle.laws.specs.Lists.{any, keep, upTo}
+use Rattle.laws.specs.Bags.{Bag, support}
+use Rattle.model.specs.Spaces.{uniteAll}
+use Rattle.card.specs.Represents.{padded}
+use Rattle.masks.specs.Sets.{singleOf, allBelow, unionOf, commonOf}
 use Rattle.properties.specs.Tables.{stride, bagAt}
 
--- the rule in a row of the three tables, and the first `count` rules
-unfoldable pub ruleAt : ℕ → List ℕ → List ℕ → List ℕ → ℕ → Transition
-ruleAt size enablers starts finishes row =
-    record { enablers = bagAt size enablers row; start = bagAt size starts row; finish = bagAt size finishes row }
+-- A parameter deletes with the bag D and adds with the bag A; X is what they have in common.
+-- D less X, the start of its rule beside the exchanges, is not empty: some property is deleted more often than it is added
+unfoldable pub hasStart : Bag → Bag → Bool
+hasStart d a = any (λ c. ltb (getD a c 0) (getD d c 0)) (upTo (length d))
 
-unfoldable pub rulesIn : ℕ → ℕ → List ℕ → List ℕ → List ℕ → List Transition
-rulesIn size count enablers starts finishes = map (ruleAt size enablers starts finishes) (upTo count)
+-- the properties of D less X and A less X, ascending: those that are not deleted as often as they are added
+unfoldable pub changedBy : Bag → Bag → List ℕ
+changedBy d a = keep (λ c. not (eqb (getD d c 0) (getD a c 0))) (upTo (length d))
 
--- the properties that the rule in a row moves
-unfoldable pub movedAt : ℕ → List ℕ → List ℕ → ℕ → List ℕ
-movedAt size starts finishes row = support (plus (bagAt size starts row) (bagAt size finishes row))
+-- the properties that one rule of the parameter moves together, and those that come in by increasing rules
+unfoldable pub unitedBy : Bag → Bag → List ℕ
+unitedBy d a = cond (hasStart d a) (changedBy d a) []
+
+unfoldable pub gainedBy : Bag → Bag → List ℕ
+gainedBy d a = cond (hasStart d a) [] (changedBy d a)
 
 -- the first number of a list, or another where there is none
 unfoldable pub firstOr : ℕ → List ℕ → ℕ
 firstOr other [] = other
 firstOr other (n ∷ ns) = n
+
+-- the groups of the first `size` properties by the parameters in the first rows, 0 past the properties
+unfoldable pub groupsIn : ℕ → ℕ → List ℕ → List ℕ → List ℕ
+groupsIn size count deletes adds =
+    foldl (λ groups row. uniteAll groups (unitedBy (bagAt size deletes row) (bagAt size adds row))) (padded stride 0 (upTo size)) (upTo count)
 
 -- the properties, of the first `size`, that are their own label: the lowest property of each group
 unfoldable pub labelled : ℕ → List ℕ → List ℕ
@@ -34,34 +43,30 @@ labelled size groups = keep (λ c. eqb (getD groups c 0) c) (upTo size)
 
 -- objects join the space of a property
 unfoldable pub joinAt : List ℕ → ℕ → List ℕ → ℕ → List ℕ
-joinAt groups objects masks c = let l = getD groups c 0 in set masks l (bitOr (getD masks l 0) objects)
+joinAt groups objects masks c = let l = getD groups c 0 in set masks l (unionOf (getD masks l 0) objects)
 
 -- an object joins the space of each property of its bag; and so do all objects, in spaces that had no member
 unfoldable pub openAt : List ℕ → ℕ → List ℕ → ℕ → List ℕ → List ℕ
-openAt groups size counts o masks = foldl (joinAt groups (2 ^ o)) masks (support (bagAt size counts o))
+openAt groups size counts o masks = foldl (joinAt groups (singleOf o)) masks (support (bagAt size counts o))
 
 unfoldable pub opened : List ℕ → ℕ → List ℕ → ℕ → List ℕ
 opened groups size counts objects = foldl (λ masks o. openAt groups size counts o masks) (replicate stride 0) (upTo objects)
 
--- the objects that are members of the space of each enabler of a rule; no enablers means every object
+-- the objects that are members of the space of each property of a bag; an empty bag means every object
 unfoldable pub enabledBy : List ℕ → ℕ → List ℕ → Bag → ℕ
 enabledBy groups objects masks enablers =
-    foldl (λ those c. bitAnd those (getD masks (getD groups c 0) 0)) (2 ^ objects - 1) (support enablers)
+    foldl (λ those c. commonOf those (getD masks (getD groups c 0) 0)) (allBelow objects) (support enablers)
 
--- objects join the space that has these properties
-unfoldable pub joinFirst : List ℕ → ℕ → List ℕ → List ℕ → List ℕ
-joinFirst groups objects masks [] = masks
-joinFirst groups objects masks (c ∷ cs) = joinAt groups objects masks c
+-- what a parameter with the bags P, D and A brings into the spaces of the properties that come in, by the members `old` before the round
+unfoldable pub gainRow : List ℕ → ℕ → List ℕ → List ℕ → Bag → Bag → Bag → List ℕ
+gainRow groups objects old masks p d a = foldl (joinAt groups (enabledBy groups objects old p)) masks (gainedBy d a)
 
--- what an increasing rule brings into its space, by the members as they were before the round
-unfoldable pub gainBy : List ℕ → ℕ → List ℕ → List ℕ → Transition → List ℕ
-gainBy groups objects old masks r =
-    cond (isEmpty (r .start)) (joinFirst groups (enabledBy groups objects old (r .enablers)) masks (moved r)) masks
+-- one round over the first rows, and so many
+unfoldable pub roundIn : List ℕ → ℕ → ℕ → ℕ → List ℕ → List ℕ → List ℕ → List ℕ → List ℕ
+roundIn groups objects size count p d a masks =
+    foldl (λ gained row. gainRow groups objects masks gained (bagAt size p row) (bagAt size d row) (bagAt size a row)) masks (upTo count)
 
--- one round, and so many
-unfoldable pub roundOf : List ℕ → ℕ → List Transition → List ℕ → List ℕ
-roundOf groups objects rules masks = foldl (gainBy groups objects masks) masks rules
-
-unfoldable pub roundsOf : List ℕ → ℕ → List Transition → ℕ → List ℕ → List ℕ
-roundsOf groups objects rules zero masks = masks
-roundsOf groups objects rules (suc n) masks = roundsOf groups objects rules n (roundOf groups objects rules masks)
+unfoldable pub roundsIn : List ℕ → ℕ → ℕ → ℕ → List ℕ → List ℕ → List ℕ → ℕ → List ℕ → List ℕ
+roundsIn groups objects size count p d a zero masks = masks
+roundsIn groups objects size count p d a (suc n) masks =
+    roundsIn groups objects size count p d a n (roundIn groups objects size count p d a masks)

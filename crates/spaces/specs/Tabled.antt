@@ -1,18 +1,12 @@
 -- What the code asks of its tables, and what they say of a task.
-use Prim.Native.Nat.{ℕ, _*_, _≤_, _<_}
+use Prim.Native.Nat.{ℕ, _≤_, _<_}
 use mathlib.Core.Path.{_≡_}
 use mathlib.Core.List.{List}
 use lib.ListN.{length, getD}
 use Rattle.model.specs.Card.{Task}
 use Rattle.model.specs.Transitions.{properties, bagOf, transitions}
+use Rattle.properties.specs.Parameters.{rulesIn}
 use Rattle.properties.specs.Tables.{stride, bagAt}
-use Rattle.spaces.specs.Steps.{rulesIn}
-
--- Room for so many rules in the three tables.
-pub record Room (count : ℕ) (enablers starts finishes : List ℕ) : Type 0 where
-  pub enablers-room : stride * count ≤ length enablers
-  pub starts-room : stride * count ≤ length starts
-  pub finishes-room : stride * count ≤ length finishes
 
 -- An array of labels for the first `size` properties, at most as many as a row has places; each label is the number of a place.
 pub record Grouped (size : ℕ) (groups : List ℕ) : Type 0 where
@@ -20,9 +14,9 @@ pub record Grouped (size : ℕ) (groups : List ℕ) : Type 0 where
   pub filled : size ≤ length groups
   pub known : (c : ℕ) → getD groups c 0 < stride
 
--- The tables hold a task: its rules, and the initial bags of its objects.
-pub record TablesOf (t : Task) (size rules objects : ℕ) (enablers starts finishes counts : List ℕ) : Type 0 where
+-- The tables hold a task: the rules of its parameters, and the initial bags of its objects.
+pub record TablesOf (t : Task) (size parameters objects : ℕ) (p d a counts : List ℕ) : Type 0 where
   pub properties-are : size ≡ length (properties t)
   pub objects-are : objects ≡ t .objects
-  pub rules-are : rulesIn size rules enablers starts finishes ≡ transitions t
+  pub rules-are : rulesIn size parameters p d a ≡ transitions t
   pub bags-are : (o : ℕ) → o < objects → bagAt size counts o ≡ bagOf (properties t) (t .facts) o

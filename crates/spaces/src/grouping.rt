@@ -1,36 +1,40 @@
-// Which properties share a space (document 01, "Spaces"): the start and finish properties of each rule are brought into one group.
-// A grouping has 60 labels: for each property the lowest property of its group, and 0 in the places past the properties.
+// Which properties share a space (document 01, "Spaces"): the start and finish properties of each rule are brought into one group. Of the rules of
+// a parameter only the one with the start D less X and the finish A less X has several: X is exchanged property by property, and without a start
+// properties come in one by one. A grouping has 60 labels: for each property the lowest property of its group, and 0 past the properties.
 ghost use mathlib.Core.Path.{_≡_};
 ghost use mathlib.Core.Bool.{cond};
-ghost use mathlib.Core.List.{List, map};
-ghost use Prim.Native.Nat.{ℕ, _+_, _*_, _≤_, _<_};
-ghost use lib.Dec.{ltb, eqb};
+ghost use mathlib.Core.List.{map};
+ghost use Prim.Native.Nat.{_*_, _≤_, _<_};
+ghost use lib.Dec.{eqb};
 ghost use lib.ListN.{length};
 ghost use Rattle.laws.specs.Lists.{upTo};
 ghost use Rattle.model.specs.Spaces as model;
 ghost use Rattle.card.specs.Represents.{padded};
-ghost use Rattle.spaces.specs.Steps.{movedAt, firstOr, rulesIn, labelled};
+ghost use Rattle.properties.specs.Tables.{bagAt, HasRow};
+ghost use Rattle.spaces.specs.Steps.{hasStart, changedBy, unitedBy, firstOr, groupsIn, labelled};
 
-// A property with these counts in start and finish is moved.
-fn moves(start: u8, finish: u8) -> bool
-    ensures { λ r. ⌜ r ≡ ltb 0 (start + finish) ⌝ }
-{
-    if 0 < start {
-        return true;
-    }
-    0 < finish
-}
-
-// The first property that the rule in a row moves, or `size` where it moves none.
-pub fn first_moved(starts: &[u8], finishes: &[u8], row: usize, size: usize) -> usize
-    requires { ⌜ size ≤ 60 ⌝ }
-    requires { ⌜ 60 * row + 60 ≤ length (now starts) ⌝ }
-    requires { ⌜ 60 * row + 60 ≤ length (now finishes) ⌝ }
-    ensures { λ r. ⌜ r ≡ firstOr size (movedAt size (now (starts .entry)) (now (finishes .entry)) row) ⌝ }
+// The parameter in a row has a rule with a start beside the exchanges: it deletes some property more often than it adds it.
+pub fn has_start(deletes: &[u8], adds: &[u8], row: usize, size: usize) -> bool
+    requires { ⌜ HasRow size row (now deletes) × HasRow size row (now adds) ⌝ }
+    ensures { λ r. ⌜ r ≡ hasStart (bagAt size (now (deletes .entry)) row) (bagAt size (now (adds .entry)) row) ⌝ }
 {
     let at = 60 * row;
     for c in 0..size {
-        if moves(starts[at + c], finishes[at + c]) {
+        if adds[at + c] < deletes[at + c] {
+            return true;
+        }
+    }
+    false
+}
+
+// The first property that the parameter in a row does not delete as often as it adds it, or `size` where there is none.
+pub fn first_changed(deletes: &[u8], adds: &[u8], row: usize, size: usize) -> usize
+    requires { ⌜ HasRow size row (now deletes) × HasRow size row (now adds) ⌝ }
+    ensures { λ r. ⌜ r ≡ firstOr size (changedBy (bagAt size (now (deletes .entry)) row) (bagAt size (now (adds .entry)) row)) ⌝ }
+{
+    let at = 60 * row;
+    for c in 0..size {
+        if deletes[at + c] != adds[at + c] {
             return c;
         }
     }
@@ -66,29 +70,34 @@ fn unite(groups: [u8; 60], c: usize, d: usize) -> [u8; 60]
     relabelled(groups, g, h)
 }
 
-// All properties that the rule in a row moves are brought together with the first of them.
-fn unite_moved(
-    groups: [u8; 60],
-    starts: &[u8],
-    finishes: &[u8],
-    row: usize,
-    size: usize,
-) -> [u8; 60]
+// All properties that the parameter in a row changes are brought together with the first of them.
+fn unite_changed(groups: [u8; 60], deletes: &[u8], adds: &[u8], row: usize, size: usize) -> [u8; 60]
     requires { ⌜ size ≤ 60 ⌝ }
-    requires { ⌜ 60 * row + 60 ≤ length (now starts) ⌝ }
-    requires { ⌜ 60 * row + 60 ≤ length (now finishes) ⌝ }
-    ensures { λ r. ⌜ r ≡ model.uniteAll groups (movedAt size (now (starts .entry)) (now (finishes .entry)) row) ⌝ }
+    requires { ⌜ HasRow size row (now deletes) × HasRow size row (now adds) ⌝ }
+    ensures { λ r. ⌜ r ≡ model.uniteAll groups (changedBy (bagAt size (now (deletes .entry)) row) (bagAt size (now (adds .entry)) row)) ⌝ }
 {
-    let first = first_moved(starts, finishes, row, size);
+    let first = first_changed(deletes, adds, row, size);
     let at = 60 * row;
     let mut united = groups;
     for c in 0..size {
-        if moves(starts[at + c], finishes[at + c]) {
+        if deletes[at + c] != adds[at + c] {
             let next = unite(united, first, c);
             united = next;
         }
     }
     united
+}
+
+// The properties that one rule of the parameter in a row moves together share a group.
+fn unite_row(groups: [u8; 60], deletes: &[u8], adds: &[u8], row: usize, size: usize) -> [u8; 60]
+    requires { ⌜ size ≤ 60 ⌝ }
+    requires { ⌜ HasRow size row (now deletes) × HasRow size row (now adds) ⌝ }
+    ensures { λ r. ⌜ r ≡ model.uniteAll groups (unitedBy (bagAt size (now (deletes .entry)) row) (bagAt size (now (adds .entry)) row)) ⌝ }
+{
+    if has_start(deletes, adds, row, size) {
+        return unite_changed(groups, deletes, adds, row, size);
+    }
+    groups
 }
 
 // Each property in a group of its own.
@@ -103,17 +112,16 @@ fn each_alone(size: usize) -> [u8; 60]
     groups
 }
 
-// The grouping by the first `count` rules of the tables.
-pub fn grouping(starts: &[u8], finishes: &[u8], count: usize, size: usize) -> [u8; 60]
+// The grouping by the parameters in the first `count` rows of the tables.
+pub fn grouping(deletes: &[u8], adds: &[u8], count: usize, size: usize) -> [u8; 60]
     requires { ⌜ size ≤ 60 ⌝ }
-    requires { ⌜ 60 * count ≤ length (now starts) ⌝ }
-    requires { ⌜ 60 * count ≤ length (now finishes) ⌝ }
-    ensures { λ r. ⌜ ((enablers : List ℕ)
-        → r ≡ padded 60 0 (model.grouping size (rulesIn size count enablers (now (starts .entry)) (now (finishes .entry))))) ⌝ }
+    requires { ⌜ 60 * count ≤ length (now deletes) ⌝ }
+    requires { ⌜ 60 * count ≤ length (now adds) ⌝ }
+    ensures { λ r. ⌜ r ≡ groupsIn size count (now (deletes .entry)) (now (adds .entry)) ⌝ }
 {
     let mut groups = each_alone(size);
     for row in 0..count {
-        let next = unite_moved(groups, starts, finishes, row, size);
+        let next = unite_row(groups, deletes, adds, row, size);
         groups = next;
     }
     groups

@@ -1,13 +1,14 @@
-// Spaces: which properties share one, and which objects are members, as masks of 64 bits, one bit an object.
+// Spaces: which properties share one, and which objects are members, as masks.
 pub mod enabling;
 mod grouping;
 mod members;
+pub mod own;
 
+ghost use mathlib.Core.Path.{_≡_};
 ghost use Prim.Native.Nat.{_*_, _≤_};
 ghost use lib.ListN.{length};
-ghost use Rattle.model.specs.Card.{Task};
-ghost use Rattle.spaces.specs.SpaceTable.{SpacesOf};
-ghost use Rattle.spaces.specs.Tabled.{Room, TablesOf};
+ghost use Rattle.properties.specs.Parameters.{RoomForBags};
+ghost use Rattle.spaces.specs.SpaceTable.{spacesIn};
 
 // The spaces of a task: their number; for each property, by number, the lowest property of its space; for each space, in order,
 // its lowest property and its members. Places past the number of properties or spaces are 0.
@@ -18,24 +19,25 @@ pub struct Spaces {
     pub members: [u64; 60],
 }
 
-// The spaces of the task that the tables hold: its first `rules` rules, over `size` properties, and the initial bags of its objects.
+// The spaces by the bags P, D and A of so many `parameters`, over `size` properties, and the initial bags of the objects.
 pub fn spaces_of(
-    enablers: &[u8],
-    starts: &[u8],
-    finishes: &[u8],
+    preconditions: &[u8],
+    deletes: &[u8],
+    adds: &[u8],
     counts: &[u16],
-    rules: usize,
+    parameters: usize,
     size: usize,
     objects: usize,
 ) -> Spaces
     requires { ⌜ (size ≤ 60) × (objects ≤ 64) ⌝ }
-    requires { ⌜ Room rules (now enablers) (now starts) (now finishes) ⌝ }
+    requires { ⌜ RoomForBags parameters (now preconditions) (now deletes) (now adds) ⌝ }
     requires { ⌜ 60 * objects ≤ length (now counts) ⌝ }
-    ensures { λ r. ⌜ ((t : Task)
-        → TablesOf t size rules objects (now (enablers .entry)) (now (starts .entry)) (now (finishes .entry)) (now (counts .entry))
-        → SpacesOf t r) ⌝ }
+    ensures { λ r. ⌜
+        r
+        ≡ spacesIn size parameters objects (now (preconditions .entry)) (now (deletes .entry)) (now (adds .entry)) (now (counts .entry))
+        ⌝ }
 {
-    let groups = grouping::grouping(starts, finishes, rules, size);
+    let groups = grouping::grouping(deletes, adds, parameters, size);
     let labels = grouping::labels_of(&groups, size);
     let count = labels.count;
     let lowest = labels.lowest;
@@ -45,19 +47,19 @@ pub fn spaces_of(
     let closed = members::close(
         initial,
         &groups,
-        enablers,
-        starts,
-        finishes,
-        rules,
+        preconditions,
+        deletes,
+        adds,
+        parameters,
         size,
         objects,
         rounds,
     );
-    let masks = members::by_number(&closed, &lowest, count);
+    let members = members::by_number(&closed, &lowest, count);
     Spaces {
         count,
         groups,
         lowest,
-        members: masks,
+        members,
     }
 }

@@ -1,34 +1,44 @@
 // Which objects are members of which space (document 01, "Spaces"). Until the last step a mask stands at the label of its space:
-// the members of the space of a property c are at masks[groups[c]].
+// the members of the space of a property c are at members[groups[c]].
 use crate::enabling::enabled;
-use crate::grouping;
+use crate::grouping::first_changed;
+use crate::grouping::has_start;
 ghost use mathlib.Core.Path.{_≡_};
-ghost use mathlib.Core.List.{map};
+ghost use mathlib.Core.List.{map, foldl};
 ghost use Prim.Native.Nat.{ℕ, _+_, _*_, _≤_, _<_};
 ghost use lib.ListN.{length, getD, take};
 ghost use Rattle.laws.specs.Lists.{same};
-ghost use Rattle.laws.specs.Bags.{isEmpty};
 ghost use Rattle.card.specs.Represents.{padded};
-ghost use Rattle.spaces.specs.Tabled.{Room, Grouped};
-ghost use Rattle.properties.specs.Tables.{bagAt};
-ghost use Rattle.spaces.specs.Steps.{ruleAt, rulesIn, openAt, opened, gainBy, roundOf, roundsOf};
+ghost use Rattle.properties.specs.Parameters.{RoomForBags};
+ghost use Rattle.properties.specs.Tables.{bagAt, HasRow};
+ghost use Rattle.spaces.specs.Tabled.{Grouped};
+ghost use Rattle.spaces.specs.Steps.{changedBy, joinAt, openAt, opened, gainRow, roundIn, roundsIn};
+
+// Objects join the space of a property.
+fn join(members: &mut [u64], groups: &[u8], c: usize, those: u64)
+    requires { ⌜ c < length (now groups) ⌝ }
+    requires { ⌜ getD (now groups) c 0 < length (now members) ⌝ }
+    ensures { λ _. ⌜ now (members .exit) ≡ joinAt (now (groups .entry)) those (now (members .entry)) c ⌝ }
+{
+    let l = groups[c] as usize;
+    members[l] = masks::union(members[l], those);
+}
 
 // The object joins the space of each property that it has at first.
-fn open_object(masks: &mut [u64], groups: &[u8], counts: &[u16], object: usize, size: usize)
+fn open_object(members: &mut [u64], groups: &[u8], counts: &[u16], object: usize, size: usize)
     requires { ⌜ Grouped size (now groups) ⌝ }
     requires { ⌜ object < 64 ⌝ }
-    requires { ⌜ 60 * object + 60 ≤ length (now counts) ⌝ }
-    requires { ⌜ 60 ≤ length (now masks) ⌝ }
+    requires { ⌜ HasRow size object (now counts) ⌝ }
+    requires { ⌜ 60 ≤ length (now members) ⌝ }
     ensures { λ _. ⌜
-        now (masks .exit) ≡ openAt (now (groups .entry)) size (now (counts .entry)) object (now (masks .entry))
+        now (members .exit) ≡ openAt (now (groups .entry)) size (now (counts .entry)) object (now (members .entry))
         ⌝ }
 {
     let at = 60 * object;
-    let bit = 1u64 << object;
+    let alone = masks::single(object);
     for c in 0..size {
         if 0 < counts[at + c] {
-            let l = groups[c] as usize;
-            masks[l] = masks[l] | bit;
+            join(members, groups, c, alone);
         }
     }
 }
@@ -40,92 +50,101 @@ pub fn initial_members(groups: &[u8], counts: &[u16], objects: usize, size: usiz
     requires { ⌜ 60 * objects ≤ length (now counts) ⌝ }
     ensures { λ r. ⌜ r ≡ opened (now (groups .entry)) size (now (counts .entry)) objects ⌝ }
 {
-    let mut masks = [0u64; 60];
+    let mut members = [0u64; 60];
     for object in 0..objects {
-        open_object(&mut masks, groups, counts, object, size);
+        open_object(&mut members, groups, counts, object, size);
     }
-    masks
+    members
 }
 
-// The bag in a row is empty.
-fn is_empty(table: &[u8], row: usize, size: usize) -> bool
-    requires { ⌜ size ≤ 60 ⌝ }
-    requires { ⌜ 60 * row + 60 ≤ length (now table) ⌝ }
-    ensures { λ r. ⌜ r ≡ isEmpty (bagAt size (now (table .entry)) row) ⌝ }
+// Objects join the space of each property that the parameter in a row changes.
+fn join_changed(
+    members: &mut [u64],
+    groups: &[u8],
+    deletes: &[u8],
+    adds: &[u8],
+    row: usize,
+    size: usize,
+    those: u64,
+)
+    requires { ⌜ Grouped size (now groups) ⌝ }
+    requires { ⌜ HasRow size row (now deletes) × HasRow size row (now adds) ⌝ }
+    requires { ⌜ 60 ≤ length (now members) ⌝ }
+    ensures { λ _. ⌜
+        now (members .exit)
+        ≡ foldl (joinAt (now (groups .entry)) those) (now (members .entry))
+        (changedBy (bagAt size (now (deletes .entry)) row) (bagAt size (now (adds .entry)) row))
+        ⌝ }
 {
     let at = 60 * row;
     for c in 0..size {
-        if table[at + c] != 0 {
-            return false;
+        if deletes[at + c] != adds[at + c] {
+            join(members, groups, c, those);
         }
     }
-    true
 }
 
-// What the rule in a row brings into its space: if it is increasing, the objects that it admits, by the members `before` the round.
+// What the parameter in a row brings into spaces: without a start its rules are increasing, and the space of each property that comes in gains the
+// objects that the preconditions enable, by the members `before` the round.
 fn gain(
-    masks: &mut [u64],
+    members: &mut [u64],
     before: &[u64],
     groups: &[u8],
-    enablers: &[u8],
-    starts: &[u8],
-    finishes: &[u8],
+    preconditions: &[u8],
+    deletes: &[u8],
+    adds: &[u8],
     row: usize,
     size: usize,
     objects: usize,
 )
     requires { ⌜ Grouped size (now groups) ⌝ }
     requires { ⌜ objects ≤ 64 ⌝ }
-    requires { ⌜ Room (row + 1) (now enablers) (now starts) (now finishes) ⌝ }
-    requires { ⌜ (60 ≤ length (now before)) × (60 ≤ length (now masks)) ⌝ }
+    requires { ⌜ HasRow size row (now preconditions) × HasRow size row (now deletes) × HasRow size row (now adds) ⌝ }
+    requires { ⌜ (60 ≤ length (now before)) × (60 ≤ length (now members)) ⌝ }
     ensures { λ _. ⌜
-        now (masks .exit)
-        ≡ gainBy
-        (now (groups .entry))
-        objects
-        (now (before .entry))
-        (now (masks .entry))
-        (ruleAt size (now (enablers .entry)) (now (starts .entry)) (now (finishes .entry)) row)
+        now (members .exit)
+        ≡ gainRow (now (groups .entry)) objects (now (before .entry)) (now (members .entry)) (bagAt size (now (preconditions .entry)) row)
+        (bagAt size (now (deletes .entry)) row) (bagAt size (now (adds .entry)) row)
         ⌝ }
 {
-    if !is_empty(starts, row, size) {
+    if has_start(deletes, adds, row, size) {
         return;
     }
-    let c = grouping::first_moved(starts, finishes, row, size);
-    if size <= c {
+    if size <= first_changed(deletes, adds, row, size) {
         return;
     }
-    let those = enabled(before, groups, enablers, row, size, objects);
-    let l = groups[c] as usize;
-    masks[l] = masks[l] | those;
+    let those = enabled(before, groups, preconditions, row, size, objects);
+    join_changed(members, groups, deletes, adds, row, size, those);
 }
 
 // One round: each space gains every object that one of its own increasing rules admits.
 fn round(
-    masks: [u64; 60],
+    members: [u64; 60],
     groups: &[u8],
-    enablers: &[u8],
-    starts: &[u8],
-    finishes: &[u8],
+    preconditions: &[u8],
+    deletes: &[u8],
+    adds: &[u8],
     count: usize,
     size: usize,
     objects: usize,
 ) -> [u64; 60]
     requires { ⌜ Grouped size (now groups) ⌝ }
     requires { ⌜ objects ≤ 64 ⌝ }
-    requires { ⌜ Room count (now enablers) (now starts) (now finishes) ⌝ }
-    ensures { λ r. ⌜ r ≡ roundOf (now (groups .entry)) objects
-        (rulesIn size count (now (enablers .entry)) (now (starts .entry)) (now (finishes .entry))) masks ⌝ }
+    requires { ⌜ RoomForBags count (now preconditions) (now deletes) (now adds) ⌝ }
+    ensures { λ r. ⌜
+        r
+        ≡ roundIn (now (groups .entry)) objects size count (now (preconditions .entry)) (now (deletes .entry)) (now (adds .entry)) members
+        ⌝ }
 {
-    let mut gained = masks;
+    let mut gained = members;
     for row in 0..count {
         gain(
             &mut gained,
-            &masks,
+            &members,
             groups,
-            enablers,
-            starts,
-            finishes,
+            preconditions,
+            deletes,
+            adds,
             row,
             size,
             objects,
@@ -149,11 +168,11 @@ fn same_masks(a: &[u64], b: &[u64]) -> bool
 
 // So many rounds, fewer where one adds no member.
 pub fn close(
-    masks: [u64; 60],
+    members: [u64; 60],
     groups: &[u8],
-    enablers: &[u8],
-    starts: &[u8],
-    finishes: &[u8],
+    preconditions: &[u8],
+    deletes: &[u8],
+    adds: &[u8],
     count: usize,
     size: usize,
     objects: usize,
@@ -161,18 +180,20 @@ pub fn close(
 ) -> [u64; 60]
     requires { ⌜ Grouped size (now groups) ⌝ }
     requires { ⌜ objects ≤ 64 ⌝ }
-    requires { ⌜ Room count (now enablers) (now starts) (now finishes) ⌝ }
-    ensures { λ r. ⌜ r ≡ roundsOf (now (groups .entry)) objects
-        (rulesIn size count (now (enablers .entry)) (now (starts .entry)) (now (finishes .entry))) rounds masks ⌝ }
+    requires { ⌜ RoomForBags count (now preconditions) (now deletes) (now adds) ⌝ }
+    ensures { λ r. ⌜
+        r
+        ≡ roundsIn (now (groups .entry)) objects size count (now (preconditions .entry)) (now (deletes .entry)) (now (adds .entry)) rounds members
+        ⌝ }
 {
-    let mut closed = masks;
+    let mut closed = members;
     for _ in 0..rounds {
         let next = round(
             closed,
             groups,
-            enablers,
-            starts,
-            finishes,
+            preconditions,
+            deletes,
+            adds,
             count,
             size,
             objects,
@@ -186,16 +207,16 @@ pub fn close(
 }
 
 // The masks by the number of their space.
-pub fn by_number(masks: &[u64], lowest: &[u8], count: usize) -> [u64; 60]
+pub fn by_number(members: &[u64], lowest: &[u8], count: usize) -> [u64; 60]
     requires { ⌜ (count ≤ 60) × (count ≤ length (now lowest)) ⌝ }
-    requires { ⌜ 60 ≤ length (now masks) ⌝ }
+    requires { ⌜ 60 ≤ length (now members) ⌝ }
     requires { ⌜ ((k : ℕ) → getD (now lowest) k 0 < 60) ⌝ }
-    ensures { λ r. ⌜ r ≡ padded 60 0 (map (λ l. getD (now (masks .entry)) l 0) (take count (now (lowest .entry)))) ⌝ }
+    ensures { λ r. ⌜ r ≡ padded 60 0 (map (λ l. getD (now (members .entry)) l 0) (take count (now (lowest .entry)))) ⌝ }
 {
-    let mut members = [0u64; 60];
+    let mut numbered = [0u64; 60];
     for k in 0..count {
         let l = lowest[k] as usize;
-        members[k] = masks[l];
+        numbered[k] = members[l];
     }
-    members
+    numbered
 }

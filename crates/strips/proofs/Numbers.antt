@@ -9,7 +9,8 @@ use lib.ListN.{length, take, replicate, length-map, length-append}
 use lib.Seq.{take-at, length-take-le}
 use Rattle.model.specs.Card as model
 use Rattle.model.specs.Strips.{ground, takenOut, putIn}
-use Rattle.card.specs.Represents.{atomOf, atomsOf, schemaOf}
+use Rattle.card.specs.Represents.{atomsOf, schemaOf}
+use Rattle.card.proofs.Entries.{length-atoms}
 use Rattle.card.specs.declared.AtomList.{AtomList}
 use Rattle.card.specs.declared.Schema.{Schema}
 use Rattle.sets.specs.Numbers.{rising, without, withoutAll, insertedAll, filled, SetKept, Becomes}
@@ -34,12 +35,7 @@ length-withoutAll (n ∷ out) ns = le-trans (length-withoutAll out (without n ns
 -- as many facts as the list has atoms
 pub length-grounds :
     {arities objects : List ℕ} {l : AtomList} → Bound arities objects l → length (map (ground objects) (atomsOf arities l)) ≡ l .count
-unfolding atomsOf
-length-grounds {arities} {objects} {l} b =
-    let few = b .few in
-    let size = b .size in
-    length-map (atomsOf arities l) (ground objects) ∙ length-map (take (l .count) (l .atoms)) (atomOf arities)
-    ∙ length-take-le (l .count) (l .atoms) (omega arith)
+length-grounds {arities} {objects} {l} b = length-map (atomsOf arities l) (ground objects) ∙ length-atoms arities l
 
 module _ {arities objects : List ℕ} (schema : Schema) where
   pub few-out : Bound arities objects (schema .deletes) → length (takenOut (schemaOf arities schema) objects) ≤ 8

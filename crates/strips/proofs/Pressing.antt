@@ -13,7 +13,8 @@ use Rattle.model.specs.Calls.{Call, finish, initialOf, pressOf}
 use Rattle.card.specs.Represents.{schemaOf, factsOf, taskOf, blankSchema, Represented}
 use Rattle.card.specs.declared.Schema.{Schema}
 use Rattle.card.specs.declared.Task.{Task}
-use Rattle.card.proofs.Counts.{schema-count, fact-count, facts-few}
+use Rattle.card.proofs.Counts.{predicates-inside, schema-count, fact-count, facts-few}
+use Rattle.card.proofs.Entries.{arities-part}
 use Rattle.state.specs.Rows.{factNumber, stored, Shape}
 use Rattle.state.proofs.FactNumbers.{stored-written}
 use Rattle.actions.specs.Grounds.{FactsRight}
@@ -21,7 +22,7 @@ use Rattle.strips.specs.Answers.{Matches}
 use Rattle.strips.specs.Steps.{applySchema, storing, SchemaKept, StateKept}
 use Rattle.strips.specs.declared.Applied.{Applied}
 use Rattle.strips.specs.declared.Applied.the-variants.{Count, StateMalformed, SchemaUnknown}
-use Rattle.strips.proofs.Tasks.{modelTask, arities, task-shape, arities-part, few-schemas, chosen-is, chosen-kept}
+use Rattle.strips.proofs.Tasks.{modelTask, arities, task-shape, few-schemas, chosen-is, chosen-kept}
 use Rattle.strips.proofs.Tasks.{getD-default, facts-kept, facts-known}
 use Rattle.strips.proofs.Refusing.{state-malformed, schema-unknown, schema-named, task-opened}
 
@@ -31,7 +32,7 @@ module _ (task : Task) (kept : Represented task (taskOf task)) where
   part = take (task .predicates .count - 0) (task .predicates .arities)
 
   same : part ≡ arities task kept
-  same = arities-part task kept
+  same = arities-part (task .predicates) (predicates-inside task kept)
 
   pub part-right : model.inRange part ≡ true
   part-right = ap model.inRange same ∙ task-shape task kept .right

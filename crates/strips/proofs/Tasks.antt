@@ -1,13 +1,11 @@
 -- A checked task as the code keeps it: its shape, its schemas and its facts.
-use Prim.Native.Nat.{ℕ, zero, suc, _-_, _≤_, _<_}
-use native.Mathlib.Nat.{sub-zero}
+use Prim.Native.Nat.{ℕ, zero, suc, _≤_, _<_}
 use native.Mathlib.Omega.{arith}
 use mathlib.Core.Path.{_≡_, refl, sym, ap, _∙_, subst}
 use mathlib.Core.Bool.{true}
 use mathlib.Core.Option.{none}
 use mathlib.Core.List.{List, [], _∷_, map}
-use lib.ListN.{length, getD, take, length-map, List·getD-map}
-use lib.Seq.{getD-take}
+use lib.ListN.{length, getD, length-map, List·getD-map}
 use Rattle.laws.specs.Lists.{all}
 use Rattle.laws.proofs.Lists.{all-at, all-intro, mem-getD}
 use Rattle.model.specs.Answer.{accepted}
@@ -22,6 +20,7 @@ use Rattle.card.specs.Represents.{atomFor, blankAtom, atomsFor, schemaFor, blan
 use Rattle.card.specs.declared.Schema.{Schema}
 use Rattle.card.specs.declared.Task.{Task}
 use Rattle.card.proofs.Padded.{length-padded, padded-at}
+use Rattle.card.proofs.Entries.{item-at}
 use Rattle.card.proofs.Counts.{right, schema-count, schemas-few, schemas-inside, facts-few, facts-size}
 use Rattle.state.specs.Rows.{Shape}
 use Rattle.actions.specs.Grounds.{FactsRight}
@@ -52,10 +51,6 @@ module _ (task : Task) (kept : Represented task (taskOf task)) where
   task-shape =
       let c = right task kept in record { right = c .arities-right; few-predicates = c .few-predicates; few-objects = c .few-objects }
 
-  pub arities-part : take (task .predicates .count - 0) (task .predicates .arities) ≡ arities
-  unfolding aritiesOf
-  arities-part = ap (λ (k : ℕ). take k (task .predicates .arities)) (sub-zero (task .predicates .count))
-
   pub few-schemas : (n : ℕ) → n < task .schemas .count → n < length (task .schemas .schemas)
   few-schemas n h = omega (arith, h, schemas-inside task kept)
 
@@ -73,8 +68,7 @@ module _ (task : Task) (kept : Represented task (taskOf task)) where
     pub chosen-is : schemaOf arities chosen ≡ schemaAt modelTask n
     unfolding taskOf schemasOf schemaAt
     chosen-is =
-        ap (schemaOf arities) (sym (getD-take (task .schemas .count) (task .schemas .schemas) n blankSchema within))
-        ∙ sym (List·getD-map (schemaOf arities) (take (task .schemas .count) (task .schemas .schemas)) n blankSchema)
+        sym (item-at (schemaOf arities) (task .schemas .count) blankSchema (task .schemas .schemas) n within)
         ∙ getD-default (modelTask .schemas) n _ _ inside
 
     chosen-for : chosen ≡ schemaFor (schemaAt modelTask n)

@@ -16,32 +16,34 @@ use libc::STDIN_FILENO;
 use libc::STDOUT_FILENO;
 use writer::Writing;
 use writer::encode;
-ghost use Prim.Native.Nat.{_≤_};
+ghost use mathlib.Core.Path.{_≡_};
+ghost use Prim.Native.Nat.{_%_, _≤_};
 ghost use lib.ListN.{length};
+ghost use Rattle.writer.specs.Answers.{writingSays};
+ghost use Rattle.tables.specs.Flat.{byteAt, atomFrom, atomsFrom, schemaFrom, aritiesFrom, schemasFrom, factsFrom, tableFrom, lentFrom};
+ghost use Rattle.tables.specs.Front.{numberOf, lengthOf, headOf, EncodesFront, Answers};
 
 // The byte at a place; past the end there is 0.
-fn byte_at(bytes: &[u8], at: usize) -> u8 {
+fn byte_at(bytes: &[u8], at: usize) -> u8
+    ensures { λ r. ⌜ r ≡ byteAt (now (bytes .entry)) at ⌝ }
+{
     if at < bytes.len() {
         return bytes[at];
     }
     0
 }
 
-fn wide(byte: u8) -> usize
-    ensures { λ r. ⌜ r ≤ 255 ⌝ }
+// The same as a number that fits a byte.
+fn number_at(bytes: &[u8], at: usize) -> usize
+    ensures { λ r. ⌜ (r ≡ byteAt (now (bytes .entry)) at) × (r ≤ 255) ⌝ }
 {
+    let byte = byte_at(bytes, at);
     byte as usize
 }
 
-fn number_at(bytes: &[u8], at: usize) -> usize
-    ensures { λ r. ⌜ r ≤ 255 ⌝ }
-{
-    let byte = byte_at(bytes, at);
-    wide(byte)
-}
-
-fn atom_at(bytes: &[u8], at: usize) -> Atom
+fn atom_from(bytes: &[u8], at: usize) -> Atom
     requires { ⌜ at ≤ 6000 ⌝ }
+    ensures { λ r. ⌜ r ≡ atomFrom (now (bytes .entry)) at ⌝ }
 {
     let predicate = byte_at(bytes, at);
     let first = byte_at(bytes, at + 1);
@@ -55,14 +57,15 @@ fn atom_at(bytes: &[u8], at: usize) -> Atom
     }
 }
 
-fn atoms_at(bytes: &[u8], at: usize) -> AtomList
+fn atoms_from(bytes: &[u8], at: usize) -> AtomList
     requires { ⌜ at ≤ 5000 ⌝ }
+    ensures { λ r. ⌜ r ≡ atomsFrom (now (bytes .entry)) at ⌝ }
 {
     let count = number_at(bytes, at);
-    let blank = atom_at(bytes, at + 1);
-    let mut atoms = [blank; 8];
+    let front = atom_from(bytes, at + 1);
+    let mut atoms = [front; 8];
     for i in 1..8 {
-        atoms[i] = atom_at(bytes, at + 1 + 4 * i);
+        atoms[i] = atom_from(bytes, at + 1 + 4 * i);
     }
     AtomList {
         count: count,
@@ -70,13 +73,14 @@ fn atoms_at(bytes: &[u8], at: usize) -> AtomList
     }
 }
 
-fn schema_at(bytes: &[u8], at: usize) -> Schema
+fn schema_from(bytes: &[u8], at: usize) -> Schema
     requires { ⌜ at ≤ 4000 ⌝ }
+    ensures { λ r. ⌜ r ≡ schemaFrom (now (bytes .entry)) at ⌝ }
 {
     let parameters = number_at(bytes, at);
-    let preconditions = atoms_at(bytes, at + 1);
-    let deletes = atoms_at(bytes, at + 34);
-    let adds = atoms_at(bytes, at + 67);
+    let preconditions = atoms_from(bytes, at + 1);
+    let deletes = atoms_from(bytes, at + 34);
+    let adds = atoms_from(bytes, at + 67);
     Schema {
         parameters: parameters,
         preconditions: preconditions,
@@ -85,10 +89,13 @@ fn schema_at(bytes: &[u8], at: usize) -> Schema
     }
 }
 
-fn arities_in(bytes: &[u8]) -> ArityList {
+fn arities_from(bytes: &[u8]) -> ArityList
+    ensures { λ r. ⌜ r ≡ aritiesFrom (now (bytes .entry)) ⌝ }
+{
     let count = number_at(bytes, 0);
-    let mut arities = [0u8; 20];
-    for i in 0..20 {
+    let front = byte_at(bytes, 1);
+    let mut arities = [front; 20];
+    for i in 1..20 {
         arities[i] = byte_at(bytes, 1 + i);
     }
     ArityList {
@@ -97,12 +104,14 @@ fn arities_in(bytes: &[u8]) -> ArityList {
     }
 }
 
-fn schemas_in(bytes: &[u8]) -> SchemaList {
+fn schemas_from(bytes: &[u8]) -> SchemaList
+    ensures { λ r. ⌜ r ≡ schemasFrom (now (bytes .entry)) ⌝ }
+{
     let count = number_at(bytes, 22);
-    let blank = schema_at(bytes, 23);
-    let mut schemas = [blank; 32];
+    let front = schema_from(bytes, 23);
+    let mut schemas = [front; 32];
     for i in 1..32 {
-        schemas[i] = schema_at(bytes, 23 + 100 * i);
+        schemas[i] = schema_from(bytes, 23 + 100 * i);
     }
     SchemaList {
         count: count,
@@ -110,13 +119,15 @@ fn schemas_in(bytes: &[u8]) -> SchemaList {
     }
 }
 
-fn facts_in(bytes: &[u8]) -> FactList {
+fn facts_from(bytes: &[u8]) -> FactList
+    ensures { λ r. ⌜ r ≡ factsFrom (now (bytes .entry)) ⌝ }
+{
     let high = number_at(bytes, 3223);
     let low = number_at(bytes, 3224);
-    let blank = atom_at(bytes, 3225);
-    let mut facts = [blank; 512];
+    let front = atom_from(bytes, 3225);
+    let mut facts = [front; 512];
     for i in 1..512 {
-        facts[i] = atom_at(bytes, 3225 + 4 * i);
+        facts[i] = atom_from(bytes, 3225 + 4 * i);
     }
     FactList {
         count: high * 256 + low,
@@ -124,11 +135,13 @@ fn facts_in(bytes: &[u8]) -> FactList {
     }
 }
 
-fn table_in(bytes: &[u8]) -> Task {
-    let predicates = arities_in(bytes);
+fn table_from(bytes: &[u8]) -> Task
+    ensures { λ r. ⌜ r ≡ tableFrom (now (bytes .entry)) ⌝ }
+{
+    let predicates = arities_from(bytes);
     let objects = number_at(bytes, 21);
-    let schemas = schemas_in(bytes);
-    let facts = facts_in(bytes);
+    let schemas = schemas_from(bytes);
+    let facts = facts_from(bytes);
     Task {
         predicates: predicates,
         objects: objects,
@@ -137,26 +150,30 @@ fn table_in(bytes: &[u8]) -> Task {
     }
 }
 
-// How many bytes of the buffer are lent: no more than it has.
-fn lent_in(bytes: &[u8]) -> usize
-    ensures { λ r. ⌜ r ≤ 65600 ⌝ }
+// How many bytes of a buffer are lent: no more than it has.
+fn lent_from(bytes: &[u8], most: usize) -> usize
+    ensures { λ r. ⌜ r ≡ lentFrom (now (bytes .entry)) most ⌝ }
 {
     let high = number_at(bytes, 5273);
     let middle = number_at(bytes, 5274);
     let low = number_at(bytes, 5275);
     let size = high * 65536 + middle * 256 + low;
-    if size <= 65600 {
+    if size <= most {
         return size;
     }
-    65600
+    most
 }
 
 // A number's low byte.
-fn low_byte(number: usize) -> u8 {
+fn low_byte(number: usize) -> u8
+    ensures { λ r. ⌜ r ≡ number % 256 ⌝ }
+{
     (number % 256) as u8
 }
 
-fn number_of(writing: Writing) -> u8 {
+fn number_of(writing: Writing) -> u8
+    ensures { λ r. ⌜ r ≡ numberOf (writingSays writing) ⌝ }
+{
     match writing {
         Writing::Written(_) => 0,
         Writing::Refused(refusal) => refusal_number(refusal),
@@ -164,7 +181,9 @@ fn number_of(writing: Writing) -> u8 {
     }
 }
 
-fn length_of(writing: Writing) -> usize {
+fn length_of(writing: Writing) -> usize
+    ensures { λ r. ⌜ r ≡ lengthOf (writingSays writing) ⌝ }
+{
     match writing {
         Writing::Written(length) => length,
         Writing::Refused(_) => 0,
@@ -172,48 +191,44 @@ fn length_of(writing: Writing) -> usize {
     }
 }
 
-// The next table, if there is a whole one.
-fn read_table(bytes: &mut [u8; 5276]) -> bool {
-    let length = io::read_full(STDIN_FILENO, bytes);
-    length == 5276
+// The answer in three bytes: the number of the refusal, or 0, and the length, high byte first.
+fn head_of(writing: Writing) -> [u8; 3]
+    ensures { λ r. ⌜ r ≡ headOf (writingSays writing) ⌝ }
+{
+    let length = length_of(writing);
+    [number_of(writing), low_byte(length / 256), low_byte(length)]
 }
 
 // The writer is lent the front of a buffer.
 fn write_to_front(table: Task, lent: usize, out: &mut [u8]) -> Writing
     requires { ⌜ lent ≤ length (now out) ⌝ }
+    ensures { λ r. ⌜ EncodesFront table lent (now (out .entry)) (now (out .exit)) r ⌝ }
 {
     encode(table, &mut out[0..lent])
 }
 
-fn write_table(table: Task, lent: usize, out: &mut [u8; 65600]) -> Writing
-    requires { ⌜ lent ≤ 65600 ⌝ }
+// The writer's answer to a table in flat form, in three bytes; what it writes is left in the buffer.
+fn answer(flat: &[u8], out: &mut [u8]) -> [u8; 3]
+    ensures { λ r. ⌜ Answers (now (flat .entry)) (now (out .entry)) (now (out .exit)) r ⌝ }
 {
-    write_to_front(table, lent, out)
+    let table = table_from(flat);
+    let lent = lent_from(flat, out.len());
+    head_of(write_to_front(table, lent, out))
 }
 
-fn print_buffer(out: &[u8; 65600]) {
-    let bytes = &out[..];
-    io::write_all(STDOUT_FILENO, bytes);
-}
-
-fn print_answer(flat: &[u8; 5276]) {
-    let bytes = &flat[..];
-    let table = table_in(bytes);
-    let lent = lent_in(bytes);
-    let mut out = [170u8; 65600];
-    let writing = write_table(table, lent, &mut out);
-    let length = length_of(writing);
-    let head = [number_of(writing), low_byte(length / 256), low_byte(length)];
-    io::write_all(STDOUT_FILENO, &head);
-    print_buffer(&out);
-}
-
+// Reads, answers and prints. It answers nothing and is lent nothing, so that it has no contract; what reached the output none could say.
+// A proved loop has to end, and nothing says that the input does: the turns are counted down from a number that no run uses up.
 fn main() {
     let mut flat = [0u8; 5276];
-    for turn in 0..1000000usize {
-        if !read_table(&mut flat) {
+    let mut turns = u64::MAX;
+    while turns > 0 {
+        if io::read_full(STDIN_FILENO, &mut flat) < 5276 {
             return;
         }
-        print_answer(&flat);
+        let mut out = [170u8; 65600];
+        let head = answer(&flat, &mut out);
+        io::write_all(STDOUT_FILENO, &head);
+        io::write_all(STDOUT_FILENO, &out);
+        turns -= 1;
     }
 }

@@ -1,6 +1,6 @@
 -- Decimal digits: one digit for a number below 10, else those of the tenth part and one more.
 use Prim.Native.Nat.{ℕ, zero, suc, _+_, _*_, _/_, _%_, _≤_, _<_}
-use mathlib.Core.Path.{_≡_}
+use mathlib.Core.Path.{_≡_, ap}
 use mathlib.Core.List.{List, [], _∷_, _++_}
 use native.Mathlib.Omega.{arith}
 use lib.Dec.{ltb}
@@ -75,3 +75,14 @@ module _ (n : ℕ) {before : List ℕ} (large : 10 ≤ n) (room : Room (decimal 
   pub last-digit-written : {mid : List ℕ} {at : ℕ} → Writes (decimal (n / 10)) before mid at
       → Writes (decimal n) before (set mid at (48 + n % 10)) (at + 1)
   last-digit-written w = with-last tenth-first room w
+
+-- a number of two digits or more has room for them
+pub two-places : {n : ℕ} {before : List ℕ} → 10 ≤ n → Room (decimal n) before → 1 < length before
+two-places {n} large room = omega (arith, some-digit (n / 10), ap length (decimal-more n large), length-append (decimal (n / 10)) ((48 + n % 10) ∷ []))
+
+-- a number below 100 written as its two digits
+pub two-written : (n : ℕ) (before : List ℕ) → 10 ≤ n → n < 100 → Room (decimal n) before
+    → Writes (decimal n) before (set (set before 0 (48 + n / 10)) 1 (48 + n % 10)) 2
+two-written n before large small room =
+    last-digit-written n large room
+    (digit-written (n / 10) before (omega arith) (omega (arith, some-digit (n / 10), tenth-fits n large room)))

@@ -3,4 +3,3 @@ pub mod Decimal
 pub mod NumberRows
 pub mod LineTexts
 pub mod Lengths
-pub mod MaskMembers

@@ -5,63 +5,64 @@ use mathlib.Core.List.{List, [], _∷_, _++_, map, flatMap, append-nil, append-a
 use Rattle.laws.proofs.Lists.{flatMap-append}
 use Rattle.model.specs.Lines.{space, state, membership, types}
 use Rattle.model.specs.Text.{decimal, kindLetter, colon, items, spaced, lineText}
-use Rattle.text.specs.declared.lists.Kind.{Kind}
-use Rattle.text.specs.Kinds.{kindSays, spaceFront}
+use Rattle.model.specs.Spaces.{Kind}
+use Rattle.text.specs.Kinds.{spaceFront}
+use Rattle.text.specs.Letters.{newline, blank, colonByte, letterD, letterR, letterS, letterT}
 use Rattle.text.specs.Numbers.{numbers, lastNumbers}
 use Rattle.text.proofs.Writing.{Begins}
 
 -- the first number after the letter
-pub one-number : (letter a : ℕ) → Begins (spaced ((letter ∷ []) ∷ decimal a ∷ [])) (letter ∷ []) (32 ∷ decimal a)
+pub one-number : (letter a : ℕ) → Begins (spaced ((letter ∷ []) ∷ decimal a ∷ [])) (letter ∷ []) (blank ∷ decimal a)
 unfolding spaced flatMap
 one-number letter a = record { path = simp append-nil }
 
 -- and the second
 pub two-numbers : (letter a b : ℕ)
-    → Begins (spaced ((letter ∷ []) ∷ decimal a ∷ decimal b ∷ [])) (spaced ((letter ∷ []) ∷ decimal a ∷ [])) (32 ∷ decimal b)
+    → Begins (spaced ((letter ∷ []) ∷ decimal a ∷ decimal b ∷ [])) (spaced ((letter ∷ []) ∷ decimal a ∷ [])) (blank ∷ decimal b)
 unfolding spaced flatMap
 two-numbers letter a b = record { path = simp (append-nil, append-assoc) }
 
 -- the end of a line
-pub line-end : (text : List ℕ) → Begins (text ++ (10 ∷ [])) text (10 ∷ [])
+pub line-end : (text : List ℕ) → Begins (text ++ (newline ∷ [])) text (newline ∷ [])
 line-end text = record { path = refl }
 
-pub membership-end : (index : ℕ) → Begins (lineText (membership index)) (spaced ((68 ∷ []) ∷ decimal index ∷ [])) (10 ∷ [])
+pub membership-end : (index : ℕ) → Begins (lineText (membership index)) (spaced ((letterD ∷ []) ∷ decimal index ∷ [])) (newline ∷ [])
 unfolding lineText items
 membership-end index = line-end _
 
 -- a blank and a byte
-pub mark-byte : (b : ℕ) → Begins (32 ∷ b ∷ []) (32 ∷ []) (b ∷ [])
+pub mark-byte : (b : ℕ) → Begins (blank ∷ b ∷ []) (blank ∷ []) (b ∷ [])
 mark-byte b = record { path = refl }
 
 -- the last numbers of a line: first the colon
-pub colon-first : (ns : List ℕ) → Begins (lastNumbers ns) (32 ∷ 58 ∷ []) (numbers ns ++ (10 ∷ []))
+pub colon-first : (ns : List ℕ) → Begins (lastNumbers ns) (blank ∷ colonByte ∷ []) (numbers ns ++ (newline ∷ []))
 unfolding lastNumbers
 colon-first ns = record { path = refl }
 
 -- a line's first items, and then the others up to its end
 items-parts : (first : List ℕ) (front back : List (List ℕ))
-    → Begins (spaced (first ∷ (front ++ back)) ++ (10 ∷ [])) (spaced (first ∷ front)) (flatMap (λ item. 32 ∷ item) back ++ (10 ∷ []))
+    → Begins (spaced (first ∷ (front ++ back)) ++ (newline ∷ [])) (spaced (first ∷ front)) (flatMap (λ item. blank ∷ item) back ++ (newline ∷ []))
 unfolding spaced
-items-parts first front back = record { path = rw (flatMap-append (λ item. 32 ∷ item) front back) (simp append-assoc) }
+items-parts first front back = record { path = rw (flatMap-append (λ item. blank ∷ item) front back) (simp append-assoc) }
 
 -- T: the letter, then the counts
-pub state-parts : (counts : List ℕ) → Begins (lineText (state counts)) (84 ∷ []) (lastNumbers counts)
+pub state-parts : (counts : List ℕ) → Begins (lineText (state counts)) (letterT ∷ []) (lastNumbers counts)
 unfolding lineText items spaced flatMap lastNumbers numbers
-state-parts counts = items-parts (84 ∷ []) [] (colon ∷ map decimal counts)
+state-parts counts = items-parts (letterT ∷ []) [] (colon ∷ map decimal counts)
 
 -- R: the letter and two numbers, then the objects
 pub types-parts : (schema parameter : ℕ) (objects : List ℕ)
-    → Begins (lineText (types schema parameter objects)) (spaced ((82 ∷ []) ∷ decimal schema ∷ decimal parameter ∷ [])) (lastNumbers objects)
+    → Begins (lineText (types schema parameter objects)) (spaced ((letterR ∷ []) ∷ decimal schema ∷ decimal parameter ∷ [])) (lastNumbers objects)
 unfolding lineText items flatMap lastNumbers numbers
-types-parts schema parameter objects = items-parts (82 ∷ []) (decimal schema ∷ decimal parameter ∷ []) (colon ∷ map decimal objects)
+types-parts schema parameter objects = items-parts (letterR ∷ []) (decimal schema ∷ decimal parameter ∷ []) (colon ∷ map decimal objects)
 
 -- S: the kind and a colon
-pub kind-parts : (letter : ℕ) → Begins (32 ∷ letter ∷ 32 ∷ 58 ∷ []) (32 ∷ letter ∷ []) (32 ∷ 58 ∷ [])
+pub kind-parts : (letter : ℕ) → Begins (blank ∷ letter ∷ blank ∷ colonByte ∷ []) (blank ∷ letter ∷ []) (blank ∷ colonByte ∷ [])
 kind-parts letter = record { path = refl }
 
 -- the letter and the number, then the kind
 pub head-parts : (n : ℕ) (kind : Kind)
-    → Begins (spaceFront n kind []) (spaced ((83 ∷ []) ∷ decimal n ∷ [])) (32 ∷ kindLetter (kindSays kind) ∷ 32 ∷ 58 ∷ [])
+    → Begins (spaceFront n kind []) (spaced ((letterS ∷ []) ∷ decimal n ∷ [])) (blank ∷ kindLetter kind ∷ blank ∷ colonByte ∷ [])
 unfolding spaceFront spaced flatMap
 head-parts n kind = record { path = simp (append-nil, append-assoc) }
 
@@ -73,7 +74,7 @@ front-parts n kind properties = record { path = simp append-assoc }
 
 -- and then the members
 pub space-parts : (n : ℕ) (kind : Kind) (properties members : List ℕ)
-    → Begins (lineText (space n (kindSays kind) properties members)) (spaceFront n kind properties) (lastNumbers members)
+    → Begins (lineText (space n kind properties members)) (spaceFront n kind properties) (lastNumbers members)
 unfolding lineText items spaceFront flatMap lastNumbers numbers
 space-parts n kind properties members =
-    items-parts (83 ∷ []) (decimal n ∷ (kindLetter (kindSays kind) ∷ []) ∷ colon ∷ map decimal properties) (colon ∷ map decimal members)
+    items-parts (letterS ∷ []) (decimal n ∷ (kindLetter kind ∷ []) ∷ colon ∷ map decimal properties) (colon ∷ map decimal members)

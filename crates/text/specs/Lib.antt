@@ -1,5 +1,5 @@
 pub mod Room
 pub mod Written
+pub mod Letters
 pub mod Numbers
-pub mod Members
 pub mod Kinds

@@ -4,13 +4,14 @@ use crate::numbers::write_two;
 ghost use mathlib.Core.List.{[], _∷_, _++_};
 ghost use Rattle.model.specs.Lines.{limit, membership, exclusion, total, ceiling};
 ghost use Rattle.model.specs.Text.{decimal, spaced, lineText};
+ghost use Rattle.text.specs.Letters.{newline};
 ghost use Rattle.text.specs.Room.{Room};
 ghost use Rattle.text.specs.Written.{Writes};
 
 // A line of a letter and two numbers.
 fn write_pair(out: &mut [u8], letter: u8, a: usize, b: usize) -> usize
-    requires { ⌜ Room (spaced ((letter ∷ []) ∷ decimal a ∷ decimal b ∷ []) ++ (10 ∷ [])) (now out) ⌝ }
-    ensures { λ r. ⌜ Writes (spaced ((letter ∷ []) ∷ decimal a ∷ decimal b ∷ []) ++ (10 ∷ [])) (now (out .entry)) (now (out .exit)) r ⌝ }
+    requires { ⌜ Room (spaced ((letter ∷ []) ∷ decimal a ∷ decimal b ∷ []) ++ (newline ∷ [])) (now out) ⌝ }
+    ensures { λ r. ⌜ Writes (spaced ((letter ∷ []) ∷ decimal a ∷ decimal b ∷ []) ++ (newline ∷ [])) (now (out .entry)) (now (out .exit)) r ⌝ }
 {
     let at = write_two(out, letter, a, b);
     out[at] = b'\n';

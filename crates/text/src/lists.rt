@@ -1,31 +1,21 @@
 // The lines with lists: `S`, `T` and `R`.
+use crate::kinds::Kind;
 use crate::numbers::write_byte;
-use crate::numbers::write_item;
 use crate::numbers::write_mark;
 use crate::numbers::write_one;
 use crate::numbers::write_two;
 use crate::rows::write_last_counts;
 use crate::rows::write_last_members;
+use crate::rows::write_numbers;
 ghost use mathlib.Core.Path.{_≡_};
 ghost use mathlib.Core.List.{[], _∷_};
-ghost use Prim.Native.Nat.{_≤_};
-ghost use lib.ListN.{length};
+ghost use Rattle.masks.specs.Sets.{membersOf};
 ghost use Rattle.model.specs.Lines.{space, state, types};
 ghost use Rattle.model.specs.Text.{kindLetter, lineText};
-ghost use Rattle.text.specs.Kinds.{kindSays, propertiesOf, spaceFront};
-ghost use Rattle.text.specs.Members.{membersOf};
-ghost use Rattle.text.specs.Numbers.{numbers};
+ghost use Rattle.text.specs.Kinds.{kindSays, spaceFront};
+ghost use Rattle.text.specs.Letters.{blank, colonByte};
 ghost use Rattle.text.specs.Room.{Room};
 ghost use Rattle.text.specs.Written.{Writes};
-
-// The kind of a space, as its section has it.
-pub enum Kind {
-    Static,
-    Attribute,
-    Property,
-    Mixed,
-    Wide,
-}
 
 // `T`: the counts of a condition.
 pub fn write_state(out: &mut [u8], counts: &[u16]) -> usize
@@ -33,8 +23,8 @@ pub fn write_state(out: &mut [u8], counts: &[u16]) -> usize
     ensures { λ r. ⌜ Writes (lineText (state (now (counts .entry)))) (now (out .entry)) (now (out .exit)) r ⌝ }
 {
     let at = write_byte(out, b'T');
-    let n = write_last_counts(&mut out[at..], counts);
-    at + n
+    let list = write_last_counts(&mut out[at..], counts);
+    at + list
 }
 
 // `R`: a schema, a parameter and the objects that it may stand for, as a mask.
@@ -62,8 +52,8 @@ fn letter_of(kind: Kind) -> u8
 
 // The kind of a space and a colon.
 fn write_kind(out: &mut [u8], kind: Kind) -> usize
-    requires { ⌜ Room (32 ∷ kindLetter (kindSays kind) ∷ 32 ∷ 58 ∷ []) (now out) ⌝ }
-    ensures { λ r. ⌜ Writes (32 ∷ kindLetter (kindSays kind) ∷ 32 ∷ 58 ∷ []) (now (out .entry)) (now (out .exit)) r ⌝ }
+    requires { ⌜ Room (blank ∷ kindLetter (kindSays kind) ∷ blank ∷ colonByte ∷ []) (now out) ⌝ }
+    ensures { λ r. ⌜ Writes (blank ∷ kindLetter (kindSays kind) ∷ blank ∷ colonByte ∷ []) (now (out .entry)) (now (out .exit)) r ⌝ }
 {
     let letter = letter_of(kind);
     let at = write_mark(out, letter);
@@ -73,78 +63,36 @@ fn write_kind(out: &mut [u8], kind: Kind) -> usize
 
 // An `S` line up to the first colon.
 fn write_space_head(out: &mut [u8], number: usize, kind: Kind) -> usize
-    requires { ⌜ Room (spaceFront number kind []) (now out) ⌝ }
-    ensures { λ r. ⌜ Writes (spaceFront number kind []) (now (out .entry)) (now (out .exit)) r ⌝ }
+    requires { ⌜ Room (spaceFront number (kindSays kind) []) (now out) ⌝ }
+    ensures { λ r. ⌜ Writes (spaceFront number (kindSays kind) []) (now (out .entry)) (now (out .exit)) r ⌝ }
 {
     let at = write_one(out, b'S', number);
     let n = write_kind(&mut out[at..], kind);
     at + n
 }
 
-// The properties, of so many, whose group has this lowest property.
-fn write_properties(out: &mut [u8], groups: &[u8], size: usize, lowest: u8) -> usize
-    requires { ⌜ (size ≤ length (now groups)) × Room (numbers (propertiesOf (now groups) size lowest)) (now out) ⌝ }
-    ensures { λ r. ⌜ Writes (numbers (propertiesOf (now (groups .entry)) size lowest)) (now (out .entry)) (now (out .exit)) r ⌝ }
-{
-    let mut at = 0;
-    for c in 0..size {
-        if groups[c] != lowest {
-            continue;
-        }
-        let n = write_item(&mut out[at..], c);
-        at = at + n;
-    }
-    at
-}
-
 // An `S` line up to its properties.
-fn write_space_front(
-    out: &mut [u8],
-    number: usize,
-    kind: Kind,
-    groups: &[u8],
-    size: usize,
-    lowest: u8,
-) -> usize
-    requires { ⌜ (size ≤ length (now groups)) × Room (spaceFront number kind (propertiesOf (now groups) size lowest)) (now out) ⌝ }
-    ensures { λ r. ⌜
-        Writes
-        (spaceFront number kind (propertiesOf (now (groups .entry)) size lowest))
-        (now (out .entry))
-        (now (out .exit))
-        r
-        ⌝ }
+fn write_space_front(out: &mut [u8], number: usize, kind: Kind, own: &[usize]) -> usize
+    requires { ⌜ Room (spaceFront number (kindSays kind) (now own)) (now out) ⌝ }
+    ensures { λ r. ⌜ Writes (spaceFront number (kindSays kind) (now (own .entry))) (now (out .entry)) (now (out .exit)) r ⌝ }
 {
     let at = write_space_head(out, number, kind);
-    let n = write_properties(&mut out[at..], groups, size, lowest);
+    let n = write_numbers(&mut out[at..], own);
     at + n
 }
 
-// `S`: a space, its kind, its properties, by their groups, and its members, as a mask.
-pub fn write_space(
-    out: &mut [u8],
-    number: usize,
-    kind: Kind,
-    groups: &[u8],
-    size: usize,
-    lowest: u8,
-    members: u64,
-) -> usize
-    requires { ⌜
-        (size ≤ length (now groups))
-        × Room
-        (lineText (space number (kindSays kind) (propertiesOf (now groups) size lowest) (membersOf members)))
-        (now out)
-        ⌝ }
+// `S`: a space, its kind, its own properties, and its members, as a mask.
+pub fn write_space(out: &mut [u8], number: usize, kind: Kind, own: &[usize], members: u64) -> usize
+    requires { ⌜ Room (lineText (space number (kindSays kind) (now own) (membersOf members))) (now out) ⌝ }
     ensures { λ r. ⌜
         Writes
-        (lineText (space number (kindSays kind) (propertiesOf (now (groups .entry)) size lowest) (membersOf members)))
+        (lineText (space number (kindSays kind) (now (own .entry)) (membersOf members)))
         (now (out .entry))
         (now (out .exit))
         r
         ⌝ }
 {
-    let at = write_space_front(out, number, kind, groups, size, lowest);
+    let at = write_space_front(out, number, kind, own);
     let n = write_last_members(&mut out[at..], members);
     at + n
 }

@@ -4,10 +4,26 @@ use crate::numbers::write_mark;
 use masks::first_member;
 use masks::without_first;
 ghost use mathlib.Core.List.{[], _∷_, _++_};
-ghost use Rattle.text.specs.Members.{membersOf};
+ghost use Rattle.masks.specs.Sets.{membersOf};
+ghost use Rattle.text.specs.Letters.{newline};
 ghost use Rattle.text.specs.Numbers.{numbers, lastNumbers};
 ghost use Rattle.text.specs.Room.{Room};
 ghost use Rattle.text.specs.Written.{Writes};
+
+// The numbers of a list.
+pub fn write_numbers(out: &mut [u8], list: &[usize]) -> usize
+    requires { ⌜ Room (numbers (now list)) (now out) ⌝ }
+    ensures { λ r. ⌜ Writes (numbers (now (list .entry))) (now (out .entry)) (now (out .exit)) r ⌝ }
+{
+    let mut at = 0;
+    let mut i = 0;
+    while i < list.len() {
+        let n = write_item(&mut out[at..], list[i]);
+        at = at + n;
+        i = i + 1;
+    }
+    at
+}
 
 // The counts of a bag.
 pub fn write_counts(out: &mut [u8], counts: &[u16]) -> usize
@@ -26,8 +42,8 @@ pub fn write_counts(out: &mut [u8], counts: &[u16]) -> usize
 
 // The counts and the line's end.
 fn write_counts_end(out: &mut [u8], counts: &[u16]) -> usize
-    requires { ⌜ Room (numbers (now counts) ++ (10 ∷ [])) (now out) ⌝ }
-    ensures { λ r. ⌜ Writes (numbers (now (counts .entry)) ++ (10 ∷ [])) (now (out .entry)) (now (out .exit)) r ⌝ }
+    requires { ⌜ Room (numbers (now counts) ++ (newline ∷ [])) (now out) ⌝ }
+    ensures { λ r. ⌜ Writes (numbers (now (counts .entry)) ++ (newline ∷ [])) (now (out .entry)) (now (out .exit)) r ⌝ }
 {
     let at = write_counts(out, counts);
     out[at] = b'\n';
@@ -52,7 +68,7 @@ pub fn write_members(out: &mut [u8], mask: u64) -> usize
     let mut at = 0;
     let mut rest = mask;
     while rest != 0 {
-        let o = first_member(rest) as usize;
+        let o = first_member(rest);
         let n = write_item(&mut out[at..], o);
         at = at + n;
         rest = without_first(rest);
@@ -62,8 +78,8 @@ pub fn write_members(out: &mut [u8], mask: u64) -> usize
 
 // The members and the line's end.
 fn write_members_end(out: &mut [u8], mask: u64) -> usize
-    requires { ⌜ Room (numbers (membersOf mask) ++ (10 ∷ [])) (now out) ⌝ }
-    ensures { λ r. ⌜ Writes (numbers (membersOf mask) ++ (10 ∷ [])) (now (out .entry)) (now (out .exit)) r ⌝ }
+    requires { ⌜ Room (numbers (membersOf mask) ++ (newline ∷ [])) (now out) ⌝ }
+    ensures { λ r. ⌜ Writes (numbers (membersOf mask) ++ (newline ∷ [])) (now (out .entry)) (now (out .exit)) r ⌝ }
 {
     let end = write_members(out, mask);
     out[end] = b'\n';

@@ -1,48 +1,34 @@
--- The totals of all spaces: each property is in one space, so that what its space gives is what the property gives.
-use Prim.Native.Nat.{ℕ, _+_, _*_, _≤_, _<_}
-use native.Mathlib.Numerals.{add-one}
+-- The totals of all spaces: a property is in one space, so that what its space enters is what the property gives.
+use Prim.Native.Nat.{ℕ, zero, suc, _*_, _≤_, _<_}
+use native.Mathlib.Nat.{le-of-suc-le, le-refl}
 use native.Mathlib.Omega.{arith}
 use mathlib.Core.Path.{_≡_, refl, sym, ap, _∙_, subst}
 use mathlib.Core.Bool.{Bool, true, false, cond}
-use mathlib.Core.List.{List, [], _∷_, _++_, map, flatMap, append-nil, List·Memᴰ, List·Memᴰ·head, List·Memᴰ·tail, List·Memᴰ·not-nil}
-use lib.Count.{ones}
-use lib.Dec.{eqb}
-use lib.ListN.{length, getD, take, replicate}
-use lib.Seq.{take-all, take-suc, getD-take, length-take-le}
-use borrow.Author.Tests.{eqb-true}
+use mathlib.Core.List.{List, [], _∷_, _++_, map, flatMap, foldl, foldl-append, append-nil, List·Memᴰ, List·Memᴰ·head, List·Memᴰ·tail}
+use lib.Dec.{ltb}
+use lib.ListN.{length, getD, take, replicate, length-map, length-replicate, List·getD-eq-default}
+use lib.Seq.{take-all, take-suc, ext-getD}
+use borrow.Author.Tests.{ltb-true, ltb-false}
 use Rattle.laws.specs.Lists.{keep, upTo, member}
-use Rattle.laws.specs.Bags.{Bag}
 use Rattle.laws.proofs.Tests.{by-test}
-use Rattle.laws.proofs.Lists.{keep-at, upTo-at, member-at, place-of, flatMap-append}
-use Rattle.laws.proofs.Mapped.{keep-ext}
-use Rattle.laws.proofs.Walks.{keep-few}
+use Rattle.laws.proofs.Lists.{flatMap-append, length-upTo, getD-upTo, mem-getD, mem-take}
+use Rattle.laws.proofs.Mapped.{getD-map}
 use Rattle.laws.proofs.Fronts.{keep-parts}
-use Rattle.laws.proofs.Numbers.{distinct-keep, distinct-upTo, distinct-places}
-use Rattle.laws.proofs.Masks.{Ascending, keep-ascending, ones-mask}
+use Rattle.model.specs.Answer.{accepted}
 use Rattle.model.specs.Card.{Task}
+use Rattle.model.specs.Writer.{checkTask}
 use Rattle.model.specs.Transitions.{properties}
-use Rattle.model.specs.Spaces.{Space, spaces}
+use Rattle.model.specs.Spaces.{Space, spaces, static}
 use Rattle.model.specs.Lines.{Analysis, analyse, analysis, countOf, oneNumber, totalsBy}
-use Rattle.model.proofs.Checked.{checked}
 use Rattle.model.proofs.RuleCount.{properties-few}
-use Rattle.model.proofs.Closing.{groups, labels, belongs}
-use Rattle.model.proofs.ListedSpace.{space-of-analysis}
-use Rattle.spaces.specs.declared.Spaces.{Spaces}
-use Rattle.spaces.specs.SpaceTable.{SpacesOf, maskOf, groupsOf, lowestOf}
-use Rattle.card.proofs.Padded.{padded-at}
-use Rattle.analysis.specs.Own.{ownOf}
-use Rattle.analysis.specs.declared.Analysed.{Analysed}
-use Rattle.analysis.specs.Analysed.{Given, AnalysisOf, spaceAt}
-use Rattle.analysis.proofs.Places.{label-inside, labelAt, members-are, members-at, own-at, own-few}
-use Rattle.properties.specs.Tables.{bagsIn, HasRows}
-use Rattle.properties.proofs.Rows.{getD-zeros}
-use Rattle.space_lines.proofs.Conditions.{has-rows, bags-are}
-use Rattle.text.specs.Kinds.{propertiesOf}
-use Rattle.closing.specs.Fixed.{firstAndOne, fixedOf, FixedTable}
-use Rattle.totals.specs.Totals.{givenBy, Entered, Enterable}
-use Rattle.totals.proofs.Analyses.{length-analysis, analysis-at}
-
--- ---- one analysis more
+use Rattle.model.proofs.SpaceFacts.{space-unique, properties-known}
+use Rattle.model.proofs.ListedSpace.{space-of-analysis, analysed}
+use Rattle.card.specs.Represents.{padded}
+use Rattle.properties.specs.Tables.{row}
+use Rattle.properties.proofs.Rows.{getD-zeros, getD-row, length-row}
+use Rattle.closing.specs.Fixed.{firstAndOne, fixedOf, fixedTable}
+use Rattle.totals.specs.Totals.{givenBy, entered, totalsOf}
+use Rattle.totals.proofs.EnteringTotals.{length-set-all, set-all-at}
 
 -- an analysis is of the property's space
 abbrev has : ℕ → Analysis → Bool
@@ -52,191 +38,154 @@ has c a = member c (a .space .properties)
 abbrev gives : ℕ → Analysis → List ℕ
 gives c a = map (λ n. n * length (a .space .members)) (oneNumber (map (countOf (a .space .properties) c) (a .conditions)))
 
+-- ---- one analysis more
+
 totals-parts : (c : ℕ) (some more : List Analysis) → totalsBy (some ++ more) c ≡ totalsBy some c ++ totalsBy more c
 unfolding totalsBy
 totals-parts c some more =
     ap (flatMap (gives c)) (keep-parts (has c) some more) ∙ flatMap-append (gives c) (keep (has c) some) (keep (has c) more)
 
--- none of these analyses is of the property's space
-no-totals : (c : ℕ) (analyses : List Analysis) → ((a : Analysis) → List·Memᴰ a analyses → has c a ≡ false) → totalsBy analyses c ≡ []
+-- what an analysis gives, if it is of the property's space
+totals-one : (c : ℕ) (a : Analysis) (b : Bool) → has c a ≡ b → totalsBy (a ∷ []) c ≡ cond b (gives c a) []
 unfolding totalsBy keep flatMap
-no-totals c [] h = refl
-no-totals c (a ∷ analyses) h =
-    ap (λ (b : Bool). flatMap (gives c) (cond b (a ∷ keep (has c) analyses) (keep (has c) analyses))) (h a (List·Memᴰ·head refl))
-    ∙ no-totals c analyses (λ x m. h x (List·Memᴰ·tail m))
+totals-one c a true e = ap (λ (b : Bool). flatMap (gives c) (cond b (a ∷ []) [])) e ∙ append-nil (gives c a)
+totals-one c a false e = ap (λ (b : Bool). flatMap (gives c) (cond b (a ∷ []) [])) e
 
--- what the property gives with one analysis more, if no earlier one is of its space when this one is
-next-total : (c : ℕ) (analyses : List Analysis) (a : Analysis) → (has c a ≡ true → totalsBy analyses c ≡ [])
+-- where every analysis of the property's space is this one, the first total is what this one gives
+first-total : (c : ℕ) (a : Analysis) (analyses : List Analysis) → ((x : Analysis) → List·Memᴰ x analyses → has c x ≡ true → x ≡ a)
+    → firstAndOne (totalsBy analyses c ++ gives c a) ≡ firstAndOne (gives c a)
+first-total c a [] h = unfold totalsBy keep flatMap in refl
+first-total c a (x ∷ analyses) h = go (first-total c a analyses (λ y m. h y (List·Memᴰ·tail m))) (has c x) refl
+  where
+    again : (g rest : List ℕ) → firstAndOne (rest ++ g) ≡ firstAndOne g → firstAndOne ((g ++ rest) ++ g) ≡ firstAndOne g
+    again [] rest e = e
+    again (n ∷ g) rest e = unfold firstAndOne in refl
+
+    split : totalsBy (x ∷ analyses) c ≡ totalsBy (x ∷ []) c ++ totalsBy analyses c
+    split = totals-parts c (x ∷ []) analyses
+
+    go : firstAndOne (totalsBy analyses c ++ gives c a) ≡ firstAndOne (gives c a) → (b : Bool) → has c x ≡ b
+        → firstAndOne (totalsBy (x ∷ analyses) c ++ gives c a) ≡ firstAndOne (gives c a)
+    go later true e =
+        ap (λ (l : List ℕ). firstAndOne (l ++ gives c a))
+        (split
+        ∙ ap (λ (l : List ℕ). l ++ totalsBy analyses c)
+        (totals-one c x true e ∙ ap (gives c) (h x (List·Memᴰ·head refl) e)))
+        ∙ again (gives c a) (totalsBy analyses c) later
+    go later false e =
+        ap (λ (l : List ℕ). firstAndOne (l ++ gives c a)) (split ∙ ap (λ (l : List ℕ). l ++ totalsBy analyses c) (totals-one c x false e)) ∙ later
+
+-- what the property gives with one analysis more, if no earlier one is of its space but this one
+next-total : (c : ℕ) (analyses : List Analysis) (a : Analysis)
+    → (has c a ≡ true → (x : Analysis) → List·Memᴰ x analyses → has c x ≡ true → x ≡ a)
     → fixedOf (analyses ++ (a ∷ [])) c
     ≡ cond (has c a) (givenBy (length (a .space .members)) (map (countOf (a .space .properties) c) (a .conditions))) (fixedOf analyses c)
 unfolding fixedOf givenBy
-next-total c analyses a alone =
-    ap firstAndOne (totals-parts c analyses (a ∷ [])) ∙ go (has c a) refl
+next-total c analyses a alone = ap firstAndOne (totals-parts c analyses (a ∷ [])) ∙ go (has c a) refl
   where
-    one : (b : Bool) → has c a ≡ b → totalsBy (a ∷ []) c ≡ cond b (gives c a) []
-    one true e =
-        unfold totalsBy keep flatMap in
-        ap (λ (b : Bool). flatMap (gives c) (cond b (a ∷ []) [])) e ∙ append-nil (gives c a)
-    one false e = unfold totalsBy keep flatMap in ap (λ (b : Bool). flatMap (gives c) (cond b (a ∷ []) [])) e
-
     go : (b : Bool) → has c a ≡ b
         → firstAndOne (totalsBy analyses c ++ totalsBy (a ∷ []) c) ≡ cond b (firstAndOne (gives c a)) (firstAndOne (totalsBy analyses c))
-    go true e = ap (λ (l : List ℕ). firstAndOne (l ++ totalsBy (a ∷ []) c)) (alone e) ∙ ap firstAndOne (one true e)
+    go true e =
+        ap (λ (l : List ℕ). firstAndOne (totalsBy analyses c ++ l)) (totals-one c a true e) ∙ first-total c a analyses (alone e)
     go false e =
-        ap (λ (l : List ℕ). firstAndOne (totalsBy analyses c ++ l)) (one false e) ∙ ap firstAndOne (append-nil (totalsBy analyses c))
+        ap (λ (l : List ℕ). firstAndOne (totalsBy analyses c ++ l)) (totals-one c a false e)
+        ∙ ap firstAndOne (append-nil (totalsBy analyses c))
 
 -- ---- space by space
 
--- what the table holds after so many spaces
-pub record TotalsTo (t : Task) (place : ℕ) (fixed : List ℕ) : Type 0 where
-  pub entries : (c : ℕ) → getD fixed c 0 ≡ fixedOf (take place (analysis t)) c
+-- the table with one analysis more
+pub totals-next : (analyses : List Analysis) (a : Analysis)
+    → totalsOf (analyses ++ (a ∷ []))
+    ≡ entered (a .space .properties) (a .conditions) (length (a .space .members)) (totalsOf analyses)
+unfolding totalsOf
+totals-next analyses a = foldl-append _ (replicate 60 0) analyses (a ∷ [])
 
-pub totals-start : (t : Task) → TotalsTo t 0 (replicate 60 0)
-unfolding fixedOf firstAndOne
-totals-start t = record { entries = λ c. getD-zeros 60 c ∙ sym (ap firstAndOne (no-totals c [] (λ a m. absurd (List·Memᴰ·not-nil m)))) }
+pub length-totals : (analyses : List Analysis) → length (totalsOf analyses) ≡ 60
+unfolding totalsOf entered
+length-totals analyses = go (replicate 60 0) analyses (length-replicate {A = ℕ} 60 0)
+  where
+    go : (fixed : List ℕ) (left : List Analysis) → length fixed ≡ 60
+        → length (foldl (λ f a. entered (a .space .properties) (a .conditions) (length (a .space .members)) f) fixed left) ≡ 60
+    go fixed [] e = e
+    go fixed (a ∷ left) e = go _ left (length-set-all _ fixed (a .space .properties) ∙ e)
 
--- all of them
-pub totals-end : (t : Task) (place : ℕ) (fixed : List ℕ) → length (spaces t) ≤ place → length fixed ≡ 60 → TotalsTo t place fixed → FixedTable t fixed
-totals-end t place fixed k long r = record {
-  long = omega arith;
-  entries = λ c n. r .entries c ∙ ap (λ (l : List Analysis). fixedOf l c) (take-all place (analysis t) (omega (arith, length-analysis t)));
-}
+-- a property's entry in it
+entered-at : (a : Analysis) (fixed : List ℕ) (c : ℕ) → c < length fixed
+    → getD (entered (a .space .properties) (a .conditions) (length (a .space .members)) fixed) c 0
+    ≡ cond (has c a) (givenBy (length (a .space .members)) (map (countOf (a .space .properties) c) (a .conditions))) (getD fixed c 0)
+unfolding entered
+entered-at a fixed c h =
+    set-all-at (λ d. givenBy (length (a .space .members)) (map (countOf (a .space .properties) d) (a .conditions))) fixed (a .space .properties) c h
 
--- ---- the spaces of a task
+module _ (t : Task) where
+  -- two analyses with one property are one
+  alone : (a x : Analysis) → List·Memᴰ a (analysis t) → List·Memᴰ x (analysis t) → (c : ℕ) → has c a ≡ true → has c x ≡ true → x ≡ a
+  alone a x m n c h k =
+      let p = analysed t a m in
+      let q = analysed t x n in
+      let own : (y : Analysis) (u : Space) → y ≡ analyse t u → y .space ≡ u =
+      λ y u e. ap (λ (z : Analysis). z .space) e ∙ space-of-analysis t u in
+      let one : q .0 ≡ p .0 =
+      space-unique t (q .0) (p .0) (q .1) (p .1) c
+      (subst (λ (u : Space). member c (u .properties) ≡ true) (own x (q .0) (q .2)) k)
+      (subst (λ (u : Space). member c (u .properties) ≡ true) (own a (p .0) (p .2)) h) in
+      q .2 ∙ ap (analyse t) one ∙ sym (p .2)
 
-module _ (t : Task) (s : Spaces) (h : SpacesOf t s) (size : ℕ) (e : size ≡ length (properties t)) where
-  -- the label of a property of a space
-  labelled : (i : ℕ) → i < length (spaces t) → (c : ℕ) → member c (spaceAt t i .properties) ≡ true
-      → getD (take size (s .groups)) c 0 ≡ getD (s .lowest) i 0
-  unfolding ownOf
-  labelled i k c m =
-      eqb-true (getD (take size (s .groups)) c 0) (getD (s .lowest) i 0)
-      (keep-at (λ d. eqb (getD (take size (s .groups)) d 0) (getD (s .lowest) i 0)) (upTo (length (take size (s .groups)))) c
-      (subst (List·Memᴰ c) (sym (own-at t i k s h size e)) (member-at c (spaceAt t i .properties) m)) .1)
+  -- after so many spaces each property has what those spaces give
+  totals-to : (n c : ℕ) → n ≤ length (analysis t) → c < 60 → getD (totalsOf (take n (analysis t))) c 0 ≡ fixedOf (take n (analysis t)) c
+  totals-to zero c h k = unfold totalsOf fixedOf totalsBy keep flatMap firstAndOne in getD-zeros 60 c
+  totals-to (suc n) c h k =
+      let none : Analysis = record { space = record { properties = []; rules = []; members = [] }; kind = static; conditions = [] } in
+      let a = getD (analysis t) n none in
+      let some = take n (analysis t) in
+      let here : List·Memᴰ a (analysis t) = mem-getD (analysis t) n none h in
+      let more : take (suc n) (analysis t) ≡ some ++ (a ∷ []) = take-suc (analysis t) n none h in
+      ap (λ (l : List Analysis). getD (totalsOf l) c 0) more
+      ∙ ap (λ (l : List ℕ). getD l c 0) (totals-next some a)
+      ∙ entered-at a (totalsOf some) c (subst (λ (m : ℕ). c < m) (sym (length-totals some)) k)
+      ∙ ap (λ (m : ℕ). cond (has c a) (givenBy (length (a .space .members)) (map (countOf (a .space .properties) c) (a .conditions))) m)
+      (totals-to n c (le-of-suc-le h) k)
+      ∙ sym (next-total c some a (λ e x m. alone a x here (mem-take n (analysis t) x m) c e))
+      ∙ ap (λ (l : List Analysis). fixedOf l c) (sym more)
 
-  label-listed : (i : ℕ) → i < length (spaces t) → i < length (lowestOf (groupsOf t))
-  unfolding labels groups groupsOf lowestOf
-  label-listed i k = label-inside t i k
-
-  -- two spaces with one label are one
-  one-place : (i j : ℕ) → i < length (spaces t) → j < length (spaces t) → getD (s .lowest) i 0 ≡ getD (s .lowest) j 0 → i ≡ j
-  unfolding lowestOf
-  one-place i j k l same =
-      let at : (n : ℕ) → n < length (spaces t) → getD (s .lowest) n 0 ≡ getD (lowestOf (groupsOf t)) n 0 =
-      λ n o. ap (λ (x : List ℕ). getD x n 0) (h .lowest) ∙ padded-at 60 0 (lowestOf (groupsOf t)) n 0 (label-listed n o) in
-      distinct-places (lowestOf (groupsOf t))
-      (distinct-keep (λ c. eqb (getD (groupsOf t) c 0) c) (upTo (length (groupsOf t))) (distinct-upTo (length (groupsOf t))))
-      i j (label-listed i k) (label-listed j l) (sym (at i k) ∙ same ∙ at j l)
-
-  -- a property of the space at a place is in none before
-  alone : (place : ℕ) → place < length (spaces t) → (c : ℕ) → member c (spaceAt t place .properties) ≡ true
-      → totalsBy (take place (analysis t)) c ≡ []
-  alone place k c m = no-totals c (take place (analysis t)) fails
+  -- a number past the properties is in no space
+  none-past : (c : ℕ) → length (properties t) ≤ c → fixedOf (analysis t) c ≡ 0
+  none-past c h = unfold fixedOf firstAndOne in ap firstAndOne (none (analysis t) (λ a m. m))
     where
-      fails : (a : Analysis) → List·Memᴰ a (take place (analysis t)) → has c a ≡ false
-      fails a n =
-          by-test (has c a)
-          (λ b.
-          let none : Analysis = analyse t (spaceAt t 0) in
-          let p = place-of (take place (analysis t)) a none n in
-          let sized : length (take place (analysis t)) ≡ place = length-take-le place (analysis t) (omega (arith, length-analysis t)) in
-          let before : p .0 < place = omega (arith, p .1) in
-          let there : a ≡ analyse t (spaceAt t (p .0)) =
-          sym (p .2) ∙ getD-take place (analysis t) (p .0) none before ∙ analysis-at t (p .0) none (omega arith) in
-          let same : a .space ≡ spaceAt t (p .0) = ap (λ (x : Analysis). x .space) there ∙ space-of-analysis t (spaceAt t (p .0)) in
-          let first = labelled (p .0) (omega arith) c (ap (λ (u : Space). member c (u .properties)) (sym same) ∙ b) in
-          let i = one-place (p .0) place (omega arith) k (sym first ∙ labelled place k c m) in
-          absurd (omega arith))
-          (λ b. b)
+      none : (analyses : List Analysis) → ((a : Analysis) → List·Memᴰ a analyses → List·Memᴰ a (analysis t)) → totalsBy analyses c ≡ []
+      none [] inside = unfold totalsBy keep flatMap in refl
+      none (a ∷ analyses) inside =
+          totals-parts c (a ∷ []) analyses
+          ∙ ap (λ (l : List ℕ). l ++ totalsBy analyses c)
+          (totals-one c a false
+          (by-test (has c a)
+          (λ e.
+          let p = analysed t a (inside a (List·Memᴰ·head refl)) in
+          let s : a .space ≡ p .0 = ap (λ (z : Analysis). z .space) (p .2) ∙ space-of-analysis t (p .0) in
+          absurd (omega (arith, properties-known t (p .0) (p .1) c (subst (λ (u : Space). member c (u .properties) ≡ true) s e))))
+          (λ e. e)))
+          ∙ none analyses (λ x m. inside x (List·Memᴰ·tail m))
 
-  -- the properties of its group are a space's properties
-  own-listed : (i : ℕ) → i < length (spaces t) → size ≤ length (s .groups)
-      → propertiesOf (s .groups) size (getD (s .lowest) i 0) ≡ spaceAt t i .properties
-  unfolding propertiesOf ownOf
-  own-listed i k long =
-      keep-ext _ _ (upTo size) (λ c m. ap (λ (x : ℕ). eqb x (getD (s .lowest) i 0)) (sym (getD-take size (s .groups) c 0 (upTo-at size c m))))
-      ∙ ap (λ (n : ℕ). keep (λ d. eqb (getD (take size (s .groups)) d 0) (getD (s .lowest) i 0)) (upTo n)) (sym (length-take-le size (s .groups) long))
-      ∙ own-at t i k s h size e
-
-  -- the ones of its mask are its members
-  members-counted : (i : ℕ) → i < length (spaces t) → ones (getD (s .members) i 0) ≡ length (spaceAt t i .members)
-  unfolding maskOf upTo
-  members-counted i k =
-      ap ones (members-at t i k s h)
-      ∙ ones-mask 0 (spaceAt t i .members)
-      (subst (Ascending 0) (sym (members-are t i k)) (keep-ascending (λ o. belongs t o (labelAt t i k)) 0 (t .objects)))
-
-  -- one space more
-  totals-next : (place members : ℕ) (own : List ℕ) (bags : List Bag) (before after : List ℕ) → place < length (spaces t)
-      → own ≡ spaceAt t place .properties → bags ≡ analyse t (spaceAt t place) .conditions → members ≡ length (spaceAt t place .members)
-      → TotalsTo t place before → Entered own bags members before after → TotalsTo t (place + 1) after
-  totals-next place members own bags before after k o b m r enter = record { entries = entry }
-    where
-      entry : (c : ℕ) → getD after c 0 ≡ fixedOf (take (place + 1) (analysis t)) c
-      entry c =
-          let u = spaceAt t place in
-          let a = analyse t u in
-          let is = space-of-analysis t u in
-          enter .entries c
-          ∙ rw (o, b, m, r .entries c)
-          (sym
-          (ap (λ (l : List Analysis). fixedOf l c)
-          (ap (λ (n : ℕ). take n (analysis t)) (add-one place)
-          ∙ take-suc (analysis t) place a (omega (arith, length-analysis t))
-          ∙ ap (λ (x : Analysis). take place (analysis t) ++ (x ∷ [])) (analysis-at t place a k))
-          ∙ next-total c (take place (analysis t)) a (λ n. alone place k c (ap (λ (x : Space). member c (x .properties)) (sym is) ∙ n))
-          ∙ ap
-          (λ (x : Space).
-          cond (member c (x .properties)) (givenBy (length (x .members)) (map (countOf (x .properties) c) (a .conditions)))
-          (fixedOf (take place (analysis t)) c))
-          is))
-
--- ---- at a place of the code's spaces
-
-module _ (s : Spaces) (place size rules : ℕ) (starts finishes counts : List ℕ) (t : Task) (g : Given t s size rules starts finishes counts)
-    (inside : place < s .count) where
-  known : place < length (spaces t)
-  known = omega (arith, g .spaces-are .count)
-
-  abbrev own : List ℕ
-  own = propertiesOf (s .groups) size (getD (s .lowest) place 0)
-
-  module _ (long : length (s .groups) ≡ 60) (r : Analysed) {origins targets nowOrigins nowTargets : List ℕ}
-      (a : AnalysisOf t (spaceAt t place) r origins targets nowOrigins nowTargets) where
-    own-is : own ≡ spaceAt t place .properties
-    own-is =
-        own-listed t s (g .spaces-are) size (g .properties-counted) place known
-        (omega (arith, g .properties-counted, properties-few t (g .checked)))
-
-    narrow : length (spaceAt t place .properties) ≤ 60
-    narrow = own-few t place known (g .checked)
-
-    own-counted : r .size ≡ length own
-    own-counted = a .sized ∙ ap length (sym own-is)
-
-    -- its totals can be entered
-    pub enterable : (fixed : List ℕ) (members : ℕ) → length fixed ≡ 60 → members ≡ ones (getD (s .members) place 0)
-        → Enterable (s .groups) size (getD (s .lowest) place 0) (r .count) members (r .bags) fixed
-    enterable fixed members sized e = record {
-      rows-there = subst (λ (n : ℕ). HasRows n (r .count) (r .bags)) own-counted (has-rows t (spaceAt t place) narrow r a);
-      groups-long = omega (arith, g .properties-counted, properties-few t (g .checked));
-      places-there = omega (arith, g .properties-counted, properties-few t (g .checked));
-      few-members =
-          omega (
-            arith,
-            members-counted t s (g .spaces-are) size (g .properties-counted) place known,
-            ap length (members-are t place known),
-            keep-few (λ o. belongs t o (labelAt t place known)) (t .objects),
-            checked t (g .checked) .few-objects,
-          );
-    }
-
-    -- and then are
-    pub entered : (before after : List ℕ) (members : ℕ) → members ≡ ones (getD (s .members) place 0)
-        → Entered own (bagsIn (length own) (r .count) (r .bags)) members before after
-        → TotalsTo t place before → TotalsTo t (place + 1) after
-    entered before after members e enter so-far =
-        totals-next t s (g .spaces-are) size (g .properties-counted) place members own
-        (bagsIn (length own) (r .count) (r .bags)) before after known own-is
-        (ap (λ (n : ℕ). bagsIn n (r .count) (r .bags)) (sym own-counted) ∙ bags-are t (spaceAt t place) narrow r a)
-        (e ∙ members-counted t s (g .spaces-are) size (g .properties-counted) place known) so-far enter
+  -- so the spaces of a task enter its totals
+  pub totals-are : checkTask t ≡ accepted tt → totalsOf (analysis t) ≡ fixedTable t
+  unfolding fixedTable padded row
+  totals-are ok =
+      let few = properties-few t ok in
+      let entries = map (fixedOf (analysis t)) (upTo (length (properties t))) in
+      let counted : length entries ≡ length (properties t) = length-map (upTo (length (properties t))) (fixedOf (analysis t)) ∙ length-upTo (length (properties t)) in
+      ext-getD 0 (totalsOf (analysis t)) (row entries) (length-totals (analysis t) ∙ sym (length-row entries (omega arith)))
+      (λ c k.
+      let inside : c < 60 = subst (λ (n : ℕ). c < n) (length-totals (analysis t)) k in
+      ap (λ (l : List Analysis). getD (totalsOf l) c 0) (sym (take-all (length (analysis t)) (analysis t) (le-refl _)))
+      ∙ totals-to (length (analysis t)) c (le-refl _) inside
+      ∙ ap (λ (l : List Analysis). fixedOf l c) (take-all (length (analysis t)) (analysis t) (le-refl _))
+      ∙ by-test (ltb c (length (properties t)))
+      (λ e.
+      let h = ltb-true c (length (properties t)) e in
+      sym
+      (getD-row entries c
+      ∙ getD-map (fixedOf (analysis t)) (upTo (length (properties t))) c 0 0 (subst (λ (n : ℕ). c < n) (sym (length-upTo _)) h)
+      ∙ ap (fixedOf (analysis t)) (getD-upTo (length (properties t)) c 0 h)))
+      (λ e.
+      let h = ltb-false c (length (properties t)) e in
+      none-past c h ∙ sym (getD-row entries c ∙ List·getD-eq-default entries 0 (subst (λ (n : ℕ). n ≤ c) (sym counted) h))))

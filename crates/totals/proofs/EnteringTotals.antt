@@ -2,29 +2,22 @@
 use Prim.Native.Nat.{ℕ, _+_, _*_, _≤_, _<_}
 use native.Mathlib.Nat.{zero-add, mul-le-mul}
 use native.Mathlib.Numerals.{add-one}
-use native.Mathlib.Omega.{arith}
 use mathlib.Core.Path.{_≡_, refl, sym, ap, _∙_, subst}
-use mathlib.Core.Bool.{Bool, true, false, cond, _&&_}
-use mathlib.Core.List.{List, [], _∷_, map, map-map}
-use lib.Dec.{eqb, ltb}
-use lib.ListN.{length, getD, set}
-use borrow.Author.Tests.{eq-eqb, ne-eqb, ltb-true, ltb-false}
-use Rattle.laws.specs.Lists.{all, keep, upTo, from, member}
-use Rattle.laws.specs.Bags.{Bag}
+use mathlib.Core.Bool.{Bool, true, false, cond, _&&_, _||_}
+use mathlib.Core.List.{List, [], _∷_, map, foldl, foldl-append}
+use lib.Dec.{eqb}
+use lib.ListN.{length, getD, take, set, length-set}
+use lib.Seq.{take-suc, getD-set-same, getD-set-other}
+use borrow.Author.Tests.{eq-eqb, ne-eqb, eqb-true, eqb-false}
+use Rattle.laws.specs.Lists.{any, all, upTo, from, member, distinct}
 use Rattle.laws.proofs.Tests.{by-test}
-use Rattle.laws.proofs.Lists.{upTo-at}
-use Rattle.laws.proofs.Mapped.{map-ext}
-use Rattle.laws.proofs.Numbers.{member-keep-upTo, kept-below}
 use Rattle.laws.proofs.Walks.{left, left-all, left-one, left-none}
-use Rattle.laws.proofs.Fronts.{Reworked, rework-start, rework-set, rework-keep}
 use Rattle.model.specs.Lines.{countOf, oneNumber}
-use Rattle.properties.specs.Tables.{stride, bagAt, bagsIn, HasRows}
+use Rattle.properties.specs.Tables.{stride, bagsIn, HasRows}
 use Rattle.sections.specs.Limits.{columnOf}
-use Rattle.properties.proofs.Rows.{getD-bagAt}
-use Rattle.conditions.proofs.Rows.{has-row}
-use Rattle.sections.proofs.Columns.{Passed, column-inside, column-counts}
+use Rattle.sections.proofs.Columns.{column-is}
 use Rattle.closing.specs.Fixed.{firstAndOne}
-use Rattle.totals.specs.Totals.{givenBy, Entered}
+use Rattle.totals.specs.Totals.{givenBy}
 
 -- ---- a column
 
@@ -78,26 +71,12 @@ module _ (table : List ℕ) (count column : ℕ) where
       (ap (λ (ns : List ℕ). firstAndOne (map (λ m. m * members) ns))
       (d ∙ ap (λ (rows : List ℕ). cond (all (eqb n) (counts rows)) (n ∷ []) []) (left-none i count h)))
 
--- the counts of a property over the bags of a table are its column
-pub column-is : (own : List ℕ) (c size count column : ℕ) (table : List ℕ) → HasRows size count table → column < size
-    → ((b : Bag) → countOf own c b ≡ getD b column 0)
-    → map (countOf own c) (bagsIn size count table) ≡ columnOf table count column
-unfolding bagsIn columnOf
-column-is own c size count column table h inside counts-are =
-    map-map (countOf own c) (bagAt size table) (upTo count)
-    ∙ map-ext _ _ (upTo count)
-    (λ i m. counts-are (bagAt size table i) ∙ getD-bagAt (has-row size count table h i (upTo-at count i m)) column inside)
-
--- so what a column gives is what its property gives
-pub column-gives : (test : ℕ → Bool) (size count members : ℕ) (table : List ℕ) (c column : ℕ) {r : ℕ}
-    → HasRows (length (keep test (upTo size))) count table → Passed test size (keep test (upTo size)) c column → c < size → test c ≡ true
-    → r ≡ givenBy members (columnOf table count column)
-    → r ≡ givenBy members (map (countOf (keep test (upTo size)) c) (bagsIn (length (keep test (upTo size))) count table))
-column-gives test size count members table c column rows p h e is =
-    is
-    ∙ ap (givenBy members)
-    (sym
-    (column-is (keep test (upTo size)) c (length (keep test (upTo size))) count column table rows (column-inside p h e) (column-counts p h e)))
+-- so the column of a property gives its total
+pub column-gives : (own : List ℕ) (count members : ℕ) (table : List ℕ) (column : ℕ) {r : ℕ} → HasRows (length own) count table
+    → distinct own ≡ true → column < length own → r ≡ givenBy members (columnOf table count column)
+    → r ≡ givenBy members (map (countOf own (getD own column 0)) (bagsIn (length own) count table))
+column-gives own count members table column rows apart h is =
+    is ∙ ap (givenBy members) (sym (column-is own count table column rows apart h))
 
 -- a total is small
 pub total-small : (n members : ℕ) → n ≤ 65535 → members ≤ 64 → n * members ≤ 4194240
@@ -105,47 +84,40 @@ total-small n members h k = mul-le-mul h k
 
 -- ---- the properties of a space
 
-module _ (test : ℕ → Bool) (size : ℕ) (bags : List Bag) (members : ℕ) (before : List ℕ) where
-  abbrev own : List ℕ
-  own = keep test (upTo size)
+module _ (entry : ℕ → ℕ) where
+  -- entries set one after the other
+  abbrev pub setAll : List ℕ → List ℕ → List ℕ
+  setAll before own = foldl (λ f c. set f c (entry c)) before own
 
-  -- the entry of a property
-  unfoldable pub entry : ℕ → ℕ
-  entry c = cond (member c own) (givenBy members (map (countOf own c) bags)) (getD before c 0)
+  pub length-set-all : (before own : List ℕ) → length (setAll before own) ≡ length before
+  length-set-all before [] = refl
+  length-set-all before (c ∷ own) = length-set-all (set before c (entry c)) own ∙ length-set before c (entry c)
 
-  abbrev pub EnteredTo : ℕ → List ℕ → Type 0
-  EnteredTo c after = Reworked entry (λ k. getD before k 0) (length before) c after
-
-  pub enter-start : EnteredTo 0 before
-  enter-start = rework-start entry (λ k. getD before k 0) (length before) before refl (λ j. refl)
-
-  -- an own property
-  pub enter-own : (c total : ℕ) (after : List ℕ) → c < size → c < length before → test c ≡ true
-      → total ≡ givenBy members (map (countOf own c) bags) → EnteredTo c after → EnteredTo (c + 1) (set after c total)
-  unfolding entry
-  enter-own c total after h k e is r =
-      rework-set entry (λ j. getD before j 0) (length before) c total after k
-      (is ∙ sym (ap (λ (b : Bool). cond b (givenBy members (map (countOf own c) bags)) (getD before c 0)) (member-keep-upTo test size c h ∙ e))) r
-
-  -- another
-  pub enter-other : (c : ℕ) (after : List ℕ) → c < size → test c ≡ false → EnteredTo c after → EnteredTo (c + 1) after
-  unfolding entry
-  enter-other c after h e r =
-      rework-keep entry (λ j. getD before j 0) (length before) c after
-      (sym (ap (λ (b : Bool). cond b (givenBy members (map (countOf own c) bags)) (getD before c 0)) (member-keep-upTo test size c h ∙ e))) r
-
-  -- all
-  pub enter-end : (c : ℕ) (after : List ℕ) → c ≡ size → EnteredTo c after → Entered own bags members before after
-  unfolding entry
-  enter-end c after e r = record { sized = r .sized; entries = at }
+  -- each of the properties has its entry then, and the others have what they had
+  pub set-all-at : (before own : List ℕ) (c : ℕ) → c < length before → getD (setAll before own) c 0 ≡ cond (member c own) (entry c) (getD before c 0)
+  unfolding member any
+  set-all-at before [] c h = refl
+  set-all-at before (d ∷ own) c h =
+      set-all-at (set before d (entry d)) own c (subst (λ (n : ℕ). c < n) (sym (length-set before d (entry d))) h)
+      ∙ by-test (eqb c d)
+      (λ e.
+      let same = eqb-true c d e in
+      ap (λ (x : ℕ). cond (member c own) (entry c) x)
+      (subst (λ (x : ℕ). getD (set before x (entry x)) c 0 ≡ entry c) same (getD-set-same before c (entry c) 0 h))
+      ∙ either-way (member c own)
+      ∙ sym (ap (λ (b : Bool). cond (b || member c own) (entry c) (getD before c 0)) e))
+      (λ e.
+      ap (λ (x : ℕ). cond (member c own) (entry c) x) (getD-set-other before d c (entry d) 0 (eqb-false c d e))
+      ∙ sym (ap (λ (b : Bool). cond (b || member c own) (entry c) (getD before c 0)) e))
     where
-      at : (k : ℕ) → getD after k 0 ≡ entry k
-      at k =
-          by-test (ltb k size)
-          (λ t. r .done k (subst (λ (n : ℕ). k < n) (sym e) (ltb-true k size t)))
-          (λ t.
-          let h = ltb-false k size t in
-          r .ahead k (subst (λ (n : ℕ). n ≤ k) (sym e) h)
-          ∙ sym
-          (ap (λ (b : Bool). cond b (givenBy members (map (countOf own k) bags)) (getD before k 0))
-          (by-test (member k own) (λ m. absurd (let l = kept-below test size k m in omega arith)) (λ f. f))))
+      either-way : {n : ℕ} (b : Bool) → cond b n n ≡ n
+      either-way true = refl
+      either-way false = refl
+
+  -- one more
+  pub set-all-next : (before own : List ℕ) (j : ℕ) → j < length own
+      → set (setAll before (take j own)) (getD own j 0) (entry (getD own j 0)) ≡ setAll before (take (j + 1) own)
+  set-all-next before own j h =
+      sym
+      (ap (setAll before) (ap (λ (n : ℕ). take n own) (add-one j) ∙ take-suc own j 0 h)
+      ∙ foldl-append (λ f c. set f c (entry c)) before (take j own) (getD own j 0 ∷ []))

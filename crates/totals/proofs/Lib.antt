@@ -1,4 +1,2 @@
-pub mod Analyses
-pub mod PuttingArities
 pub mod EnteringTotals
 pub mod AllTotals

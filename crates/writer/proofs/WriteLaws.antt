@@ -8,9 +8,9 @@ use mathlib.Core.List.{List, [], _∷_, _++_, map, flatMap, append-assoc, append
 use lib.ListN.{length, getD, take, drop, set, length-append, take-append-drop}
 use lib.Seq.{length-take-le, take-at, drop-at, drop-drop, take-suc, take-all, sets, sets-eq}
 use Rattle.laws.proofs.Lists.{flatMap-append}
-use Rattle.writer_checks.specs.Tables.{entries}
+use Rattle.card.specs.Represents.{entries}
 use Rattle.writer.specs.Bytes.{WritesAt}
-use Rattle.writer_checks.proofs.Entries.{item-at, length-table}
+use Rattle.card.proofs.Entries.{item-at, length-table}
 
 -- nothing
 pub writes-none : (room at : ℕ) (x : List ℕ) → WritesAt room at [] x x at

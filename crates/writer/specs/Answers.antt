@@ -4,9 +4,8 @@ use mathlib.Core.Path.{_≡_}
 use mathlib.Core.List.{List}
 use Rattle.model.specs.Answer.{Answer, refused, accepted}
 use Rattle.model.specs.Calls.{encode}
-use Rattle.card.specs.Represents.{refusalNumber}
+use Rattle.card.specs.Represents.{taskOf, refusalNumber}
 use Rattle.card.specs.declared.Task.{Task}
-use Rattle.writer_checks.specs.Tables.{tableOf}
 use Rattle.writer.specs.declared.Writing.{Writing}
 use Rattle.writer.specs.declared.Writing.the-variants.{Written, Refused, OutputShort}
 
@@ -17,5 +16,5 @@ writingSays OutputShort = refused 21
 
 -- the writer's answer and the output buffer as it leaves it
 pub record Encodes (t : Task) (out after : List ℕ) (w : Writing) : Type 0 where
-  pub answer : writingSays w ≡ encode (tableOf t) out .answer
-  pub buffer : after ≡ encode (tableOf t) out .buffer
+  pub answer : writingSays w ≡ encode (taskOf t) out .answer
+  pub buffer : after ≡ encode (taskOf t) out .buffer

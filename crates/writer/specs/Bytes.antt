@@ -6,10 +6,9 @@ use mathlib.Core.List.{List, _++_}
 use lib.Dec.{leb, eqb}
 use lib.ListN.{length, take, drop}
 use Rattle.laws.specs.Lists.{all}
-use Rattle.card.specs.Represents.{blankSchema}
+use Rattle.card.specs.Represents.{blankSchema, entries}
 use Rattle.card.specs.declared.Schema.{Schema}
 use Rattle.card.specs.declared.Task.{Task}
-use Rattle.writer_checks.specs.Tables.{entries}
 
 -- how many bytes a piece of a card takes at most.
 -- An atom: its predicate and three arguments

@@ -9,12 +9,11 @@ use writer_checks::atoms::arity;
 ghost use mathlib.Core.Path.{_≡_};
 ghost use Prim.Native.Nat.{_+_, _*_, _/_, _%_, _≤_};
 ghost use mathlib.Core.Bool.{true};
-ghost use mathlib.Core.List.{[], _∷_, _++_, map, flatMap};
+ghost use mathlib.Core.List.{[], _∷_, _++_, flatMap};
 ghost use lib.ListN.{length};
 ghost use Rattle.laws.specs.Lists.{all};
 ghost use Rattle.model.specs.Writer.{atomBytes, listBytes, roleBytes, schemaBytes, taskBytes};
-ghost use Rattle.card.specs.Represents.{atomOf, blankAtom, blankSchema};
-ghost use Rattle.writer_checks.specs.Tables.{entries, atomTable, schemaTable, tableOf};
+ghost use Rattle.card.specs.Represents.{blankSchema, entries, atomOf, atomsOf, schemaOf, schemasOf, factsOf, taskOf};
 ghost use Rattle.writer.specs.Bytes.{atomRoom, listRoom, schemaRoom, headerRoom, cardRoom, WritesAt, bitWhere, mapOf, schemaFits, Fits};
 
 // One byte.
@@ -52,7 +51,7 @@ fn write_atom(out: &mut [u8], at: usize, arities: &[u8], a: Atom) -> usize
 fn write_atoms(out: &mut [u8], at: usize, arities: &[u8], list: AtomList) -> usize
     requires { ⌜ (list .count ≤ 8) × (at + atomRoom * list .count ≤ length (now out)) ⌝ }
     ensures { λ r.
-        ⌜ WritesAt (atomRoom * list .count) at (flatMap atomBytes (atomTable (now (arities .entry)) list))
+        ⌜ WritesAt (atomRoom * list .count) at (flatMap atomBytes (atomsOf (now (arities .entry)) list))
         (now (out .entry)) (now (out .exit)) r ⌝ }
 {
     let count = list.count;
@@ -70,7 +69,7 @@ fn write_atoms(out: &mut [u8], at: usize, arities: &[u8], list: AtomList) -> usi
 fn write_list(out: &mut [u8], at: usize, arities: &[u8], list: AtomList) -> usize
     requires { ⌜ (list .count ≤ 8) × (at + listRoom ≤ length (now out)) ⌝ }
     ensures { λ r.
-        ⌜ WritesAt listRoom at (listBytes (atomTable (now (arities .entry)) list)) (now (out .entry)) (now (out .exit)) r ⌝ }
+        ⌜ WritesAt listRoom at (listBytes (atomsOf (now (arities .entry)) list)) (now (out .entry)) (now (out .exit)) r ⌝ }
 {
     let count = list.count;
     if count == 0 {
@@ -116,7 +115,7 @@ fn map_of(s: Schema) -> u8
 fn write_schema(out: &mut [u8], at: usize, arities: &[u8], s: Schema) -> usize
     requires { ⌜ (schemaFits s ≡ true) × (at + schemaRoom ≤ length (now out)) ⌝ }
     ensures { λ r.
-        ⌜ WritesAt schemaRoom at (schemaBytes (schemaTable (now (arities .entry)) s)) (now (out .entry)) (now (out .exit)) r ⌝ }
+        ⌜ WritesAt schemaRoom at (schemaBytes (schemaOf (now (arities .entry)) s)) (now (out .entry)) (now (out .exit)) r ⌝ }
 {
     let parameters = s.parameters;
     let preconditions = s.preconditions;
@@ -136,7 +135,7 @@ fn write_schemas(out: &mut [u8], at: usize, arities: &[u8], list: SchemaList) ->
         × (at + schemaRoom * list .count ≤ length (now out)) ⌝ }
     ensures { λ r.
         ⌜ WritesAt (schemaRoom * list .count) at
-        (flatMap schemaBytes (map (schemaTable (now (arities .entry))) (entries (list .count) blankSchema (list .schemas))))
+        (flatMap schemaBytes (schemasOf (now (arities .entry)) list))
         (now (out .entry)) (now (out .exit)) r ⌝ }
 {
     let count = list.count;
@@ -155,7 +154,7 @@ fn write_facts(out: &mut [u8], at: usize, arities: &[u8], list: FactList) -> usi
     requires { ⌜ (list .count ≤ 512) × (at + atomRoom * list .count ≤ length (now out)) ⌝ }
     ensures { λ r.
         ⌜ WritesAt (atomRoom * list .count) at
-        (flatMap atomBytes (map (atomOf (now (arities .entry))) (entries (list .count) blankAtom (list .facts))))
+        (flatMap atomBytes (factsOf (now (arities .entry)) list))
         (now (out .entry)) (now (out .exit)) r ⌝ }
 {
     let count = list.count;
@@ -209,7 +208,7 @@ fn write_header(out: &mut [u8], arities: &[u8], objects: usize, schemas: usize) 
 // The whole card.
 pub fn write_task(out: &mut [u8], task: Task) -> usize
     requires { ⌜ (Fits task) × (cardRoom ≤ length (now out)) ⌝ }
-    ensures { λ r. ⌜ WritesAt cardRoom 0 (taskBytes (tableOf task)) (now (out .entry)) (now (out .exit)) r ⌝ }
+    ensures { λ r. ⌜ WritesAt cardRoom 0 (taskBytes (taskOf task)) (now (out .entry)) (now (out .exit)) r ⌝ }
 {
     let predicates = task.predicates;
     let schemas = task.schemas;

@@ -1,6 +1,4 @@
 pub mod AtomLaws
-pub mod Entries
-pub mod KeptTables
 pub mod Loops
 pub mod Sequence
 pub mod SchemaLaws

@@ -10,8 +10,8 @@ use Rattle.laws.specs.Lists.{any, all}
 use Rattle.model.specs.Answer.{Answer, _>>_}
 use Rattle.model.specs.Writer.{each}
 use Rattle.card.specs.declared.Refusal.{Refusal}
-use Rattle.writer_checks.specs.Tables.{entries}
-use Rattle.writer_checks.proofs.Entries.{next-item, no-item}
+use Rattle.card.specs.Represents.{entries}
+use Rattle.card.proofs.Entries.{next-item, no-item}
 use Rattle.writer_checks.specs.Checking.{checkedSays, previous}
 use Rattle.writer_checks.specs.declared.checking.Checked.{Checked}
 use Rattle.writer_checks.specs.declared.checking.Checked.the-variants.{Passed, Refused}

@@ -1,14 +1,13 @@
 -- What the parts of the writer's check answer: document 01's refusals in the code's terms.
 use Prim.Native.Nat.{ℕ, zero, suc}
-use mathlib.Core.List.{List, map}
+use mathlib.Core.List.{List}
 use mathlib.Core.Option.{Option, none, some}
 use Rattle.model.specs.Answer.{Answer, refused, accepted, _>>_, need}
 use Rattle.model.specs.Card as model
 use Rattle.model.specs.Writer.{known, checkSchemas, checkFacts}
-use Rattle.card.specs.Represents.{atomOf, blankAtom, blankSchema, refusalNumber}
+use Rattle.card.specs.Represents.{schemasOf, factsOf, refusalNumber}
 use Rattle.card.specs.declared.SchemaList.{SchemaList}
 use Rattle.card.specs.declared.FactList.{FactList}
-use Rattle.writer_checks.specs.Tables.{entries, schemaTable}
 use Rattle.writer_checks.specs.declared.checking.Checked.{Checked}
 use Rattle.writer_checks.specs.declared.checking.Checked.the-variants.{Passed, Refused}
 
@@ -31,5 +30,5 @@ checkOrdered arities bound unknown disorder before a = do
 unfoldable pub checkRest : List ℕ → ℕ → SchemaList → FactList → Answer (Unit {0})
 checkRest arities objects schemas facts = do
   need (model.between 1 64 objects) 3
-  checkSchemas arities (map (schemaTable arities) (entries (schemas .count) blankSchema (schemas .schemas)))
-  checkFacts arities objects (map (atomOf arities) (entries (facts .count) blankAtom (facts .facts)))
+  checkSchemas arities (schemasOf arities schemas)
+  checkFacts arities objects (factsOf arities facts)

@@ -13,13 +13,11 @@ use card::Task;
 ghost use mathlib.Core.Path.{_≡_};
 ghost use Prim.Native.Nat.{_≤_};
 ghost use mathlib.Core.Option.{none};
-ghost use mathlib.Core.List.{map};
 ghost use Rattle.model.specs.Answer.{need};
 ghost use Rattle.model.specs.Card as model;
 ghost use Rattle.model.specs.Writer as writer;
 ghost use Rattle.card.specs.Fields.{fieldTest, fieldRefusal};
-ghost use Rattle.card.specs.Represents.{atomOf, refusalNumber, blankAtom, blankSchema};
-ghost use Rattle.writer_checks.specs.Tables.{entries, atomTable, schemaTable, tableOf};
+ghost use Rattle.card.specs.Represents.{atomOf, atomsOf, schemaOf, schemasOf, factsOf, taskOf, refusalNumber};
 ghost use Rattle.writer_checks.specs.Checking.{checkedSays, previous, checkOrdered, checkRest};
 
 // What a check answers.
@@ -31,7 +29,7 @@ pub enum Checked {
 // The atom is on the list.
 fn has_atom(arities: &[u8], list: AtomList, a: Atom) -> bool
     requires { ⌜ list .count ≤ 8 ⌝ }
-    ensures { λ r. ⌜ r ≡ model.has (atomTable (now (arities .entry)) list) (atomOf (now (arities .entry)) a) ⌝ }
+    ensures { λ r. ⌜ r ≡ model.has (atomsOf (now (arities .entry)) list) (atomOf (now (arities .entry)) a) ⌝ }
 {
     let count = list.count;
     let mut i = 0;
@@ -76,7 +74,7 @@ fn check_field(arities: &[u8], field: ListField, preconditions: AtomList, a: Ato
     requires { ⌜ preconditions .count ≤ 8 ⌝ }
     ensures { λ r.
         ⌜ checkedSays r ≡ need
-        (fieldTest field (atomTable (now (arities .entry)) preconditions) (atomOf (now (arities .entry)) a))
+        (fieldTest field (atomsOf (now (arities .entry)) preconditions) (atomOf (now (arities .entry)) a))
         (refusalNumber (fieldRefusal field)) ⌝ }
 {
     match field {
@@ -111,7 +109,7 @@ fn check_schema_atom(
     requires { ⌜ preconditions .count ≤ 8 ⌝ }
     ensures { λ r.
         ⌜ checkedSays r ≡ writer.checkSchemaAtom (now (arities .entry)) parameters
-        (fieldTest field (atomTable (now (arities .entry)) preconditions)) (refusalNumber (fieldRefusal field))
+        (fieldTest field (atomsOf (now (arities .entry)) preconditions)) (refusalNumber (fieldRefusal field))
         (previous i (atomOf (now (arities .entry)) before)) (atomOf (now (arities .entry)) a) ⌝ }
 {
     let ordered = check_atom(
@@ -141,8 +139,8 @@ fn check_atoms(
     ensures { λ r.
         ⌜ checkedSays r ≡ writer.each
         (writer.checkSchemaAtom (now (arities .entry)) parameters
-        (fieldTest field (atomTable (now (arities .entry)) preconditions)) (refusalNumber (fieldRefusal field)))
-        none (atomTable (now (arities .entry)) list) ⌝ }
+        (fieldTest field (atomsOf (now (arities .entry)) preconditions)) (refusalNumber (fieldRefusal field)))
+        none (atomsOf (now (arities .entry)) list) ⌝ }
 {
     let count = list.count;
     let mut before = list.atoms[0];
@@ -171,8 +169,8 @@ fn check_list(
     ensures { λ r.
         ⌜ checkedSays r ≡ writer.checkList
         (writer.checkSchemaAtom (now (arities .entry)) parameters
-        (fieldTest field (atomTable (now (arities .entry)) preconditions)) (refusalNumber (fieldRefusal field)))
-        (atomTable (now (arities .entry)) list) ⌝ }
+        (fieldTest field (atomsOf (now (arities .entry)) preconditions)) (refusalNumber (fieldRefusal field)))
+        (atomsOf (now (arities .entry)) list) ⌝ }
 {
     if list.count > 8 {
         return Checked::Refused(Refusal::ListRange);
@@ -182,7 +180,7 @@ fn check_list(
 
 // 5: a schema.
 fn check_schema(arities: &[u8], s: Schema) -> Checked
-    ensures { λ r. ⌜ checkedSays r ≡ writer.checkSchema (now (arities .entry)) (schemaTable (now (arities .entry)) s) ⌝ }
+    ensures { λ r. ⌜ checkedSays r ≡ writer.checkSchema (now (arities .entry)) (schemaOf (now (arities .entry)) s) ⌝ }
 {
     let parameters = s.parameters;
     let preconditions = s.preconditions;
@@ -222,7 +220,7 @@ fn check_schemas(arities: &[u8], list: SchemaList) -> Checked
     requires { ⌜ list .count ≤ 32 ⌝ }
     ensures { λ r.
         ⌜ checkedSays r ≡ writer.each (λ before. writer.checkSchema (now (arities .entry))) none
-        (map (schemaTable (now (arities .entry))) (entries (list .count) blankSchema (list .schemas))) ⌝ }
+        (schemasOf (now (arities .entry)) list) ⌝ }
 {
     let count = list.count;
     let mut i = 0;
@@ -242,7 +240,7 @@ fn check_facts(arities: &[u8], objects: usize, list: FactList) -> Checked
     requires { ⌜ list .count ≤ 512 ⌝ }
     ensures { λ r.
         ⌜ checkedSays r ≡ writer.each (writer.checkFact (now (arities .entry)) objects) none
-        (map (atomOf (now (arities .entry))) (entries (list .count) blankAtom (list .facts))) ⌝ }
+        (factsOf (now (arities .entry)) list) ⌝ }
 {
     let count = list.count;
     let mut before = list.facts[0];
@@ -309,7 +307,7 @@ fn check_rest(arities: &[u8], objects: usize, schemas: SchemaList, facts: FactLi
 
 // A table that a card can carry, or the refusal that card order meets first.
 pub fn check_task(task: Task) -> Checked
-    ensures { λ r. ⌜ checkedSays r ≡ writer.checkTask (tableOf task) ⌝ }
+    ensures { λ r. ⌜ checkedSays r ≡ writer.checkTask (taskOf task) ⌝ }
 {
     let predicates = task.predicates;
     let schemas = task.schemas;

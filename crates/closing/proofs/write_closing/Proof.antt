@@ -17,7 +17,7 @@ abbrev entry : tie.After-shared-slice-known → tie.Start
 entry c = c .before .before
 
 abbrev known : tie.After-write-front → tie.After-shared-slice-known
-known c = c .before .before
+known c = c .before .before .before
 
 abbrev front : tie.After-write-type-lines → tie.After-write-front
 front c = c .before .before .before .before
@@ -29,12 +29,12 @@ room c =
     let s = entry c in
     let task = s .args .task in
     closing-fits (taskOf task) (right task (s .pre .0)) (s .args .fixed .now) (s .pre .1 .1 .0)
-    (properties-few (taskOf task) (s .pre .0 .checked)) (λ i. omega (arith, c .shared-slice-known .given i)) (s .args .out .now) (s .pre .1 .1 .1)
+    (properties-few (taskOf task) (s .pre .0 .checked)) (λ i. omega (arith, c .shared-slice-known .given i)) (s .args .out .now) (s .pre .1 .1 .1 .1)
 
 write-front-requires : tie.Need-write-front-requires
 write-front-requires c κs =
-    let s = entry (c .before) in
-    (s .pre .0, (s .pre .1 .1 .0, first-fits (closing-parts _) (room (c .before))))
+    let s = entry (c .before .before) in
+    (s .pre .0, (s .pre .1 .1 .0, first-fits (closing-parts _) (room (c .before .before))))
 
 sub-write-type-lines : tie.Need-sub-write-type-lines
 sub-write-type-lines c =
@@ -51,7 +51,7 @@ write-type-lines-requires : tie.Need-write-type-lines-requires
 write-type-lines-requires c κs =
     let written = c .before .before .before in
     let s = entry (known written) in
-    (s .pre .0, (s .pre .1 .0, second-fits (closing-parts _) (room (known written)) (written .write-front .ensures)))
+    (s .pre .0, (s .pre .1 .0, (s .pre .1 .1 .1 .0, second-fits (closing-parts _) (room (known written)) (written .write-front .ensures))))
 
 returns : tie.Need-returns
 returns c =

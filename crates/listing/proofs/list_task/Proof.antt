@@ -7,8 +7,8 @@ use Rattle.listing.proofs.list_task.Tie as tie
 returns : tie.Need-returns
 returns c = list-short _ _ _ (c .if1 .taken)
 
-rules-at-most-requires : tie.Need-rules-at-most-requires
-rules-at-most-requires c κs = search needs
+rows-at-most-requires : tie.Need-rows-at-most-requires
+rows-at-most-requires c κs = search needs
 
 list-small-requires : tie.Need-list-small-requires
 list-small-requires c κs = search needs
@@ -33,7 +33,7 @@ list-task-spec =
     tie.close
     (tie.spec
     returns
-    rules-at-most-requires
+    rows-at-most-requires
     list-small-requires
     same-length
     returns-2

@@ -1,91 +1,145 @@
--- No section past the closing one; the others are written.
-use Prim.Native.Nat.{ℕ, _*_, _≤_}
-use native.Mathlib.Omega.{arith}
-use mathlib.Core.Path.{_≡_, refl, _∙_}
-use lib.ListN.{length}
-use Rattle.model.specs.Answer.{accepted}
-use Rattle.model.specs.Card.{Task}
-use Rattle.model.specs.Writer.{checkTask}
-use Rattle.model.specs.Transitions.{transitions}
-use Rattle.rules.specs.Tables.{rulesAtMost}
-use Rattle.rules.proofs.RuleRoom.{rules-at-most}
-use Rattle.listing.proofs.Answering.{list-unknown, list-written}
+-- No section past the closing one; that of a space, or the closing one.
 use borrow.Author.Needs.{needs}
+use Rattle.prepared.proofs.Analysing.{found-of}
+use Rattle.prepared.proofs.Totalling.{preconditions-given}
+use Rattle.listing.proofs.Answering.{list-unknown, list-written}
+use Rattle.listing.proofs.Totalling.{found-for}
+use Rattle.listing.proofs.Listing.{given-filled, analysable-given, space-listed, closing-listed}
 use Rattle.listing.proofs.list_with.Statement.{statement}
 use Rattle.listing.proofs.list_with.Tie as tie
 
--- a table with room for the most rules has room for those that there are
-moves-fit : (t : Task) (rules : ℕ) → checkTask t ≡ accepted tt → rules ≡ length (transitions t) → (before room : ℕ) → room ≡ before
-    → 60 * rulesAtMost t ≤ before → 60 * rules ≤ room
-moves-fit t rules ok e before room same h = omega (arith, rules-at-most t ok)
-
--- what is given, from the call of `prepare`
+-- the start, from the tables filled
 abbrev entry : tie.After-prepare → tie.Start
-entry c = c .before .before .before .before .before .before .before .before .before .before .before
-
--- the call of `prepare`, from where there is no such section
-abbrev prepared : tie.Then1 → tie.After-prepare
-prepared c = c .before .before .before .before .before .before .before .before .before .before
-
--- the calls and the test, from where the section is written
-abbrev written : tie.After-slice-known13 → tie.After-write-section
-written c = c .before .before .before .before .before .before
-
-abbrev tested : tie.After-slice-known13 → tie.Else1
-tested c = written c .before .before .before .before .before .before .before
-
-abbrev filled : tie.After-slice-known13 → tie.After-prepare
-filled c = tested c .before .before .before .before .before .before .before .before .before .before
+entry c = c .before .before .before .before .before .before .before .before .before .before .before .before .before
 
 prepare-requires : tie.Need-prepare-requires
 prepare-requires c κs = search needs
 
 same-length : tie.Need-same-length
-same-length c = prepared c .prepare .kept .1 .0
+same-length c = search needs
 
 same-length-2 : tie.Need-same-length-2
-same-length-2 c = prepared c .prepare .kept .1 .1 .0
+same-length-2 c = search needs
 
 same-length-3 : tie.Need-same-length-3
-same-length-3 c = prepared c .prepare .kept .1 .1 .1 .0
+same-length-3 c = search needs
 
 same-length-4 : tie.Need-same-length-4
-same-length-4 c = prepared c .prepare .kept .1 .1 .1 .1 .0
+same-length-4 c = search needs
 
 returns : tie.Need-returns
-returns c = list-unknown _ _ _ _ (prepared c .prepare .ensures .spaces-are) (entry (prepared c) .pre .1 .0) (c .if1 .taken)
+returns c =
+    let filled = c .before .before .before .before .before .before .before .before .before .before .before in
+    let pre = entry filled .pre in
+    list-unknown _ _ _ _ (filled .prepare .ensures .spaces-are) (pre .1 .0) (c .if1 .taken)
 
-write-section-requires : tie.Need-write-section-requires
-write-section-requires c κs =
-    let tested = c .before .before .before .before .before .before in
-    let called = tested .before .before .before .before .before .before .before .before .before .before in
-    let pre = entry called .pre in
-    let given = called .prepare .ensures in
-    let fit = moves-fit _ _ (pre .0 .checked) (given .rules-counted) in
-    let room = pre .1 .1 in
-    (pre .0, (given, ((tested .if1 .left, pre .1 .0), (fit _ _ (called .prepare .kept .1 .0) (room .0 .enablers-room), fit _ _ refl (room .1 .1)))))
+analyse-space-requires : tie.Need-analyse-space-requires
+analyse-space-requires c κs =
+    let filled = c .before .before .before .before .before .before .before .before .before .before .before .before .before .before .before .before .before .before .before in
+    let pre = entry filled .pre in
+    let kept = filled .prepare .kept .1 in
+    let given = given-filled (pre .0 .checked) (pre .1 .1 .0) (pre .1 .1 .1 .0) (filled .prepare .ensures)
+    (kept .0, (kept .1 .0, (kept .1 .1 .0, kept .1 .1 .1 .0))) in
+    analysable-given given (pre .1 .1 .1 .1) (c .before .before .before .before .before .before .if2 .taken)
+
+write-space-section-requires : tie.Need-write-space-section-requires
+write-space-section-requires c κs =
+    let filled = c .before .before .before .before .before .before .before .before .before .before .before .before .before .before .before .before .before .before .before .before .before .before .before .before .before .before .before .before in
+    let pre = entry filled .pre in
+    let kept = filled .prepare .kept .1 in
+    let given = given-filled (pre .0 .checked) (pre .1 .1 .0) (pre .1 .1 .1 .0) (filled .prepare .ensures)
+    (kept .0, (kept .1 .0, (kept .1 .1 .0, kept .1 .1 .1 .0))) in
+    let found = c .before .before .before .before .before .before .before .before .analyse-space in
+    let h = analysable-given given (pre .1 .1 .1 .1) (c .before .before .before .before .before .before .before .before .before .before .before .before .before .before .before .if2 .taken) in
+    (record { task = h .task; of = found-of h (found .ensures) (found .kept .1 .1 .1 .1 .1 .1 .1 .0) }, pre .1 .0)
 
 same-length-5 : tie.Need-same-length-5
-same-length-5 c = written c .write-section .kept .0
+same-length-5 c = search needs
 
 same-length-6 : tie.Need-same-length-6
-same-length-6 c = written c .write-section .kept .1 .1 .1 .1 .1 .1 .1 .0 ∙ filled c .prepare .kept .1 .0
+same-length-6 c = c .before .before .before .before .before .before .before .before .before .before .before .before .before .before .before .before .before .before .before .before .before .before .before .before .before .before .before .before .before .before .before .prepare .kept .1 .0
 
 same-length-7 : tie.Need-same-length-7
-same-length-7 c = filled c .prepare .kept .1 .1 .0
+same-length-7 c = c .before .before .before .before .before .before .before .before .before .before .before .before .before .before .before .before .before .before .before .before .before .before .before .before .before .before .before .before .before .before .before .prepare .kept .1 .1 .0
 
 same-length-8 : tie.Need-same-length-8
-same-length-8 c = filled c .prepare .kept .1 .1 .1 .0
+same-length-8 c = c .before .before .before .before .before .before .before .before .before .before .before .before .before .before .before .before .before .before .before .before .before .before .before .before .before .before .before .before .before .before .before .prepare .kept .1 .1 .1 .0
 
 same-length-9 : tie.Need-same-length-9
-same-length-9 c = filled c .prepare .kept .1 .1 .1 .1 .0
+same-length-9 c = search needs
 
 same-length-10 : tie.Need-same-length-10
-same-length-10 c = written c .write-section .kept .1 .1 .1 .1 .1 .1 .1 .1 .0
+same-length-10 c = search needs
+
+same-length-11 : tie.Need-same-length-11
+same-length-11 c = search needs
+
+same-length-12 : tie.Need-same-length-12
+same-length-12 c = search needs
 
 returns-2 : tie.Need-returns-2
 returns-2 c =
-    list-written _ _ _ _ (filled c .prepare .ensures .spaces-are) (entry (filled c) .pre .1 .0) (tested c .if1 .left) _ _ (written c .write-section .ensures)
+    let filled = c .before .before .before .before .before .before .before .before .before .before .before .before .before .before .before .before .before .before .before .before .before .before .before .before .before .before .before .before .before .before .before in
+    let pre = entry filled .pre in
+    let kept = filled .prepare .kept .1 in
+    let given = given-filled (pre .0 .checked) (pre .1 .1 .0) (pre .1 .1 .1 .0) (filled .prepare .ensures)
+    (kept .0, (kept .1 .0, (kept .1 .1 .0, kept .1 .1 .1 .0))) in
+    let found = c .before .before .before .before .before .before .before .before .before .before .before .analyse-space in
+    let h = analysable-given given (pre .1 .1 .1 .1) (c .before .before .before .before .before .before .before .before .before .before .before .before .before .before .before .before .before .before .if2 .taken) in
+    list-written _ _ _ _ (filled .prepare .ensures .spaces-are) (pre .1 .0) (c .before .before .before .before .before .before .before .before .before .before .before .before .before .before .before .before .before .before .before .before .if1 .left) _ _
+    (space-listed (found-for h (found .ensures) (found .kept .1 .1 .1 .1 .1 .1 .1 .0) given) (c .before .before .write-space-section .ensures))
+
+fixed-totals-requires : tie.Need-fixed-totals-requires
+fixed-totals-requires c κs =
+    let filled = c .before .before .before .before .before .before .before .before .before .before .before .before .before .before .before .before .before .before .before in
+    let pre = entry filled .pre in
+    let kept = filled .prepare .kept .1 in
+    let given = given-filled (pre .0 .checked) (pre .1 .1 .0) (pre .1 .1 .1 .0) (filled .prepare .ensures)
+    (kept .0, (kept .1 .0, (kept .1 .1 .0, kept .1 .1 .1 .0))) in
+    λ number known. analysable-given given (pre .1 .1 .1 .1) known
+
+slice-aggregate-write-closing : tie.Need-slice-aggregate-write-closing
+slice-aggregate-write-closing c = search needs
+
+write-closing-requires : tie.Need-write-closing-requires
+write-closing-requires c κs =
+    let filled = c .before .before .before .before .before .before .before .before .before .before .before .before .before .before .before .before .before .before .before .before .before .before .before .before .before .before .before .before .before in
+    let pre = entry filled .pre in
+    let kept = filled .prepare .kept .1 in
+    let given = given-filled (pre .0 .checked) (pre .1 .1 .0) (pre .1 .1 .1 .0) (filled .prepare .ensures)
+    (kept .0, (kept .1 .0, (kept .1 .1 .0, kept .1 .1 .1 .0))) in
+    (pre .0, (filled .prepare .ensures .spaces-are, (c .before .before .before .before .before .before .before .before .before .fixed-totals .ensures _ _ given, (preconditions-given given, pre .1 .0))))
+
+same-length-13 : tie.Need-same-length-13
+same-length-13 c = search needs
+
+same-length-14 : tie.Need-same-length-14
+same-length-14 c = search needs
+
+same-length-15 : tie.Need-same-length-15
+same-length-15 c = search needs
+
+same-length-16 : tie.Need-same-length-16
+same-length-16 c = search needs
+
+same-length-17 : tie.Need-same-length-17
+same-length-17 c = search needs
+
+same-length-18 : tie.Need-same-length-18
+same-length-18 c = search needs
+
+same-length-19 : tie.Need-same-length-19
+same-length-19 c = search needs
+
+same-length-20 : tie.Need-same-length-20
+same-length-20 c = search needs
+
+returns-3 : tie.Need-returns-3
+returns-3 c =
+    let filled = c .before .before .before .before .before .before .before .before .before .before .before .before .before .before .before .before .before .before .before .before .before .before .before .before .before .before .before .before .before .before .before .before in
+    let pre = entry filled .pre in
+    list-written _ _ _ _ (filled .prepare .ensures .spaces-are) (pre .1 .0) (c .before .before .before .before .before .before .before .before .before .before .before .before .before .before .before .before .before .before .before .before .before .if1 .left) _ _
+    (closing-listed _ (filled .prepare .ensures .spaces-are) (c .before .before .before .before .before .before .before .before .before .before .before .before .before .before .before .before .before .before .before .before .before .if1 .left) (c .before .before .before .before .before .before .before .before .before .before .before .before .before .before .before .before .before .before .before .if2 .left) (c .before .before .write-closing .ensures))
 
 pub list-with-spec : {M : Type 1} → statement M
 list-with-spec =
@@ -97,11 +151,26 @@ list-with-spec =
     same-length-3
     same-length-4
     returns
-    write-section-requires
+    analyse-space-requires
+    write-space-section-requires
     same-length-5
     same-length-6
     same-length-7
     same-length-8
     same-length-9
     same-length-10
-    returns-2)
+    same-length-11
+    same-length-12
+    returns-2
+    fixed-totals-requires
+    slice-aggregate-write-closing
+    write-closing-requires
+    same-length-13
+    same-length-14
+    same-length-15
+    same-length-16
+    same-length-17
+    same-length-18
+    same-length-19
+    same-length-20
+    returns-3)

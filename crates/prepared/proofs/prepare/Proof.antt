@@ -1,42 +1,48 @@
 -- The tables hold the task, and its spaces are those of the tables.
 use native.Mathlib.Omega.{arith}
+use mathlib.Core.Path.{sym, subst}
+use Rattle.card.specs.Represents.{taskOf}
+use Rattle.spaces.specs.SpaceTable.{SpacesOf}
 use Rattle.properties.proofs.TaskParts.{arities-right}
-use Rattle.prepared.proofs.Preparing.{sizes-few, room-for, holds, given, properties-counted}
+use Rattle.prepared.proofs.Preparing.{properties-counted, sizes-few, room-for, spaces-are}
 use borrow.Author.Needs.{needs}
 use Rattle.prepared.proofs.prepare.Statement.{statement}
 use Rattle.prepared.proofs.prepare.Tie as tie
 
--- what is given, from the rules written; these, from the objects' bags; and those, from the number of properties
-abbrev entry : tie.After-rules → tie.Start
+-- earlier points of the function, each reached from the next: start, parameters' bags, objects' bags, properties counted
+abbrev entry : tie.After-parameter-bags → tie.Start
 entry c = c .before .before .before .before .before .before .before .before
 
-abbrev writing : tie.After-object-bags → tie.After-rules
-writing c = c .before .before .before .before .before .before .before .before
+abbrev parameters : tie.After-object-bags → tie.After-parameter-bags
+parameters c = c .before .before .before .before .before .before .before .before
 
-abbrev counting : tie.After-numbered → tie.After-object-bags
-counting c = c .before .before .before
+abbrev objects : tie.After-numbered → tie.After-object-bags
+objects c = c .before .before .before
 
-rules-requires : tie.Need-rules-requires
-rules-requires c κs = search needs
+parameter-bags-requires : tie.Need-parameter-bags-requires
+parameter-bags-requires c κs = search needs
 
 object-bags-requires : tie.Need-object-bags-requires
 object-bags-requires c κs = search needs
 
 numbered-requires : tie.Need-numbered-requires
-numbered-requires c κs = arities-right _ (entry (writing (c .before .before)) .pre .0) .few
+numbered-requires c κs = arities-right _ (entry (parameters (c .before .before)) .pre .0) .few
+
+property-arities-requires : tie.Need-property-arities-requires
+property-arities-requires c κs = arities-right _ (entry (parameters (objects c)) .pre .0)
 
 spaces-of-requires : tie.Need-spaces-of-requires
 spaces-of-requires c κs =
-    let numbered = c .before .before .before .before in
-    let bags = counting numbered .object-bags in
-    let ruled = writing (counting numbered) in
-    let written = ruled .rules in
-    let pre = entry ruled .pre in
-    let counted = properties-counted _ _ (numbered .numbered .ensures) in
-    let few = sizes-few _ (pre .0) _ _ _ _ _ _ _ _ _ _ (written .ensures) (bags .ensures) counted in (
+    let numbered = c .before .before .before .before .before in
+    let bags = objects numbered .object-bags in
+    let called = parameters (objects numbered) in
+    let written = called .parameter-bags in
+    let pre = entry called .pre in
+    let counted = properties-counted _ (numbered .numbered .ensures) in
+    let few = sizes-few _ (pre .0) _ (written .ensures) (bags .ensures) counted in (
       few,
       (
-        room-for _ (pre .0) _ _ _ _ _ _ _ _ _ _ (written .ensures) (bags .ensures) counted (pre .1 .0)
+        room-for _ (pre .0) _ (written .ensures) (bags .ensures) counted (pre .1 .0)
             (written .kept .1 .0) (written .kept .1 .1 .0) (written .kept .1 .1 .1 .0),
         omega (arith, pre .1 .1, bags .kept .1 .0, few .1),
       ),
@@ -55,23 +61,34 @@ same-length-4 : tie.Need-same-length-4
 same-length-4 c = search needs
 
 returns : tie.Need-returns
+unfolding taskOf
 returns c =
-    let numbered = c .before .before .before .before .before in
-    let bags = counting numbered .object-bags in
-    let ruled = writing (counting numbered) in
-    let written = ruled .rules .ensures in
-    let pre = entry ruled .pre in
-    let counted = properties-counted _ _ (numbered .numbered .ensures) in
-    given _ (pre .0) _ _ _ _ _ _ _ _ _ _ written (bags .ensures) counted _
-    (c .spaces-of .ensures _ (holds _ (pre .0) _ _ _ _ _ _ _ _ _ _ written (bags .ensures) counted)) (omega (arith, pre .1 .1, bags .kept .1 .0))
+    let numbered = c .before .before .before .before .before .before in
+    let bags = objects numbered .object-bags in
+    let called = parameters (objects numbered) in
+    let written = called .parameter-bags in
+    let pre = entry called .pre in
+    let counted = properties-counted _ (numbered .numbered .ensures) in
+    let room = room-for _ (pre .0) _ (written .ensures) (bags .ensures) counted (pre .1 .0)
+    (written .kept .1 .0) (written .kept .1 .1 .0) (written .kept .1 .1 .1 .0) in
+    record {
+      tables = written .ensures;
+      counts-are = bags .ensures;
+      properties-counted = counted;
+      arities-are = c .before .before .before .before .before .property-arities .ensures;
+      spaces-are =
+          subst (SpacesOf (taskOf (entry called .args .task))) (sym (c .spaces-of .ensures))
+          (spaces-are _ (pre .0) _ (written .ensures) (bags .ensures) counted room);
+    }
 
 pub prepare-spec : {M : Type 1} → statement M
 prepare-spec =
     tie.close
     (tie.spec
-    rules-requires
+    parameter-bags-requires
     object-bags-requires
     numbered-requires
+    property-arities-requires
     spaces-of-requires
     same-length
     same-length-2

@@ -51,15 +51,5 @@ returns-2 c =
 pub print-card-spec : {M : Type 1} → statement M
 print-card-spec =
     tie.close
-    (tie.spec
-    decode-requires
-    enum-known-verdict
-    refused-line-requires
-    sub-write-all
-    part-write-all-start
-    part-write-all-end
-    write-all-requires
-    enum-told
-    print-listing-requires
-    returns
-    returns-2)
+    (tie.spec decode-requires enum-known-verdict refused-line-requires sub-write-all part-write-all-start part-write-all-end write-all-requires
+    enum-told print-listing-requires returns returns-2)

@@ -62,18 +62,5 @@ returns-3 c =
 pub print-from-spec : {M : Type 1} → statement M
 print-from-spec =
     tie.close
-    (tie.spec
-    read-front-requires
-    enum-known-reading
-    enum-told
-    slice-aggregate-write-all
-    write-all-requires
-    returns
-    sub-print-card
-    part-print-card-start
-    part-print-card-end
-    print-card-requires
-    returns-2
-    slice-aggregate-write-all-2
-    write-all-requires-2
-    returns-3)
+    (tie.spec read-front-requires enum-known-reading enum-told slice-aggregate-write-all write-all-requires returns sub-print-card
+    part-print-card-start part-print-card-end print-card-requires returns-2 slice-aggregate-write-all-2 write-all-requires-2 returns-3)

@@ -3,10 +3,10 @@ use Prim.Native.Nat.{ℕ, _*_, _-_, _≤_}
 use native.Mathlib.Numerals.{add-one}
 use native.Mathlib.Omega.{arith}
 use borrow.Author.Needs.{needs}
-use mathlib.Core.Path.{_≡_, subst}
+use mathlib.Core.Path.{_≡_, sym, ap, _∙_, subst}
 use mathlib.Core.List.{List}
 use lib.ListN.{length, getD, take}
-use Rattle.card.specs.Represents.{aritiesOf}
+use Rattle.card.proofs.Entries.{arities-within}
 use Rattle.properties.specs.Represented.{Numbers}
 use Rattle.properties.proofs.Firsts.{Begun, begin, next, finish}
 use Rattle.properties.proofs.numbered.Statement.{statement}
@@ -61,13 +61,13 @@ loop-again c =
     }
 
 returns : tie.Need-returns Inv-loop μ-loop
-unfolding aritiesOf
 returns c =
     let a = c .before .before .before .args .predicates in
     let l : length (c .before .before .before .args .predicates .arities) ≡ 20 = search needs in
     let end = c .before .loop in
     let e : end .p ≡ a .count = omega arith in
-    subst (λ (n : ℕ). Numbers (take n (a .arities)) (record { count = end .count; firsts = end .firsts })) e
+    subst (λ (l : List ℕ). Numbers l (record { count = end .count; firsts = end .firsts }))
+    (ap (λ (n : ℕ). take n (a .arities)) e ∙ sym (arities-within a (omega arith)))
     (finish (a .arities) (end .p) (end .firsts) (end .count) (omega arith) (end .inv .begun))
 
 pub numbered-spec : {M : Type 1} → statement M

@@ -1,27 +1,22 @@
 -- The bags of all objects. The loop keeps the rows of the bags over the facts passed.
 use Prim.Native.Nat.{ℕ, _*_, _-_, _≤_, _<_}
 use native.Mathlib.Numerals.{add-one}
-use denote.Ref.{now}
-use mathlib.Core.Path.{_≡_, sym, ap, _∙_, subst}
-use mathlib.Core.List.{List, [], _++_}
-use lib.ListN.{length, getD, take, drop, replicate, length-take, length-map}
-use lib.Seq.{take-all}
-use Rattle.laws.specs.Lists.{upTo}
-use Rattle.laws.proofs.Lists.{length-upTo}
+use mathlib.Core.Path.{sym, ap, _∙_, subst}
+use mathlib.Core.List.{List}
+use lib.ListN.{length, getD, take, length-take}
 use Rattle.card.specs.declared.ArityList.{ArityList}
 use Rattle.card.specs.declared.FactList.{FactList}
 use Rattle.card.specs.Represents.{aritiesOf, factsOf, taskOf, blankAtom}
 use Rattle.model.specs.Card as model
 use Rattle.model.specs.Transitions.{properties, propertiesFrom, bagOf}
 use Rattle.properties.specs.Represented.{objectBags}
-use Rattle.properties.proofs.Predicates.{Placed, sum-arities, atom-asked}
-use Rattle.properties.proofs.ParameterBag.{atoms-next}
-use Rattle.card.proofs.Counts.{objects-few, fact-count, facts-few, facts-inside}
-use Rattle.properties.proofs.TaskParts.{arities-right, fact-known, fact-placed}
-use Rattle.properties.proofs.ObjectTable.{BagTable, from-here, table-is, rows-behind}
-use Rattle.properties.proofs.ObjectBags.{cleared-table, fact-fits, fact-counted}
+use Rattle.properties.proofs.Predicates.{Placed, known-placed, sum-arities, arity-asked}
+use Rattle.properties.proofs.AtomCounts.{atoms-next}
+use Rattle.card.proofs.Counts.{objects-few, fact-count, facts-few}
+use Rattle.properties.proofs.TaskParts.{arities-right, fact-known}
+use Rattle.properties.proofs.Entering.{BagTable}
+use Rattle.properties.proofs.AtomByAtom.{none-entered, atom-fits, atom-counted, all-entered}
 use native.Mathlib.Omega.{arith}
-use borrow.Author.Needs.{needs}
 use Rattle.properties.proofs.object_bags.Statement.{statement}
 use Rattle.properties.proofs.object_bags.Tie as tie
 
@@ -63,21 +58,6 @@ room c =
     let large = entry c .pre .1 in
     omega (arith, clearing c .clear-rows .kept .0)
 
--- the emptied table counts no fact
-emptied : (s : tie.Start Inv-loop μ-loop)
-    → BagTable (bagOf (propertiesFrom 0 (aritiesOf (s .args .task .predicates))) []) (s .args .task .objects) (now (s .args .counts))
-    (replicate (60 * s .args .task .objects) 0 ++ drop (60 * s .args .task .objects) (now (s .args .counts)))
-emptied s =
-    let task = s .args .task in
-    let few = objects-few task (s .pre .0) in
-    let large = s .pre .1 in
-    cleared-table (aritiesOf (task .predicates)) (sum-arities (task .predicates) (arities-right task (s .pre .0))) (task .objects)
-    (now (s .args .counts)) (omega arith)
-
--- the array of arities has twenty places
-twenty : (s : tie.Start Inv-loop μ-loop) → length (s .args .task .predicates .arities) ≡ 20
-twenty s = search needs
-
 -- the fact that a turn takes: its predicate is known
 here : (c : tie.After-fact Inv-loop μ-loop)
     → (getD (entry (in-loop c) .args .task .facts .facts) (in-loop c .loop .i) blankAtom .predicate
@@ -86,12 +66,13 @@ here : (c : tie.After-fact Inv-loop μ-loop)
     (getD (entry (in-loop c) .args .task .facts .facts) (in-loop c .loop .i) blankAtom .predicate)
 here c =
     let loop = in-loop c in
-    fact-placed _ (entry loop .pre .0) _ (clearing loop .before .before .before .numbered .ensures .firsts) (twenty (entry loop)) _ blankAtom
-    (c .before .loop-test .taken)
+    let pre = entry loop .pre .0 in
+    known-placed _ _ (arities-right _ pre) (clearing loop .before .before .before .numbered .ensures .firsts) _ _
+    (fact-known _ pre _ (c .before .loop-test .taken))
 
 -- no more facts are passed than there are
 few : (c : tie.At-loop Inv-loop μ-loop)
-    → length (take (c .loop .i) (factsOf (aritiesOf (entry c .args .task .predicates)) (entry c .args .task .facts))) ≤ 512
+    → length (take (c .loop .i) (factsOf (aritiesOf (entry c .args .task .predicates)) (entry c .args .task .facts))) < 65535
 unfolding taskOf
 few c =
     let s = entry c in
@@ -110,9 +91,14 @@ clear-rows-requires c κs =
 loop-holds : tie.Need-loop-holds Inv-loop μ-loop
 loop-holds c =
     let cleared = c .before .before in
+    let s = given cleared in
+    let few = objects-few _ (s .pre .0) in
+    let large = s .pre .1 in
     record {
       inside = omega arith;
-      holds = from-here _ _ _ _ (subst (BagTable _ _ _) (sym (cleared .clear-rows .ensures)) (emptied (given cleared)));
+      holds =
+          none-entered _ _ (cleared .clear-rows .ensures) (aritiesOf (s .args .task .predicates))
+          (sum-arities _ (arities-right _ (s .pre .0))) (omega arith);
     }
 
 mul-fact : tie.Need-mul-fact Inv-loop μ-loop
@@ -145,11 +131,10 @@ enter-fact-requires c κs =
     let loop = in-loop (taken read) in
     let pre = entry loop .pre .0 in
     let predicate-is = read .before .before .wide .ensures .0 in
-    let arity-is = read .wide2 .ensures .0 in
-    let asked = atom-asked _ _ _ _ _ 60 (here (taken read) .1) predicate-is arity-is (omega arith) in (
-      (asked .0, asked .1),
-      fact-fits _ _ (arities-right _ pre) _ _ _ _ _ _ _ (loop .loop .inv .holds) (room loop) (few loop)
-          (fact-known _ pre _ blankAtom (taken read .before .loop-test .taken)) (here (taken read)) predicate-is arity-is,
+    let arity-is = read .wide2 .ensures .0 in (
+      arity-asked (here (taken read) .1) predicate-is arity-is,
+      atom-fits (arities-right _ pre) _ _ _ (loop .loop .inv .holds) (room loop) (few loop)
+          (fact-known _ pre _ (taken read .before .loop-test .taken)) (here (taken read)) predicate-is arity-is,
     )
 
 add-i : tie.Need-add-i Inv-loop μ-loop
@@ -178,9 +163,9 @@ loop-again c =
           subst
           (λ (l : List model.Atom). BagTable (bagOf (propertiesFrom 0 arities) l) (task .objects) (clearing loop .clear-rows .last .0)
           (called .enter-fact .last .0))
-          (sym (atoms-next arities _ _ _ blankAtom (facts-inside task pre) h)
+          (sym (atoms-next arities _ _ _ h)
           ∙ ap (λ (k : ℕ). take k (factsOf arities (task .facts))) (sym (add-one (loop .loop .i))))
-          (fact-counted _ _ (arities-right _ pre) _ _ _ _ _ _ _ (loop .loop .inv .holds) (room loop) (few loop) (fact-known _ pre _ blankAtom h)
+          (atom-counted (arities-right _ pre) _ _ _ (loop .loop .inv .holds) (room loop) (few loop) (fact-known _ pre _ h)
           (here (taken read)) (read .before .before .wide .ensures .0) (read .wide2 .ensures .0) _ (called .enter-fact .ensures));
     }
 
@@ -191,17 +176,9 @@ returns : tie.Need-returns Inv-loop μ-loop
 unfolding taskOf objectBags properties
 returns c =
     let s = entry (c .before) in
-    let at = c .before .loop in
-    let task = s .args .task in
-    let t = taskOf task in
-    let call = clearing (c .before) .clear-rows in
-    let all : take (at .i) (t .facts) ≡ t .facts =
-    take-all (at .i) (t .facts) (omega (arith, c .loop-test .left, fact-count task (s .pre .0))) in
-    table-is (bagOf (properties t) (t .facts)) (t .objects) (call .last .0) (at .counts)
-    (subst (λ (l : List model.Atom). BagTable (bagOf (properties t) l) (t .objects) (call .last .0) (at .counts)) all (at .inv .holds))
-    ∙ rows-behind (objectBags t) (t .objects) (call .last .0) (now (s .args .counts))
-    (length-map (upTo (t .objects)) (bagOf (properties t) (t .facts)) ∙ length-upTo (t .objects))
-    (ap (drop (60 * t .objects)) (call .ensures) ∙ emptied s .beyond)
+    let t = taskOf (s .args .task) in
+    all-entered _ _ (clearing (c .before) .clear-rows .ensures) (properties t) (t .facts) (c .before .loop .i)
+    (omega (arith, c .loop-test .left, fact-count (s .args .task) (s .pre .0))) (c .before .loop .inv .holds)
 
 pub object-bags-spec : {M : Type 1} → statement M
 object-bags-spec =

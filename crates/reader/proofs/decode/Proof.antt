@@ -8,9 +8,10 @@ use Rattle.model.specs.Answer.{accepted}
 use Rattle.model.specs.Card.{inRange, predicates}
 use Rattle.card.specs.declared.ArityList.{ArityList}
 use Rattle.card.specs.Represents.{refusalNumber, taskOf, aritiesOf, aritiesFor}
+use Rattle.card.proofs.Entries.{arities-part}
 use Rattle.reader_bytes.proofs.Reading.{accepted-by, kept-as, refusal-by, byte-read, byte-refusal}
 use Rattle.reader.proofs.Decoding.{no-predicates, no-objects, no-schemas, no-facts, more-bytes, whole-card, goes-on, is-over}
-use Rattle.reader.proofs.Decoding.{arities-in-range, arities-room, arities-part, schemas-with, facts-with}
+use Rattle.reader.proofs.Decoding.{arities-in-range, arities-room, schemas-with, facts-with}
 use Rattle.reader.proofs.Decoding.{task-kept, decodes-refused, decodes-accepted}
 use borrow.Author.Needs.{needs}
 use Rattle.reader.proofs.decode.Statement.{statement}
@@ -40,7 +41,7 @@ arities-kept : (c : tie.After-step) → list c ≡ aritiesFor (aritiesOf (list c
 arities-kept c = kept-as (c .before .before .predicates .ensures) (c .step .given .1)
 
 arities-right : (c : tie.After-step) → inRange (take (list c .count - 0) (list c .arities)) ≡ true
-arities-right c = subst⁻¹ (λ a. inRange a ≡ true) (arities-part _) (arities-in-range _ (predicates-read c))
+arities-right c = subst⁻¹ (λ a. inRange a ≡ true) (arities-part _ (arities-room (arities-kept c))) (arities-in-range _ (predicates-read c))
 
 predicates-requires : tie.Need-predicates-requires
 predicates-requires c κs = search needs
@@ -121,9 +122,10 @@ returns-3 c =
     let at-schemas = at-enum-told3 .before .before in
     let at-counted = objects-before at-schemas in
     let at-byte-between = at-counted .before .before in
+    let kept = arities-kept (predicates-before at-byte-between) in
     let p = predicates-read (predicates-before at-byte-between) in
     let o = byte-read (at-byte-between .byte-between .ensures) (at-counted .counted .given .1) in
-    let none = refusal-by (schemas-with _ _ (at-schemas .schemas .ensures)) (at-enum-told3 .enum-told3 .given .1) (c .before .refusal3 .ensures) in
+    let none = refusal-by (schemas-with kept _ (at-schemas .schemas .ensures)) (at-enum-told3 .enum-told3 .given .1) (c .before .refusal3 .ensures) in
     decodes-refused (c .refused3 .ensures) (no-schemas _ p o none)
 
 sub-facts : tie.Need-sub-facts
@@ -162,11 +164,12 @@ returns-4 c =
     let at-schemas = at-step2 .before .before in
     let at-counted = objects-before at-schemas in
     let at-byte-between = at-counted .before .before in
+    let kept = arities-kept (predicates-before at-byte-between) in
     let p = predicates-read (predicates-before at-byte-between) in
     let o = byte-read (at-byte-between .byte-between .ensures) (at-counted .counted .given .1) in
-    let w₁ = schemas-with _ _ (at-schemas .schemas .ensures) in
+    let w₁ = schemas-with kept _ (at-schemas .schemas .ensures) in
     let e₁ = at-step2 .step2 .given .1 in
-    let none = refusal-by (facts-with _ _ _ (at-facts .facts .ensures)) (c .before .before .enum-told4 .given .1) (c .before .refusal4 .ensures) in
+    let none = refusal-by (facts-with kept _ _ (at-facts .facts .ensures)) (c .before .before .enum-told4 .given .1) (c .before .refusal4 .ensures) in
     decodes-refused (c .refused4 .ensures) (no-facts _ p o (accepted-by w₁ e₁) none)
 
 refused-requires-5 : tie.Need-refused-requires-5
@@ -181,11 +184,12 @@ returns-5 c =
     let at-schemas = at-step2 .before .before in
     let at-counted = objects-before at-schemas in
     let at-byte-between = at-counted .before .before in
+    let kept = arities-kept (predicates-before at-byte-between) in
     let p = predicates-read (predicates-before at-byte-between) in
     let o = byte-read (at-byte-between .byte-between .ensures) (at-counted .counted .given .1) in
-    let w₁ = schemas-with _ _ (at-schemas .schemas .ensures) in
+    let w₁ = schemas-with kept _ (at-schemas .schemas .ensures) in
     let e₁ = at-step2 .step2 .given .1 in
-    let w₂ = facts-with _ _ _ (at-facts .facts .ensures) in
+    let w₂ = facts-with kept _ _ (at-facts .facts .ensures) in
     let e₂ = at-step3 .step3 .given .1 in
     let more = more-bytes _ p o (accepted-by w₁ e₁) (accepted-by w₂ e₂) (goes-on _ _ (c .before .if1 .taken)) in
     decodes-refused (c .refused5 .ensures) more
@@ -199,14 +203,15 @@ returns-6 c =
     let at-schemas = at-step2 .before .before in
     let at-counted = objects-before at-schemas in
     let at-byte-between = at-counted .before .before in
+    let kept = arities-kept (predicates-before at-byte-between) in
     let p = predicates-read (predicates-before at-byte-between) in
     let o = byte-read (at-byte-between .byte-between .ensures) (at-counted .counted .given .1) in
-    let w₁ = schemas-with _ _ (at-schemas .schemas .ensures) in
+    let w₁ = schemas-with kept _ (at-schemas .schemas .ensures) in
     let e₁ = at-step2 .step2 .given .1 in
-    let w₂ = facts-with _ _ _ (at-facts .facts .ensures) in
+    let w₂ = facts-with kept _ _ (at-facts .facts .ensures) in
     let e₂ = at-step3 .step3 .given .1 in
     let whole = whole-card _ p o (accepted-by w₁ e₁) (accepted-by w₂ e₂) (is-over _ _ (c .if1 .left)) in
-    decodes-accepted whole (task-kept _ (arities-kept (predicates-before at-byte-between)) (kept-as w₁ e₁) (kept-as w₂ e₂))
+    decodes-accepted whole (task-kept _ kept (kept-as w₁ e₁) (kept-as w₂ e₂))
 
 pub decode-spec : {M : Type 1} → statement M
 decode-spec =

@@ -3,6 +3,7 @@ use Prim.Native.Nat.{_≤_, _-_}
 use mathlib.Core.Path.{_≡_, sym, _∙_}
 use native.Mathlib.Omega.{arith}
 use borrow.Author.Needs.{needs}
+use Rattle.card.specs.Represents.{blankAtom}
 use Rattle.reader_atoms.specs.Atoms.{hasBytes}
 use Rattle.reader_atoms.proofs.Orders.{hasFrom, has-first, has-last, has-found, has-next}
 use Rattle.reader_atoms.proofs.has.Statement.{statement}
@@ -27,11 +28,11 @@ is-same-requires : tie.Need-is-same-requires Inv-loop μ-loop
 is-same-requires c κs = search needs
 
 returns : tie.Need-returns Inv-loop μ-loop
+unfolding blankAtom
 returns c =
     let at-loop-test = c .before .before .before in
     let at-loop = at-loop-test .before in
-    let start = at-loop .before in
-    let found = has-found _ _ _ _ (start .pre .1) (start .pre .0) (at-loop-test .loop-test .taken) (c .before .is-same .ensures) (c .if1 .taken) in
+    let found = has-found _ _ _ (at-loop-test .loop-test .taken) (c .before .is-same .ensures) (c .if1 .taken) in
     sym (at-loop .loop .inv .1 ∙ found)
 
 add-i : tie.Need-add-i Inv-loop μ-loop
@@ -41,11 +42,11 @@ loop-less : tie.Need-loop-less Inv-loop μ-loop
 loop-less c = search needs
 
 loop-again : tie.Need-loop-again Inv-loop μ-loop
+unfolding blankAtom
 loop-again c =
     let at-loop-test = c .before .before .before in
     let at-loop = at-loop-test .before in
-    let start = at-loop .before in
-    let next = has-next _ _ _ _ (start .pre .1) (start .pre .0) (at-loop-test .loop-test .taken) (c .before .is-same .ensures) (c .if1 .left) in
+    let next = has-next _ _ _ (at-loop-test .loop-test .taken) (c .before .is-same .ensures) (c .if1 .left) in
     (omega arith, at-loop .loop .inv .1 ∙ next)
 
 returns-2 : tie.Need-returns-2 Inv-loop μ-loop

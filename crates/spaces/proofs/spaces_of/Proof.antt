@@ -2,32 +2,28 @@
 use Prim.Native.Nat.{ℕ, _≤_, _<_}
 use native.Mathlib.Omega.{arith}
 use mathlib.Core.Path.{_≡_, sym, ap, _∙_, subst}
-use mathlib.Core.List.{List, [], map}
+use mathlib.Core.List.{List, map}
 use lib.Dec.{eqb}
 use lib.ListN.{length, getD, take}
 use Rattle.laws.proofs.Walks.{keep-few}
-use Rattle.model.specs.Spaces.{grouping}
 use Rattle.card.specs.Represents.{padded}
-use Rattle.spaces.specs.Tabled.{Room, Grouped}
-use Rattle.spaces.specs.Steps.{rulesIn, labelled, roundsOf}
 use Rattle.card.proofs.Padded.{length-padded}
-use Rattle.spaces.proofs.Found.{rows-known, labelled-known, spaces-found}
+use Rattle.properties.specs.Parameters.{RoomForBags}
+use Rattle.spaces.specs.Steps.{groupsIn, labelled, roundsIn}
+use Rattle.spaces.specs.Tabled.{Grouped}
+use Rattle.spaces.proofs.Found.{groups-known, labelled-known, spaces-found}
 use borrow.Author.Needs.{needs}
 use Rattle.spaces.proofs.spaces_of.Statement.{statement}
 use Rattle.spaces.proofs.spaces_of.Tie as tie
 
 -- the labels that the grouping gave are below 60
-known : (size count : ℕ) → size ≤ 60 → (enablers starts finishes : List ℕ) → Room count enablers starts finishes
-    → (groups : List ℕ) → length groups ≡ 60 → groups ≡ padded 60 0 (grouping size (rulesIn size count [] starts finishes)) → Grouped size groups
-known size count narrow enablers starts finishes room groups full e =
-    record {
-      narrow = narrow;
-      filled = omega arith;
-      known =
-          λ c.
-          subst (λ (l : List ℕ). getD l c 0 < 60) (sym e)
-          (rows-known size count narrow [] starts finishes (room .starts-room) (room .finishes-room) c);
-    }
+known : {size count : ℕ} {p d a groups : List ℕ} → size ≤ 60 → RoomForBags count p d a → length groups ≡ 60 → groups ≡ groupsIn size count d a
+    → Grouped size groups
+known narrow room full e = record {
+  narrow = narrow;
+  filled = omega arith;
+  known = λ c. subst (λ (l : List ℕ). getD l c 0 < 60) (sym e) (groups-known narrow room c);
+}
 
 grouping-requires : tie.Need-grouping-requires
 grouping-requires c κs = search needs
@@ -45,12 +41,8 @@ initial-members-requires : tie.Need-initial-members-requires
 initial-members-requires c κs =
     let found = c .before .before .before .before in
     let start = found .before .before .before .before .before in
-    let a = start .args in
     let size : length (found .grouping .result) ≡ 60 = search needs in
-    let labels =
-    known (a .size) (a .rules) (start .pre .0 .0) (a .enablers .now) (a .starts .now) (a .finishes .now) (start .pre .1 .0)
-    (found .grouping .result) size (found .grouping .ensures []) in
-    (labels, (start .pre .0 .1, start .pre .1 .1))
+    (known (start .pre .0 .0) (start .pre .1 .0) size (found .grouping .ensures), (start .pre .0 .1, start .pre .1 .1))
 
 slice-aggregate-close : tie.Need-slice-aggregate-close
 slice-aggregate-close c = search needs
@@ -59,12 +51,8 @@ close-requires : tie.Need-close-requires
 close-requires c κs =
     let found = c .before .before .before .before .before .before in
     let start = found .before .before .before .before .before in
-    let a = start .args in
     let size : length (found .grouping .result) ≡ 60 = search needs in
-    let labels =
-    known (a .size) (a .rules) (start .pre .0 .0) (a .enablers .now) (a .starts .now) (a .finishes .now) (start .pre .1 .0)
-    (found .grouping .result) size (found .grouping .ensures []) in
-    (labels, (start .pre .0 .1, start .pre .1 .0))
+    (known (start .pre .0 .0) (start .pre .1 .0) size (found .grouping .ensures), (start .pre .0 .1, start .pre .1 .0))
 
 slice-aggregate-by-number : tie.Need-slice-aggregate-by-number
 slice-aggregate-by-number c = search needs
@@ -89,23 +77,20 @@ by-number-requires c κs =
     )
 
 returns : tie.Need-returns
-returns c t held =
-    let start = c .before .before .before .before .before .before .before .before .before .before .before .before .before .before .before in
-    let a = start .args in
-    let groups = c .before .before .before .before .before .before .before .before .before .before .grouping in
-    let labels = c .before .before .before .before .before .before .before .before .labels-of in
-    spaces-found t (a .size) (a .rules) (a .objects) (a .enablers .now) (a .starts .now) (a .finishes .now) (a .counts .now) held (start .pre .0 .0)
-    (groups .result) (labels .result .count) (labels .result .lowest) (c .by-number .result)
-    (groups .ensures (a .enablers .now)) (labels .ensures .0) (labels .ensures .1)
+returns c =
+    let closed = c .before .before .before in
+    let labels = closed .before .before .before .before .before in
+    let groups = labels .before .before in
+    let a = groups .before .before .before .before .before .args in
+    spaces-found (a .size) (a .parameters) (a .objects) (a .preconditions .now) (a .deletes .now) (a .adds .now) (a .counts .now)
+    (groups .grouping .ensures) (labels .labels-of .ensures .0) (labels .labels-of .ensures .1)
     (c .by-number .ensures
+    ∙ ap (λ (masks : List ℕ). padded 60 0 (map (λ l. getD masks l 0) (take (labels .labels-of .result .count) (labels .labels-of .result .lowest))))
+    (closed .close .ensures
     ∙ ap
-    (λ (masks : List ℕ).
-    padded 60 0 (map (λ l. getD masks l 0) (take (labels .result .count) (labels .result .lowest))))
-    (c .before .before .before .close .ensures
-    ∙ ap
-    (roundsOf (groups .result) (a .objects) (rulesIn (a .size) (a .rules) (a .enablers .now) (a .starts .now) (a .finishes .now))
-    (labels .result .count))
-    (c .before .before .before .before .before .initial-members .ensures)))
+    (roundsIn (groups .grouping .result) (a .objects) (a .size) (a .parameters) (a .preconditions .now) (a .deletes .now) (a .adds .now)
+    (labels .labels-of .result .count))
+    (closed .before .before .initial-members .ensures)))
 
 pub spaces-of-spec : {M : Type 1} → statement M
 spaces-of-spec =

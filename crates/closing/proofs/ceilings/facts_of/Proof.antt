@@ -1,26 +1,22 @@
 -- `ceilings::facts_of` meets its contract.
-use Prim.Native.Nat.{_-_, _≤_}
+use Prim.Native.Nat.{_-_}
 use native.Mathlib.Omega.{arith}
-use mathlib.Core.Path.{_≡_, sym, _∙_}
+use mathlib.Core.Path.{sym, _∙_}
 use mathlib.Core.Logic.{⊎-elim}
 use lib.Dec.{eqb}
+use Rattle.laws.proofs.Counting.{count-map}
 use Rattle.card.specs.Represents.{atomOf, factsOf, blankAtom}
 use Rattle.model.specs.Lines.{ofPredicate}
-use lib.ListN.{length, length-map}
 use borrow.Author.Tests.{eq-eqb, ne-eqb}
-use Rattle.closing.proofs.Tallying.{Tally, tally-start, tally-passes, tally-fails, tally-end, count-map}
+use Rattle.closing.proofs.Tallying.{Tally, tally-start, tally-passes, tally-fails, tally-end}
 use Rattle.closing.proofs.ceilings.facts_of.Statement.{statement}
 use Rattle.closing.proofs.ceilings.facts_of.Tie as tie
 
 abbrev Inv-loop : tie.InvT-loop
-Inv-loop p list count n₀ i₀ n i = Tally (λ a. eqb p (a .predicate)) (list .count) (list .facts) n i
+Inv-loop p list count n₀ i₀ n i = Tally (λ a. eqb p (a .predicate)) (list .count) blankAtom (list .facts) n i
 
 abbrev μ-loop : tie.MeasureT-loop
 μ-loop p list count n₀ i₀ n i = count - i
-
--- the array of facts has 512 places
-inside : (s : tie.Start Inv-loop μ-loop) → s .args .t1 .count ≤ length (s .args .t1 .facts)
-inside s = let e : length (s .args .t1 .facts) ≡ 512 = sym (length-map (s .args .t1 .facts) _) ∙ s .good .0 .1 .1 .1 .0 .1 .0 .1 in omega (arith, s .pre)
 
 loop-holds : tie.Need-loop-holds Inv-loop μ-loop
 loop-holds c = tally-start
@@ -45,17 +41,17 @@ unfolding blankAtom
 loop-again c =
     let head = c .before .before .before .before in
     ⊎-elim
-    (λ w. tally-passes (inside (head .before)) (head .loop .inv) blankAtom (c .before .before .before .loop-test .taken)
+    (λ w. tally-passes (head .loop .inv) (c .before .before .before .loop-test .taken)
     (eq-eqb _ _ (sym (w .0 .taken))) (w .1))
-    (λ w. tally-fails (inside (head .before)) (head .loop .inv) blankAtom (c .before .before .before .loop-test .taken)
+    (λ w. tally-fails (head .loop .inv) (c .before .before .before .loop-test .taken)
     (ne-eqb _ _ (λ e. w .0 .left (sym e))) (w .1))
     (c .if1 .came)
 
 returns : tie.Need-returns Inv-loop μ-loop
 unfolding ofPredicate factsOf atomOf
 returns c arities =
-    tally-end (inside (c .before .before)) (c .before .loop .inv) blankAtom (c .loop-test .left) ∙ sym
-    (count-map (atomOf arities) (λ a. eqb _ (a .predicate)) _)
+    tally-end (c .before .loop .inv) (c .loop-test .left) ∙ sym
+    (count-map (λ a. eqb _ (a .predicate)) (atomOf arities) _)
 
 pub facts-of-spec : {M : Type 1} → statement M
 facts-of-spec =

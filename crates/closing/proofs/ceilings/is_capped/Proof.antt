@@ -5,14 +5,14 @@ use mathlib.Core.Path.{_≡_, refl, sym, ap₂, _∙_}
 use mathlib.Core.Bool.{Bool}
 use mathlib.Core.List.{List}
 use lib.Dec.{leb}
-use lib.ListN.{length, length-map}
+use lib.ListN.{getD}
 use borrow.Author.Tests.{le-leb, lt-leb}
 use Rattle.laws.proofs.Mapped.{all-map}
 use Rattle.model.specs.Lines.{ofPredicate}
 use Rattle.card.specs.declared.Schema.{Schema}
-use Rattle.card.specs.Represents.{atomsOf, schemaOf, schemasOf}
+use Rattle.card.specs.Represents.{atomsFor, blankSchema, entries, atomsOf, schemaOf, schemasOf}
+use Rattle.card.proofs.Entries.{default-alike, noSchema}
 use Rattle.closing.proofs.Tallying.{Decides, one-fails, one-passes, all-pass}
-use Rattle.closing.proofs.Defaults.{no-schema}
 use Rattle.closing.proofs.ceilings.is_capped.Statement.{statement}
 use Rattle.closing.proofs.ceilings.is_capped.Tie as tie
 
@@ -21,16 +21,16 @@ abbrev capped : ℕ → List ℕ → Schema → Bool
 capped p arities s = leb (ofPredicate p (atomsOf arities (s .adds))) (ofPredicate p (atomsOf arities (s .deletes)))
 
 abbrev Inv-loop : tie.InvT-loop
-Inv-loop p list count i₀ i = (i ≤ list .count) × ((arities : List ℕ) → Decides (capped p arities) (list .count) (list .schemas) i)
+Inv-loop p list count i₀ i = (i ≤ list .count) × ((arities : List ℕ) → Decides (capped p arities) (list .count) blankSchema (list .schemas) i)
 
 abbrev μ-loop : tie.MeasureT-loop
 μ-loop p list count i₀ i = count - i
 
--- the array of schemas has 32 places
-inside : (s : tie.Start Inv-loop μ-loop) → s .args .t1 .count ≤ length (s .args .t1 .schemas)
-inside s =
-    let e : length (s .args .t1 .schemas) ≡ 32 = sym (length-map (s .args .t1 .schemas) _) ∙ s .good .0 .1 .1 .1 .0 .1 .0 .1 in
-    omega (arith, s .pre .few)
+-- the schema that a turn takes, whatever is read past the end
+here : (p : ℕ) (arities : List ℕ) (schemas : List Schema) (i : ℕ)
+    → capped p arities (getD schemas i noSchema) ≡ capped p arities (getD schemas i blankSchema)
+unfolding blankSchema atomsFor atomsOf entries
+here p arities schemas i = default-alike (capped p arities) noSchema blankSchema refl schemas i
 
 loop-holds : tie.Need-loop-holds Inv-loop μ-loop
 loop-holds c = (omega arith, λ arities. refl)
@@ -42,21 +42,19 @@ element-copy-out-s : tie.Need-element-copy-out-s Inv-loop μ-loop
 element-copy-out-s c = let few = c .before .before .pre .few in omega arith
 
 count-of-requires : tie.Need-count-of-requires Inv-loop μ-loop
-unfolding no-schema
-count-of-requires c κs = c .before .before .before .pre .few-deletes (c .before .before .loop .i) no-schema (c .before .loop-test .taken)
+count-of-requires c κs = c .before .before .before .pre .few-deletes (c .before .before .loop .i) noSchema (c .before .loop-test .taken)
 
 count-of-requires-2 : tie.Need-count-of-requires-2 Inv-loop μ-loop
-unfolding no-schema
 count-of-requires-2 c κs =
-    c .before .before .before .before .pre .few-adds (c .before .before .before .loop .i) no-schema (c .before .before .loop-test .taken)
+    c .before .before .before .before .pre .few-adds (c .before .before .before .loop .i) noSchema (c .before .before .loop-test .taken)
 
 returns : tie.Need-returns Inv-loop μ-loop
-unfolding no-schema schemasOf schemaOf
+unfolding schemasOf schemaOf
 returns c arities =
     let head = c .before .before .before .before .before in
-    one-fails (capped _ arities) _ _ (inside (head .before)) (head .loop .i) (head .loop .inv .1 arities) no-schema
+    one-fails (capped _ arities) _ _ _ (head .loop .i) (head .loop .inv .1 arities)
     (c .before .before .before .before .loop-test .taken)
-    (ap₂ leb (sym (c .before .count-of2 .ensures arities)) (sym (c .before .before .count-of .ensures arities)) ∙ lt-leb _ _ (c .if1 .taken))
+    (sym (here _ arities (head .before .args .t1 .schemas) (head .loop .i)) ∙ ap₂ leb (sym (c .before .count-of2 .ensures arities)) (sym (c .before .before .count-of .ensures arities)) ∙ lt-leb _ _ (c .if1 .taken))
     ∙ sym (all-map (schemaOf arities) _ _)
 
 add-i : tie.Need-add-i Inv-loop μ-loop
@@ -66,20 +64,19 @@ loop-less : tie.Need-loop-less Inv-loop μ-loop
 loop-less c = omega arith
 
 loop-again : tie.Need-loop-again Inv-loop μ-loop
-unfolding no-schema
 loop-again c =
     let head = c .before .before .before .before .before in (
       omega arith,
       λ arities.
-          one-passes (capped _ arities) _ _ (inside (head .before)) (head .loop .i) (head .loop .inv .1 arities) no-schema
+          one-passes (capped _ arities) _ _ _ (head .loop .i) (head .loop .inv .1 arities)
           (c .before .before .before .before .loop-test .taken)
-          (ap₂ leb (sym (c .before .count-of2 .ensures arities)) (sym (c .before .before .count-of .ensures arities)) ∙ le-leb _ _ (c .if1 .left)),
+          (sym (here _ arities (head .before .args .t1 .schemas) (head .loop .i)) ∙ ap₂ leb (sym (c .before .count-of2 .ensures arities)) (sym (c .before .before .count-of .ensures arities)) ∙ le-leb _ _ (c .if1 .left)),
     )
 
 returns-2 : tie.Need-returns-2 Inv-loop μ-loop
-unfolding no-schema schemasOf schemaOf
+unfolding schemasOf schemaOf
 returns-2 c arities =
-    all-pass (capped _ arities) _ _ (inside (c .before .before)) _ (c .before .loop .inv .1 arities) no-schema (c .loop-test .left)
+    all-pass (capped _ arities) _ _ _ _ (c .before .loop .inv .1 arities) (c .loop-test .left)
     ∙ sym (all-map (schemaOf arities) _ _)
 
 pub is-capped-spec : {M : Type 1} → statement M

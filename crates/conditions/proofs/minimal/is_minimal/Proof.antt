@@ -1,31 +1,37 @@
--- The loop's invariant: the rows from j on decide.
-use Prim.Native.Nat.{_-_, _≤_}
+-- `is_minimal` meets its contract. The loop's invariant: the conditions from j on decide.
+use Prim.Native.Nat.{_-_}
 use native.Mathlib.Omega.{arith}
-use Rattle.laws.specs.Bags.{strictlyContains}
-use Rattle.properties.specs.Tables.{bagAt}
-use Rattle.conditions.proofs.Rows.{has-row}
-use Rattle.conditions.proofs.RowTests.{Decides, tests-start, one-passes, row-fails, none-passes}
 use borrow.Author.Needs.{needs}
+use Rattle.laws.proofs.Tests.{not-true, not-false}
+use Rattle.conditions.specs.Minimal.{strictlyBy}
+use Rattle.conditions.proofs.Containing.{not-contained, each-contained, strictly-contained}
+use Rattle.conditions.proofs.Deciding.{Undecided, undecided-start, undecided-next, one-passes, none-passes}
 use Rattle.conditions.proofs.minimal.is_minimal.Statement.{statement}
 use Rattle.conditions.proofs.minimal.is_minimal.Tie as tie
 
 abbrev Inv-loop : tie.InvT-loop
-Inv-loop table count size i j₀ j = Decides (strictlyContains (bagAt size table i)) size count table j × (j ≤ count)
+Inv-loop containing count i own j₀ j = Undecided (strictlyBy containing i) count j
 
 abbrev μ-loop : tie.MeasureT-loop
-μ-loop table count size i j₀ j = count - j
+μ-loop containing count i own j₀ j = count - j
+
+mul-own : tie.Need-mul-own Inv-loop μ-loop
+mul-own c = search needs
+
+element-copy-out-own : tie.Need-element-copy-out-own Inv-loop μ-loop
+element-copy-out-own c = search needs
 
 loop-holds : tie.Need-loop-holds Inv-loop μ-loop
-loop-holds c = (tests-start _ _ _ _, omega arith)
+loop-holds c = undecided-start
 
-strictly-contains-requires : tie.Need-strictly-contains-requires Inv-loop μ-loop
-strictly-contains-requires c κs =
-    let h = c .before .before .before .pre in (has-row _ _ _ (h .0) _ (h .1), has-row _ _ _ (h .0) _ (c .loop-test .taken))
+mul-is-member : tie.Need-mul-is-member Inv-loop μ-loop
+mul-is-member c = search needs
 
-returns : tie.Need-returns Inv-loop μ-loop
-returns c =
-    let l = c .before .before .before .loop in
-    one-passes _ _ _ _ (l .j) (c .before .before .loop-test .taken) (c .before .strictly-contains .ensures) (c .if1 .taken) (l .inv .0)
+element-copy-out-is-member : tie.Need-element-copy-out-is-member Inv-loop μ-loop
+element-copy-out-is-member c = search needs
+
+is-member-requires : tie.Need-is-member-requires Inv-loop μ-loop
+is-member-requires c κs = search needs
 
 add-j : tie.Need-add-j Inv-loop μ-loop
 add-j c = search needs
@@ -35,24 +41,34 @@ loop-less c = search needs
 
 loop-again : tie.Need-loop-again Inv-loop μ-loop
 loop-again c =
-    let l = c .before .before .before .loop in (
-      row-fails _ _ _ _ (l .j) (c .before .before .loop-test .taken) (c .before .strictly-contains .ensures) (c .if1 .left) (l .inv .0),
-      search needs,
-    )
+    undecided-next (c .before .before .before .before .loop .inv) (c .before .before .before .loop-test .taken)
+    (not-contained _ _ _ (c .before .is-member .ensures) (not-true _ (c .if1 .taken)))
+
+is-member-requires-2 : tie.Need-is-member-requires-2 Inv-loop μ-loop
+is-member-requires-2 c κs = search needs
+
+returns : tie.Need-returns Inv-loop μ-loop
+returns c =
+    one-passes (c .before .before .before .before .before .before .loop .inv) (c .before .before .before .before .before .loop-test .taken)
+    (strictly-contained _ _ _ (c .before .before .before .is-member .ensures) (not-false _ (c .before .before .if1 .left))
+    (c .before .is-member2 .ensures) (not-true _ (c .if2 .taken)))
+
+add-j-2 : tie.Need-add-j-2 Inv-loop μ-loop
+add-j-2 c = search needs
+
+loop-less-2 : tie.Need-loop-less-2 Inv-loop μ-loop
+loop-less-2 c = search needs
+
+loop-again-2 : tie.Need-loop-again-2 Inv-loop μ-loop
+loop-again-2 c =
+    undecided-next (c .before .before .before .before .before .before .loop .inv) (c .before .before .before .before .before .loop-test .taken)
+    (each-contained _ _ _ (c .before .is-member2 .ensures) (not-false _ (c .if2 .left)))
 
 returns-2 : tie.Need-returns-2 Inv-loop μ-loop
-returns-2 c = none-passes _ _ _ _ _ (c .loop-test .left) (c .before .loop .inv .0)
+returns-2 c = none-passes (c .before .loop .inv) (c .loop-test .left)
 
 pub is-minimal-spec : {M : Type 1} → statement M
 is-minimal-spec =
     tie.close
-    (tie.spec
-    Inv-loop
-    μ-loop
-    loop-holds
-    strictly-contains-requires
-    returns
-    add-j
-    loop-less
-    loop-again
-    returns-2)
+    (tie.spec Inv-loop μ-loop mul-own element-copy-out-own loop-holds mul-is-member element-copy-out-is-member is-member-requires add-j loop-less
+    loop-again is-member-requires-2 returns add-j-2 loop-less-2 loop-again-2 returns-2)

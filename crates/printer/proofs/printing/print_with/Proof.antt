@@ -1,65 +1,60 @@
 -- The tables are filled, and the sections printed from them.
+use borrow.Author.Needs.{needs}
+use Rattle.printer.proofs.Tables.{filled, given-then, lent-then}
 use Rattle.printer.proofs.printing.print_with.Statement.{statement}
 use Rattle.printer.proofs.printing.print_with.Tie as tie
 
--- what is given, from the call of `prepare`; and that call, from the one that prints
-abbrev entry : tie.After-prepare → tie.Start
-entry c = c .before .before .before .before .before .before .before .before .before .before .before .before
-
+-- the call of `prepare`, from the one that prints
 abbrev preparing : tie.After-print-sections → tie.After-prepare
-preparing c = c .before .before .before .before .before .before .before .before .before .before .before .before .before .before .before
+preparing c = c .before .before .before .before .before .before .before .before .before .before .before .before .before .before .before .before .before
 
 prepare-requires : tie.Need-prepare-requires
-prepare-requires c κs =
-    let pre = c .before .before .before .before .before .before .before .before .before .before .before .pre in
-    (pre .0, (pre .1 .0, pre .1 .1 .0))
+prepare-requires c κs = search needs
 
 print-sections-requires : tie.Need-print-sections-requires
 print-sections-requires c κs =
-    let prepared = c .before .before .before .before .before .before .before .before .before .before .before .before .before .before in
-    let pre = entry prepared .pre in
-    (record { represented = pre .0; given = prepared .prepare .ensures }, pre .1 .1 .1)
+    let called = c .before .before .before .before .before .before .before .before .before .before .before .before .before .before .before .before in
+    let pre = called .before .before .before .before .before .before .before .before .before .before .before .before .before .pre in
+    let of = called .prepare .ensures in
+    let kept = called .prepare .kept .1 in (
+      record {
+        represented = pre .0;
+        given = given-then of (pre .0 .checked) (pre .1 .0) (pre .1 .1 .0) (kept .0) (kept .1 .0) (kept .1 .1 .0) (kept .1 .1 .1 .0);
+      },
+      lent-then of (pre .1 .1 .1),
+    )
 
 same-length : tie.Need-same-length
-same-length c = preparing (c .before .before .before .before .before .before) .prepare .kept .1 .0
+same-length c = search needs
 
 same-length-2 : tie.Need-same-length-2
-same-length-2 c = preparing (c .before .before .before .before .before .before) .prepare .kept .1 .1 .0
+same-length-2 c = search needs
 
 same-length-3 : tie.Need-same-length-3
-same-length-3 c = preparing (c .before .before .before .before .before .before) .prepare .kept .1 .1 .1 .0
+same-length-3 c = search needs
 
 same-length-4 : tie.Need-same-length-4
-same-length-4 c = preparing (c .before .before .before .before .before .before) .prepare .kept .1 .1 .1 .1 .0
+same-length-4 c = search needs
 
 same-length-5 : tie.Need-same-length-5
-same-length-5 c = c .before .before .before .before .before .before .print-sections .ensures .1 .origins-sized
+same-length-5 c = search needs
 
 same-length-6 : tie.Need-same-length-6
-same-length-6 c = c .before .before .before .before .before .before .print-sections .ensures .1 .targets-sized
+same-length-6 c = search needs
 
 same-length-7 : tie.Need-same-length-7
-same-length-7 c = c .before .before .before .before .before .before .print-sections .ensures .1 .out-sized
+same-length-7 c = search needs
+
+same-length-8 : tie.Need-same-length-8
+same-length-8 c = search needs
 
 returns : tie.Need-returns
 returns c =
-    let printed = c .before .before .before .before .before .before in
-    let given = preparing printed .prepare .ensures in (
-      record { starts-are = given .starts-are; finishes-are = given .finishes-are; counts-are = given .counts-are },
-      printed .print-sections .ensures,
-    )
+    let printed = c .before .before .before .before .before .before .before .before in
+    (filled (preparing printed .prepare .ensures), printed .print-sections .ensures)
 
 pub print-with-spec : {M : Type 1} → statement M
 print-with-spec =
     tie.close
-    (tie.spec
-    prepare-requires
-    print-sections-requires
-    same-length
-    same-length-2
-    same-length-3
-    same-length-4
-    same-length-5
-    same-length-6
-    same-length-7
-    returns)
+    (tie.spec prepare-requires print-sections-requires same-length same-length-2 same-length-3 same-length-4 same-length-5 same-length-6 same-length-7
+    same-length-8 returns)

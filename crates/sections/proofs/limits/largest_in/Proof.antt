@@ -47,16 +47,4 @@ returns c = let l = c .before .loop in largest-end _ _ _ (l .most) (l .i) (c .lo
 pub largest-in-spec : {M : Type 1} → statement M
 largest-in-spec =
     tie.close
-    (tie.spec
-    Inv-loop
-    μ-loop
-    loop-holds
-    mul-larger
-    add-larger
-    mul-larger-2
-    shared-slice-read-larger
-    larger-requires
-    add-i
-    loop-less
-    loop-again
-    returns)
+    (tie.spec Inv-loop μ-loop loop-holds mul-larger add-larger mul-larger-2 shared-slice-read-larger larger-requires add-i loop-less loop-again returns)

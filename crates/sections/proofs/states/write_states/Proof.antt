@@ -5,7 +5,7 @@ use native.Mathlib.Omega.{arith}
 use Rattle.model.specs.Lines.{state}
 use Rattle.model.specs.Text.{text}
 use Rattle.properties.specs.Tables.{bagsIn}
-use Rattle.conditions.proofs.Rows.{bagsFrom}
+use Rattle.properties.proofs.RowTables.{bagsFrom}
 use Rattle.sections.proofs.LinesLeft.{states-start, states-next, states-end}
 use Rattle.text.proofs.Writing.{Remains, remains-as, start, next-fits, next, finish}
 use borrow.Author.Needs.{needs}
@@ -79,23 +79,5 @@ returns c = finish (c .before .loop .inv .0) (states-end _ _ _ _ (c .loop-test .
 pub write-states-spec : {M : Type 1} → statement M
 write-states-spec =
     tie.close
-    (tie.spec
-    Inv-loop
-    μ-loop
-    loop-holds
-    mul-row
-    add-end
-    sub-write-state
-    part-write-state-start
-    part-write-state-end
-    mul-write-state
-    sub-write-state-2
-    part-write-state-start-2
-    part-write-state-end-2
-    write-state-requires
-    add-at
-    add-i
-    loop-less
-    loop-again
-    same-length
-    returns)
+    (tie.spec Inv-loop μ-loop loop-holds mul-row add-end sub-write-state part-write-state-start part-write-state-end mul-write-state sub-write-state-2
+    part-write-state-start-2 part-write-state-end-2 write-state-requires add-at add-i loop-less loop-again same-length returns)

@@ -11,11 +11,11 @@ use Rattle.spaces.proofs.members.by_number.Statement.{statement}
 use Rattle.spaces.proofs.members.by_number.Tie as tie
 
 abbrev Inv-loop : tie.InvT-loop
-Inv-loop masks lowest count members₀ k₀ members k =
-    (k ≤ count) × (members ≡ padded 60 0 (map (λ l. getD masks l 0) (take k lowest)))
+Inv-loop members lowest count numbered₀ k₀ numbered k =
+    (k ≤ count) × (numbered ≡ padded 60 0 (map (λ l. getD members l 0) (take k lowest)))
 
 abbrev μ-loop : tie.MeasureT-loop
-μ-loop masks lowest count members₀ k₀ members k = count - k
+μ-loop members lowest count numbered₀ k₀ numbered k = count - k
 
 loop-holds : tie.Need-loop-holds Inv-loop μ-loop
 unfolding padded
@@ -27,19 +27,19 @@ shared-slice-read-l c = omega arith
 cast-l : tie.Need-cast-l Inv-loop μ-loop
 cast-l c = omega (arith, c .before .before .before .pre .1 .1 (c .before .before .loop .k))
 
-mul-members : tie.Need-mul-members Inv-loop μ-loop
-mul-members c = omega (arith, c .before .before .before .pre .1 .1 (c .before .before .loop .k))
+mul-numbered : tie.Need-mul-numbered Inv-loop μ-loop
+mul-numbered c = omega (arith, c .before .before .before .pre .1 .1 (c .before .before .loop .k))
 
-shared-slice-read-members : tie.Need-shared-slice-read-members Inv-loop μ-loop
-shared-slice-read-members c =
+shared-slice-read-numbered : tie.Need-shared-slice-read-numbered Inv-loop μ-loop
+shared-slice-read-numbered c =
     let start = c .before .before .before .before in
     lt-of-lt-of-le (start .pre .1 .1 (c .before .before .before .loop .k)) (start .pre .1 .0)
 
-mul-members-2 : tie.Need-mul-members-2 Inv-loop μ-loop
-mul-members-2 c = omega arith
+mul-numbered-2 : tie.Need-mul-numbered-2 Inv-loop μ-loop
+mul-numbered-2 c = omega arith
 
-array-write-members : tie.Need-array-write-members Inv-loop μ-loop
-array-write-members c = omega arith
+array-write-numbered : tie.Need-array-write-numbered Inv-loop μ-loop
+array-write-numbered c = omega arith
 
 add-k : tie.Need-add-k Inv-loop μ-loop
 add-k c = omega arith
@@ -52,7 +52,7 @@ loop-again c =
     let head = c .before .before .before in
     let a = head .before .args in (
       omega arith,
-      map-written 60 (λ l. getD (a .masks .now) l 0) (a .lowest .now) (head .loop .members) (head .loop .k) (omega arith) (omega arith)
+      map-written 60 (λ l. getD (a .members .now) l 0) (a .lowest .now) (head .loop .numbered) (head .loop .k) (omega arith) (omega arith)
           (head .loop .inv .1),
     )
 
@@ -61,7 +61,7 @@ returns c =
     let head = c .before in
     let a = head .before .args in
     head .loop .inv .1
-    ∙ ap (λ (n : ℕ). padded 60 0 (map (λ l. getD (a .masks .now) l 0) (take n (a .lowest .now))))
+    ∙ ap (λ (n : ℕ). padded 60 0 (map (λ l. getD (a .members .now) l 0) (take n (a .lowest .now))))
     (le-antisymm (head .loop .inv .0) (c .loop-test .left))
 
 pub by-number-spec : {M : Type 1} → statement M
@@ -73,10 +73,10 @@ by-number-spec =
     loop-holds
     shared-slice-read-l
     cast-l
-    mul-members
-    shared-slice-read-members
-    mul-members-2
-    array-write-members
+    mul-numbered
+    shared-slice-read-numbered
+    mul-numbered-2
+    array-write-numbered
     add-k
     loop-less
     loop-again

@@ -5,26 +5,25 @@ use mathlib.Core.Path.{_≡_, refl, sym, _∙_}
 use borrow.Author.Needs.{needs}
 use lib.ListN.{length}
 use Rattle.laws.proofs.Lists.{same-eq}
-use Rattle.spaces.specs.Steps.{rulesIn, roundsOf}
+use Rattle.spaces.specs.Steps.{roundsIn}
 use Rattle.spaces.proofs.Gaining.{rounds-start, rounds-next, rounds-end, rounds-stop}
 use Rattle.spaces.proofs.members.close.Statement.{statement}
 use Rattle.spaces.proofs.members.close.Tie as tie
 
 abbrev Inv-loop : tie.InvT-loop
-Inv-loop groups enablers starts finishes count size objects rounds closed₀ counter₀ closed counter =
+Inv-loop groups preconditions deletes adds count size objects rounds closed₀ counter₀ closed counter =
     (counter ≤ rounds)
     × (length closed ≡ 60)
-    × (roundsOf groups objects (rulesIn size count enablers starts finishes) (rounds - counter) closed
-    ≡ roundsOf groups objects (rulesIn size count enablers starts finishes) rounds closed₀)
+    × (roundsIn groups objects size count preconditions deletes adds (rounds - counter) closed
+    ≡ roundsIn groups objects size count preconditions deletes adds rounds closed₀)
 
 abbrev μ-loop : tie.MeasureT-loop
-μ-loop groups enablers starts finishes count size objects rounds closed₀ counter₀ closed counter = rounds - counter
+μ-loop groups preconditions deletes adds count size objects rounds closed₀ counter₀ closed counter = rounds - counter
 
 loop-holds : tie.Need-loop-holds Inv-loop μ-loop
 loop-holds c =
     let a = c .before .before .before .before .args in
-    let rules = rulesIn (a .size) (a .count) (a .enablers .now) (a .starts .now) (a .finishes .now) in
-    (zero-le, search needs, rounds-start (a .groups .now) (a .objects) rules _ (a .rounds) (a .masks) refl)
+    (zero-le, search needs, rounds-start (a .groups .now) (a .objects) (a .size) (a .count) (a .preconditions .now) (a .deletes .now) (a .adds .now) _ (a .rounds) (a .members) refl)
 
 round-requires : tie.Need-round-requires Inv-loop μ-loop
 round-requires c κs = c .before .before .before .before .before .before .pre
@@ -42,9 +41,8 @@ returns : tie.Need-returns Inv-loop μ-loop
 returns c =
     let head = c .before .before .before .before .before .before in
     let a = head .before .before .before .before .before .args in
-    let rules = rulesIn (a .size) (a .count) (a .enablers .now) (a .starts .now) (a .finishes .now) in
     let next = c .before .before .before .before .round in
-    rounds-stop (a .groups .now) (a .objects) rules _ (a .rounds) (head .loop .counter) (head .loop .closed)
+    rounds-stop (a .groups .now) (a .objects) (a .size) (a .count) (a .preconditions .now) (a .deletes .now) (a .adds .now) _ (a .rounds) (head .loop .counter) (head .loop .closed)
     (sym (next .ensures) ∙ sym (same-eq (head .loop .closed) (next .result) (sym (c .before .same-masks .ensures) ∙ c .if1 .taken)))
     (head .loop .inv .2)
 
@@ -58,11 +56,10 @@ loop-again : tie.Need-loop-again Inv-loop μ-loop
 loop-again c =
     let head = c .before .before .before .before .before .before in
     let a = head .before .before .before .before .before .args in
-    let rules = rulesIn (a .size) (a .count) (a .enablers .now) (a .starts .now) (a .finishes .now) in
     let next = c .before .before .before .before .round in (
       omega arith,
       search needs,
-      rounds-next (a .groups .now) (a .objects) rules _ (a .rounds) (head .loop .counter) (head .loop .closed) (next .result)
+      rounds-next (a .groups .now) (a .objects) (a .size) (a .count) (a .preconditions .now) (a .deletes .now) (a .adds .now) _ (a .rounds) (head .loop .counter) (head .loop .closed) (next .result)
           (c .before .before .before .before .before .loop-test .taken) (next .ensures) (head .loop .inv .2),
     )
 
@@ -70,8 +67,7 @@ returns-2 : tie.Need-returns-2 Inv-loop μ-loop
 returns-2 c =
     let head = c .before in
     let a = head .before .before .before .before .before .args in
-    let rules = rulesIn (a .size) (a .count) (a .enablers .now) (a .starts .now) (a .finishes .now) in
-    rounds-end (a .groups .now) (a .objects) rules _ (a .rounds) (head .loop .counter) (head .loop .closed) (c .loop-test .left) (head .loop .inv .2)
+    rounds-end (a .groups .now) (a .objects) (a .size) (a .count) (a .preconditions .now) (a .deletes .now) (a .adds .now) _ (a .rounds) (head .loop .counter) (head .loop .closed) (c .loop-test .left) (head .loop .inv .2)
 
 pub close-spec : {M : Type 1} → statement M
 close-spec =

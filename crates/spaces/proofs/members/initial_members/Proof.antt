@@ -13,13 +13,13 @@ abbrev openNext : List ℕ → ℕ → List ℕ → List ℕ → ℕ → List �
 openNext groups size counts masks o = openAt groups size counts o masks
 
 abbrev Inv-loop : tie.InvT-loop
-Inv-loop groups counts objects size masks₀ object₀ masks object =
+Inv-loop groups counts objects size members₀ object₀ members object =
     (object ≤ objects)
-    × (length masks ≡ 60)
-    × (foldl (openNext groups size counts) masks (left object objects) ≡ opened groups size counts objects)
+    × (length members ≡ 60)
+    × (foldl (openNext groups size counts) members (left object objects) ≡ opened groups size counts objects)
 
 abbrev μ-loop : tie.MeasureT-loop
-μ-loop groups counts objects size masks₀ object₀ masks object = objects - object
+μ-loop groups counts objects size members₀ object₀ members object = objects - object
 
 loop-holds : tie.Need-loop-holds Inv-loop μ-loop
 unfolding opened
@@ -35,7 +35,8 @@ open-object-requires : tie.Need-open-object-requires Inv-loop μ-loop
 open-object-requires c κs =
     let head = c .before .before in
     let pre = head .before .before .before .pre in
-    (pre .0, (omega arith, (omega arith, omega (arith, head .loop .inv .1))))
+    let narrow = pre .0 .narrow in
+    (pre .0, (omega arith, (record { inside = omega arith }, omega (arith, head .loop .inv .1))))
 
 add-object : tie.Need-add-object Inv-loop μ-loop
 add-object c = omega arith
@@ -51,7 +52,7 @@ loop-again c =
     let next = openNext (a .groups .now) (a .size) (a .counts .now) in (
       omega arith,
       called .open-object .kept .0 ∙ head .loop .inv .1,
-      walk-next next (opened (a .groups .now) (a .size) (a .counts .now) (a .objects)) (a .objects) (head .loop .object) (head .loop .masks)
+      walk-next next (opened (a .groups .now) (a .size) (a .counts .now) (a .objects)) (a .objects) (head .loop .object) (head .loop .members)
           _ (called .before .before .loop-test .taken) (called .open-object .ensures) (head .loop .inv .2),
     )
 
@@ -60,7 +61,7 @@ returns c =
     let head = c .before in
     let a = head .before .before .before .args in
     walk-ends (openNext (a .groups .now) (a .size) (a .counts .now)) (opened (a .groups .now) (a .size) (a .counts .now) (a .objects))
-    (a .objects) (head .loop .object) (head .loop .masks) (c .loop-test .left) (head .loop .inv .2)
+    (a .objects) (head .loop .object) (head .loop .members) (c .loop-test .left) (head .loop .inv .2)
 
 pub initial-members-spec : {M : Type 1} → statement M
 initial-members-spec =

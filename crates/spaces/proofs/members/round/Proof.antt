@@ -1,44 +1,40 @@
--- What the rules left bring, with what the members have gained so far, is the whole round.
+-- What the rows left bring, with what the members have gained so far, is the whole round.
 use Prim.Native.Nat.{ℕ, _≤_, _-_, zero-le}
 use native.Mathlib.Omega.{arith}
-use mathlib.Core.Path.{_≡_, sym, _∙_}
-use mathlib.Core.List.{List, foldl, foldl-map}
+use mathlib.Core.Path.{_≡_, refl, sym, _∙_}
+use mathlib.Core.List.{List, foldl}
 use borrow.Author.Needs.{needs}
 use lib.ListN.{length}
-use Rattle.laws.specs.Lists.{upTo}
 use Rattle.laws.proofs.Walks.{left, walk-starts, walk-next, walk-ends}
-use Rattle.spaces.specs.Steps.{ruleAt, rulesIn, gainBy, roundOf}
+use Rattle.properties.specs.Tables.{bagAt}
+use Rattle.spaces.specs.Steps.{gainRow, roundIn}
+use Rattle.spaces.proofs.RowRounds.{preconditions-there, deletes-there, adds-there}
 use Rattle.spaces.proofs.members.round.Statement.{statement}
 use Rattle.spaces.proofs.members.round.Tie as tie
 
--- what the rule in a row brings
-abbrev gainRow : List ℕ → ℕ → List ℕ → ℕ → List ℕ → List ℕ → List ℕ → List ℕ → ℕ → List ℕ
-gainRow groups objects old size enablers starts finishes masks row =
-    gainBy groups objects old masks (ruleAt size enablers starts finishes row)
+-- what the parameter in a row brings
+abbrev gainAt : List ℕ → ℕ → ℕ → List ℕ → List ℕ → List ℕ → List ℕ → List ℕ → ℕ → List ℕ
+gainAt groups objects size p d a old gained row = gainRow groups objects old gained (bagAt size p row) (bagAt size d row) (bagAt size a row)
 
 abbrev Inv-loop : tie.InvT-loop
-Inv-loop groups enablers starts finishes count size objects masks gained₀ row₀ gained row =
+Inv-loop groups preconditions deletes adds count size objects members gained₀ row₀ gained row =
     (row ≤ count)
     × (length gained ≡ 60)
-    × (foldl (gainRow groups objects masks size enablers starts finishes) gained (left row count)
-    ≡ roundOf groups objects (rulesIn size count enablers starts finishes) masks)
+    × (foldl (gainAt groups objects size preconditions deletes adds members) gained (left row count)
+    ≡ roundIn groups objects size count preconditions deletes adds members)
 
 abbrev μ-loop : tie.MeasureT-loop
-μ-loop groups enablers starts finishes count size objects masks gained₀ row₀ gained row = count - row
+μ-loop groups preconditions deletes adds count size objects members gained₀ row₀ gained row = count - row
+
+-- what is given, from the loop on
+abbrev entry : tie.At-loop Inv-loop μ-loop → tie.Start Inv-loop μ-loop
+entry c = c .before .before .before .before .before
 
 loop-holds : tie.Need-loop-holds Inv-loop μ-loop
-unfolding roundOf rulesIn
+unfolding roundIn
 loop-holds c =
     let a = c .before .before .before .before .args in
-    let next = gainRow (a .groups .now) (a .objects) (a .t1) (a .size) (a .enablers .now) (a .starts .now) (a .finishes .now) in (
-      zero-le,
-      search needs,
-      walk-starts next _
-          (a .count) (a .t1)
-          (sym
-          (foldl-map (ruleAt (a .size) (a .enablers .now) (a .starts .now) (a .finishes .now)) (gainBy (a .groups .now) (a .objects) (a .t1))
-          (upTo (a .count)) (a .t1))),
-    )
+    (zero-le, search needs, walk-starts _ _ (a .count) (a .t1) refl)
 
 slice-aggregate-gain : tie.Need-slice-aggregate-gain Inv-loop μ-loop
 slice-aggregate-gain c = sym (c .before .before .loop .inv .1)
@@ -48,15 +44,18 @@ slice-aggregate-gain-2 c = search needs
 
 gain-requires : tie.Need-gain-requires Inv-loop μ-loop
 gain-requires c κs =
-    let head = c .before .before .before in
+    let tested = c .before .before in
+    let head = tested .before in
     let start = head .before .before .before .before .before in
     let size : length (start .args .t1) ≡ 60 = search needs in
-    let room = start .pre .1 .1 in (
+    let narrow = start .pre .0 .narrow in
+    let room = start .pre .1 .1 in
+    let h = tested .loop-test .taken in (
       start .pre .0,
       (
         start .pre .1 .0,
         (
-          record { enablers-room = omega arith; starts-room = omega arith; finishes-room = omega arith },
+          (preconditions-there narrow room _ h, deletes-there narrow room _ h, adds-there narrow room _ h),
           (omega arith, omega (arith, head .loop .inv .1)),
         ),
       ),
@@ -72,8 +71,8 @@ loop-again : tie.Need-loop-again Inv-loop μ-loop
 loop-again c =
     let called = c .before in
     let head = called .before .before .before .before in
-    let a = head .before .before .before .before .before .args in
-    let next = gainRow (a .groups .now) (a .objects) (a .t1) (a .size) (a .enablers .now) (a .starts .now) (a .finishes .now) in (
+    let a = entry head .args in
+    let next = gainAt (a .groups .now) (a .objects) (a .size) (a .preconditions .now) (a .deletes .now) (a .adds .now) (a .t1) in (
       omega arith,
       called .gain .kept .0 ∙ head .loop .inv .1,
       walk-next next _
@@ -84,8 +83,8 @@ loop-again c =
 returns : tie.Need-returns Inv-loop μ-loop
 returns c =
     let head = c .before in
-    let a = head .before .before .before .before .before .args in
-    let next = gainRow (a .groups .now) (a .objects) (a .t1) (a .size) (a .enablers .now) (a .starts .now) (a .finishes .now) in
+    let a = entry head .args in
+    let next = gainAt (a .groups .now) (a .objects) (a .size) (a .preconditions .now) (a .deletes .now) (a .adds .now) (a .t1) in
     walk-ends next _
     (a .count) (head .loop .row) (head .loop .gained) (c .loop-test .left) (head .loop .inv .2)
 

@@ -36,13 +36,5 @@ returns c =
 pub write-kind-spec : {M : Type 1} → statement M
 write-kind-spec =
     tie.close
-    (tie.spec
-    letter-of-requires
-    write-mark-requires
-    sub-write-mark
-    part-write-mark-start
-    part-write-mark-end
-    write-mark-requires-2
-    add-result
-    same-length
+    (tie.spec letter-of-requires write-mark-requires sub-write-mark part-write-mark-start part-write-mark-end write-mark-requires-2 add-result same-length
     returns)

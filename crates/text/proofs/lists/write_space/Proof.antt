@@ -7,13 +7,13 @@ use Rattle.text.proofs.lists.write_space.Statement.{statement}
 use Rattle.text.proofs.lists.write_space.Tie as tie
 
 write-space-front-requires : tie.Need-write-space-front-requires
-write-space-front-requires c κs = (c .before .before .before .pre .0, first-fits (space-parts _ _ _ _) (c .before .before .before .pre .1))
+write-space-front-requires c κs = first-fits (space-parts _ _ _ _) (c .before .before .before .pre)
 
 sub-write-last-members : tie.Need-sub-write-last-members
 sub-write-last-members c =
     omega (
       arith,
-      rest-inside (space-parts _ _ _ _) (c .before .before .before .before .before .before .pre .1)
+      rest-inside (space-parts _ _ _ _) (c .before .before .before .before .before .before .pre)
           (c .before .before .write-space-front .ensures),
     )
 

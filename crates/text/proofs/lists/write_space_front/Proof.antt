@@ -7,24 +7,24 @@ use Rattle.text.proofs.lists.write_space_front.Statement.{statement}
 use Rattle.text.proofs.lists.write_space_front.Tie as tie
 
 write-space-head-requires : tie.Need-write-space-head-requires
-write-space-head-requires c κs = first-fits (front-parts _ _ _) (c .before .before .before .pre .1)
+write-space-head-requires c κs = first-fits (front-parts _ _ _) (c .before .before .before .pre)
 
-sub-write-properties : tie.Need-sub-write-properties
-sub-write-properties c =
+sub-write-numbers : tie.Need-sub-write-numbers
+sub-write-numbers c =
     omega (
       arith,
-      rest-inside (front-parts _ _ _) (c .before .before .before .before .before .before .pre .1)
+      rest-inside (front-parts _ _ _) (c .before .before .before .before .before .before .pre)
           (c .before .before .write-space-head .ensures),
     )
 
-part-write-properties-start : tie.Need-part-write-properties-start
-part-write-properties-start c = sub-write-properties c
+part-write-numbers-start : tie.Need-part-write-numbers-start
+part-write-numbers-start c = sub-write-numbers c
 
-part-write-properties-end : tie.Need-part-write-properties-end
-part-write-properties-end c = search needs
+part-write-numbers-end : tie.Need-part-write-numbers-end
+part-write-numbers-end c = search needs
 
-write-properties-requires : tie.Need-write-properties-requires
-write-properties-requires c κs = (c .before .before .before .before .before .before .before .pre .0, search (second-fits, front-parts))
+write-numbers-requires : tie.Need-write-numbers-requires
+write-numbers-requires c κs = search (second-fits, front-parts)
 
 same-length : tie.Need-same-length
 same-length c = search needs
@@ -38,5 +38,5 @@ add-result c = let whole = returns c in omega arith
 pub write-space-front-spec : {M : Type 1} → statement M
 write-space-front-spec =
     tie.close
-    (tie.spec write-space-head-requires sub-write-properties part-write-properties-start part-write-properties-end write-properties-requires
+    (tie.spec write-space-head-requires sub-write-numbers part-write-numbers-start part-write-numbers-end write-numbers-requires
     add-result same-length returns)

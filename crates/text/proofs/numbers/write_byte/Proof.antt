@@ -4,15 +4,12 @@ use borrow.Author.Needs.{needs}
 use Rattle.text.proofs.numbers.write_byte.Statement.{statement}
 use Rattle.text.proofs.numbers.write_byte.Tie as tie
 
--- src/numbers.rt:14:5
 slice-write-out : tie.Need-slice-write-out
 slice-write-out c = search needs
 
--- src/numbers.rt:10:1
 same-length : tie.Need-same-length
 same-length c = search needs
 
--- src/numbers.rt:10:1
 returns : tie.Need-returns
 returns c = one-byte _ _ (search needs)
 

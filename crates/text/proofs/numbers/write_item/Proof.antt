@@ -4,47 +4,31 @@ use borrow.Author.Needs.{needs}
 use Rattle.text.proofs.numbers.write_item.Statement.{statement}
 use Rattle.text.proofs.numbers.write_item.Tie as tie
 
--- src/numbers.rt:37:9
 write-byte-requires : tie.Need-write-byte-requires
 write-byte-requires c κs = search needs
 
--- src/numbers.rt:38:27
 sub-write-decimal : tie.Need-sub-write-decimal
 sub-write-decimal c = search needs
 
--- src/numbers.rt:38:27
 part-write-decimal-start : tie.Need-part-write-decimal-start
 part-write-decimal-start c = search needs
 
--- src/numbers.rt:38:27
 part-write-decimal-end : tie.Need-part-write-decimal-end
 part-write-decimal-end c = search needs
 
--- src/numbers.rt:38:9
 write-decimal-requires : tie.Need-write-decimal-requires
 write-decimal-requires c κs = search needs
 
--- src/numbers.rt:39:5
 add-result : tie.Need-add-result
 add-result c = search needs
 
--- src/numbers.rt:33:1
 same-length : tie.Need-same-length
 same-length c = search needs
 
--- src/numbers.rt:33:1
 returns : tie.Need-returns
 returns c = and-then (c .before .before .before .before .before .before .write-byte .ensures) (c .before .before .write-decimal .ensures)
 
 pub write-item-spec : {M : Type 1} → statement M
 write-item-spec =
     tie.close
-    (tie.spec
-    write-byte-requires
-    sub-write-decimal
-    part-write-decimal-start
-    part-write-decimal-end
-    write-decimal-requires
-    add-result
-    same-length
-    returns)
+    (tie.spec write-byte-requires sub-write-decimal part-write-decimal-start part-write-decimal-end write-decimal-requires add-result same-length returns)

@@ -16,83 +16,54 @@ Inv-loop out₀ counts at₀ i₀ out at i =
 abbrev μ-loop : tie.MeasureT-loop
 μ-loop out₀ counts at₀ i₀ out at i = length counts - i
 
--- src/rows.rt:16:5
 loop-holds : tie.Need-loop-holds Inv-loop μ-loop
 loop-holds c = (start (c .before .before .pre), omega arith)
 
--- src/rows.rt:17:28
 sub-write-item : tie.Need-sub-write-item Inv-loop μ-loop
 sub-write-item c = search needs
 
--- src/rows.rt:17:28
 part-write-item-start : tie.Need-part-write-item-start Inv-loop μ-loop
 part-write-item-start c = search needs
 
--- src/rows.rt:17:28
 part-write-item-end : tie.Need-part-write-item-end Inv-loop μ-loop
 part-write-item-end c = search needs
 
--- src/rows.rt:17:44
 mul-write-item : tie.Need-mul-write-item Inv-loop μ-loop
 mul-write-item c = search needs
 
--- src/rows.rt:17:44
 shared-slice-read-write-item : tie.Need-shared-slice-read-write-item Inv-loop μ-loop
 shared-slice-read-write-item c = search needs
 
--- src/rows.rt:17:44
 cast-write-item : tie.Need-cast-write-item Inv-loop μ-loop
 cast-write-item c = omega (arith, c .shared-slice-known2 .given (c .before .before .before .loop .i))
 
--- src/rows.rt:17:13
 write-item-requires : tie.Need-write-item-requires Inv-loop μ-loop
 write-item-requires c κs =
     let l = c .before .before .before .loop in
     next-fits (l .inv .0) (number-at _ (l .i) (search needs))
 
--- src/rows.rt:19:13
 add-i : tie.Need-add-i Inv-loop μ-loop
 add-i c = search needs
 
--- src/rows.rt:16:5
 loop-less : tie.Need-loop-less Inv-loop μ-loop
 loop-less c = search needs
 
--- src/rows.rt:16:5
 loop-again : tie.Need-loop-again Inv-loop μ-loop
 loop-again c =
     let l = c .before .before .before .before .before .before .loop in
     (next (l .inv .0) (number-at _ (l .i) (search needs)) (c .before .before .write-item .ensures), search needs)
 
--- src/rows.rt:18:14
 add-at : tie.Need-add-at Inv-loop μ-loop
 add-at c = let r = loop-again c .0 in omega arith
 
--- src/rows.rt:10:1
 same-length : tie.Need-same-length Inv-loop μ-loop
 same-length c = search needs
 
--- src/rows.rt:10:1
 returns : tie.Need-returns Inv-loop μ-loop
 returns c = finish (c .before .loop .inv .0) (no-number _ _ (c .loop-test .left))
 
 pub write-counts-spec : {M : Type 1} → statement M
 write-counts-spec =
     tie.close
-    (tie.spec
-    Inv-loop
-    μ-loop
-    loop-holds
-    sub-write-item
-    part-write-item-start
-    part-write-item-end
-    mul-write-item
-    shared-slice-read-write-item
-    cast-write-item
-    write-item-requires
-    add-at
-    add-i
-    loop-less
-    loop-again
-    same-length
-    returns)
+    (tie.spec Inv-loop μ-loop loop-holds sub-write-item part-write-item-start part-write-item-end mul-write-item shared-slice-read-write-item
+    cast-write-item write-item-requires add-at add-i loop-less loop-again same-length returns)

@@ -2,15 +2,13 @@
 use Prim.Native.Nat.{ℕ, _+_, _*_, _-_, _≤_, _<_}
 use native.Mathlib.Omega.{arith}
 use mathlib.Core.Path.{_≡_, refl, _∙_}
-use mathlib.Core.List.{List, map, flatMap}
+use mathlib.Core.List.{List, flatMap}
 use lib.ListN.{length, getD, take}
 use Rattle.model.specs.Writer.{schemaBytes}
-use Rattle.card.specs.Represents.{blankSchema}
+use Rattle.card.specs.Represents.{blankSchema, schemaOf, schemasOf}
 use Rattle.card.specs.declared.SchemaList.{SchemaList}
-use Rattle.writer_checks.specs.Tables.{entries, schemaTable}
 use Rattle.writer.specs.Bytes.{schemaRoom, WritesAt}
-use Rattle.writer_checks.proofs.Entries.{default-alike}
-use Rattle.writer_checks.proofs.SchemaLaws.{zeros, zeros-blank}
+use Rattle.card.proofs.Entries.{default-alike, noSchema, no-schema-blank}
 use Rattle.writer.proofs.CardBytes.{schema-fits}
 use Rattle.writer.proofs.WriteLaws.{writes-none, item-written, items-written}
 use Rattle.writer.proofs.output.write_schemas.Statement.{statement}
@@ -19,14 +17,15 @@ use Rattle.writer.proofs.output.write_schemas.Tie as tie
 -- the schemas before place i are written
 abbrev Written : List ℕ → SchemaList → ℕ → List ℕ → ℕ → List ℕ → ℕ → Type 0
 Written arities list at x i y m =
-    WritesAt (schemaRoom * i) at (flatMap schemaBytes (take i (map (schemaTable arities) (entries (list .count) blankSchema (list .schemas))))) x y m
+    WritesAt (schemaRoom * i) at (flatMap schemaBytes (take i (schemasOf arities list))) x y m
 
 schema-written : (arities : List ℕ) (list : SchemaList) (at i : ℕ) (x y z : List ℕ) (m n : ℕ) → i < list .count
     → at + schemaRoom * list .count ≤ length x → Written arities list at x i y m
-    → WritesAt schemaRoom m (schemaBytes (schemaTable arities (getD (list .schemas) i zeros))) y z n → Written arities list at x (i + 1) z n
+    → WritesAt schemaRoom m (schemaBytes (schemaOf arities (getD (list .schemas) i noSchema))) y z n → Written arities list at x (i + 1) z n
+unfolding schemasOf
 schema-written arities list at i x y z m n h fits v w =
-    item-written schemaBytes (schemaTable arities) (list .count) blankSchema (list .schemas) schemaRoom at x i y z m n h fits v
-    (rw (default-alike (schemaTable arities) zeros blankSchema (zeros-blank arities) (list .schemas) i) at w)
+    item-written schemaBytes (schemaOf arities) (list .count) blankSchema (list .schemas) schemaRoom at x i y z m n h fits v
+    (rw (default-alike (schemaOf arities) noSchema blankSchema (no-schema-blank arities) (list .schemas) i) at w)
 
 abbrev Inv-loop : tie.InvT-loop
 Inv-loop out₀ at arities list count next₀ i₀ out next i =
@@ -63,6 +62,7 @@ same-length : tie.Need-same-length Inv-loop μ-loop
 same-length c = omega arith
 
 returns : tie.Need-returns Inv-loop μ-loop
+unfolding schemasOf
 returns c = items-written _ _ _ _ _ schemaRoom _ _ _ _ _ (c .loop-test .left) (c .before .loop .inv .0) (c .before .loop .inv .2)
 
 pub write-schemas-spec : {M : Type 1} → statement M

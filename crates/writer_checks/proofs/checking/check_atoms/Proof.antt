@@ -7,8 +7,7 @@ use lib.ListN.{drop}
 use borrow.Author.Needs.{needs}
 use Rattle.model.specs.Writer.{each, checkSchemaAtom}
 use Rattle.card.specs.Fields.{fieldTest, fieldRefusal}
-use Rattle.card.specs.Represents.{atomOf, blankAtom, refusalNumber}
-use Rattle.writer_checks.specs.Tables.{atomTable}
+use Rattle.card.specs.Represents.{blankAtom, atomOf, atomsOf, refusalNumber}
 use Rattle.writer_checks.specs.Checking.{previous}
 use Rattle.writer_checks.proofs.Loops.{item-refused, item-passed, items-passed}
 use Rattle.writer_checks.proofs.checking.check_atoms.Statement.{statement}
@@ -17,10 +16,10 @@ use Rattle.writer_checks.proofs.checking.check_atoms.Tie as tie
 abbrev Inv-loop : tie.InvT-loop
 Inv-loop arities parameters field preconditions list count before₀ i₀ before i =
     (i ≤ list .count)
-    × (each (checkSchemaAtom arities parameters (fieldTest field (atomTable arities preconditions)) (refusalNumber (fieldRefusal field)))
-    (previous i (atomOf arities before)) (drop i (atomTable arities list))
-    ≡ each (checkSchemaAtom arities parameters (fieldTest field (atomTable arities preconditions)) (refusalNumber (fieldRefusal field))) none
-    (atomTable arities list))
+    × (each (checkSchemaAtom arities parameters (fieldTest field (atomsOf arities preconditions)) (refusalNumber (fieldRefusal field)))
+    (previous i (atomOf arities before)) (drop i (atomsOf arities list))
+    ≡ each (checkSchemaAtom arities parameters (fieldTest field (atomsOf arities preconditions)) (refusalNumber (fieldRefusal field))) none
+    (atomsOf arities list))
 
 abbrev μ-loop : tie.MeasureT-loop
 μ-loop arities parameters field preconditions list count before₀ i₀ before i = count - i
@@ -48,7 +47,7 @@ enum-told-2 : tie.Need-enum-told-2 Inv-loop μ-loop
 enum-told-2 c = search needs
 
 returns : tie.Need-returns Inv-loop μ-loop
-unfolding atomTable blankAtom
+unfolding atomsOf blankAtom
 returns c = search item-refused
 
 add-i : tie.Need-add-i Inv-loop μ-loop
@@ -58,7 +57,7 @@ loop-less : tie.Need-loop-less Inv-loop μ-loop
 loop-less c = omega arith
 
 loop-again : tie.Need-loop-again Inv-loop μ-loop
-unfolding atomTable blankAtom
+unfolding atomsOf blankAtom
 loop-again c =
     let at-loop = c .before .before .before .before .before in (
       omega arith,
@@ -67,7 +66,7 @@ loop-again c =
     )
 
 returns-2 : tie.Need-returns-2 Inv-loop μ-loop
-unfolding atomTable
+unfolding atomsOf
 returns-2 c = search items-passed
 
 pub check-atoms-spec : {M : Type 1} → statement M

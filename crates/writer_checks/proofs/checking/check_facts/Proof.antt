@@ -3,12 +3,10 @@ use Prim.Native.Nat.{_≤_, _-_}
 use native.Mathlib.Omega.{arith}
 use mathlib.Core.Path.{_≡_, refl}
 use mathlib.Core.Option.{none}
-use mathlib.Core.List.{map}
 use lib.ListN.{drop}
 use borrow.Author.Needs.{needs}
 use Rattle.model.specs.Writer.{each, checkFact}
-use Rattle.card.specs.Represents.{atomOf, blankAtom, refusalNumber}
-use Rattle.writer_checks.specs.Tables.{entries}
+use Rattle.card.specs.Represents.{blankAtom, atomOf, factsOf, refusalNumber}
 use Rattle.writer_checks.specs.Checking.{previous, checkOrdered}
 use Rattle.writer_checks.proofs.Loops.{item-refused, item-passed, items-passed}
 use Rattle.writer_checks.proofs.checking.check_facts.Statement.{statement}
@@ -18,8 +16,8 @@ abbrev Inv-loop : tie.InvT-loop
 Inv-loop arities objects list count before₀ i₀ before i =
     (i ≤ list .count)
     × (each (checkFact arities objects) (previous i (atomOf arities before))
-    (drop i (map (atomOf arities) (entries (list .count) blankAtom (list .facts))))
-    ≡ each (checkFact arities objects) none (map (atomOf arities) (entries (list .count) blankAtom (list .facts))))
+    (drop i (factsOf arities list))
+    ≡ each (checkFact arities objects) none (factsOf arities list))
 
 abbrev μ-loop : tie.MeasureT-loop
 μ-loop arities objects list count before₀ i₀ before i = count - i
@@ -47,7 +45,7 @@ enum-told-2 : tie.Need-enum-told-2 Inv-loop μ-loop
 enum-told-2 c = search needs
 
 returns : tie.Need-returns Inv-loop μ-loop
-unfolding checkFact checkOrdered refusalNumber blankAtom
+unfolding checkFact checkOrdered refusalNumber blankAtom factsOf
 returns c = search item-refused
 
 add-i : tie.Need-add-i Inv-loop μ-loop
@@ -57,7 +55,7 @@ loop-less : tie.Need-loop-less Inv-loop μ-loop
 loop-less c = omega arith
 
 loop-again : tie.Need-loop-again Inv-loop μ-loop
-unfolding checkFact checkOrdered refusalNumber blankAtom
+unfolding checkFact checkOrdered refusalNumber blankAtom factsOf
 loop-again c =
     let at-loop = c .before .before .before .before .before in (
       omega arith,
@@ -66,6 +64,7 @@ loop-again c =
     )
 
 returns-2 : tie.Need-returns-2 Inv-loop μ-loop
+unfolding factsOf
 returns-2 c = search items-passed
 
 pub check-facts-spec : {M : Type 1} → statement M

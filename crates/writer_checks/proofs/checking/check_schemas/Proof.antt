@@ -3,21 +3,18 @@ use Prim.Native.Nat.{ℕ, _+_, _≤_, _<_, _-_}
 use native.Mathlib.Omega.{arith}
 use mathlib.Core.Path.{_≡_, refl, ap, _∙_}
 use mathlib.Core.Option.{Option, none}
-use mathlib.Core.List.{List, [], _∷_, map}
+use mathlib.Core.List.{List, [], _∷_}
 use lib.ListN.{getD, drop}
 use borrow.Author.Needs.{needs}
 use Rattle.model.specs.Answer.{Answer}
-use Rattle.model.specs.Card as model
 use Rattle.model.specs.Writer.{each, checkSchema}
-use Rattle.card.specs.Represents.{blankSchema}
-use Rattle.writer_checks.specs.Tables.{entries, schemaTable}
+use Rattle.card.specs.Represents.{blankSchema, schemaOf, schemasOf}
 use Rattle.card.specs.declared.SchemaList.{SchemaList}
 use Rattle.card.specs.declared.Refusal.{Refusal}
 use Rattle.writer_checks.specs.Checking.{checkedSays}
 use Rattle.writer_checks.specs.declared.checking.Checked.{Checked}
 use Rattle.writer_checks.specs.declared.checking.Checked.the-variants.{Passed, Refused}
-use Rattle.writer_checks.proofs.Entries.{default-alike}
-use Rattle.writer_checks.proofs.SchemaLaws.{zeros, zeros-blank}
+use Rattle.card.proofs.Entries.{default-alike, noSchema, no-schema-blank}
 use Rattle.writer_checks.proofs.Loops.{item-refused, item-passed, items-passed}
 use Rattle.writer_checks.proofs.checking.check_schemas.Statement.{statement}
 use Rattle.writer_checks.proofs.checking.check_schemas.Tie as tie
@@ -28,27 +25,25 @@ unfolding each
 alike check p [] = refl
 alike check p (x ∷ xs) = refl
 
--- the schemas of a table
-abbrev table : List ℕ → SchemaList → List model.Schema
-table arities list = map (schemaTable arities) (entries (list .count) blankSchema (list .schemas))
-
 -- what is left to check is the answer
 abbrev Left : List ℕ → SchemaList → ℕ → Type 0
 Left arities list i =
-    each (λ before. checkSchema arities) none (drop i (table arities list)) ≡ each (λ before. checkSchema arities) none (table arities list)
+    each (λ before. checkSchema arities) none (drop i (schemasOf arities list)) ≡ each (λ before. checkSchema arities) none (schemasOf arities list)
 
 module _ (arities : List ℕ) (list : SchemaList) (i : ℕ) (left : Left arities list i) (at : i < list .count) (c : Checked)
-    (says : checkedSays c ≡ checkSchema arities (schemaTable arities (getD (list .schemas) i zeros))) where
-  says-of-item : checkedSays c ≡ checkSchema arities (schemaTable arities (getD (list .schemas) i blankSchema))
+    (says : checkedSays c ≡ checkSchema arities (schemaOf arities (getD (list .schemas) i noSchema))) where
+  says-of-item : checkedSays c ≡ checkSchema arities (schemaOf arities (getD (list .schemas) i blankSchema))
   says-of-item =
-      says ∙ ap (checkSchema arities) (default-alike (schemaTable arities) zeros blankSchema (zeros-blank arities) (list .schemas) i)
+      says ∙ ap (checkSchema arities) (default-alike (schemaOf arities) noSchema blankSchema (no-schema-blank arities) (list .schemas) i)
 
-  schema-refused : (r : Refusal) → c ≡ Refused r → checkedSays c ≡ each (λ before. checkSchema arities) none (table arities list)
+  schema-refused : (r : Refusal) → c ≡ Refused r → checkedSays c ≡ each (λ before. checkSchema arities) none (schemasOf arities list)
+  unfolding schemasOf
   schema-refused r e = item-refused _ _ _ _ _ i none left at c says-of-item r e
 
   schema-passed : c ≡ Passed → Left arities list (i + 1)
+  unfolding schemasOf
   schema-passed e =
-      alike _ _ (drop (i + 1) (table arities list)) ∙ item-passed (λ before. checkSchema arities) _ _ _ _ i none left at c says-of-item e
+      alike _ _ (drop (i + 1) (schemasOf arities list)) ∙ item-passed (λ before. checkSchema arities) _ _ _ _ i none left at c says-of-item e
 
 abbrev Inv-loop : tie.InvT-loop
 Inv-loop arities list count i₀ i = (i ≤ list .count) × Left arities list i
@@ -87,6 +82,7 @@ loop-again : tie.Need-loop-again Inv-loop μ-loop
 loop-again c = (omega arith, search schema-passed)
 
 returns-2 : tie.Need-returns-2 Inv-loop μ-loop
+unfolding schemasOf
 returns-2 c = search items-passed
 
 pub check-schemas-spec : {M : Type 1} → statement M

@@ -8,32 +8,31 @@ use native.Mathlib.Omega.{arith}
 use borrow.Author.Needs.{needs}
 use Rattle.laws.specs.Lists.{any}
 use Rattle.model.specs.Card as model
-use Rattle.card.specs.Represents.{atomOf, blankAtom}
+use Rattle.card.specs.Represents.{blankAtom, atomOf, atomsOf}
 use Rattle.card.specs.declared.Atom.{Atom}
 use Rattle.card.specs.declared.AtomList.{AtomList}
-use Rattle.writer_checks.specs.Tables.{atomTable}
-use Rattle.writer_checks.proofs.Entries.{next-item, no-item}
+use Rattle.card.proofs.Entries.{next-item, no-item}
 use Rattle.writer_checks.proofs.Loops.{any-found, any-next}
 use Rattle.writer_checks.proofs.checking.has_atom.Statement.{statement}
 use Rattle.writer_checks.proofs.checking.has_atom.Tie as tie
 
 -- whether the atom is on the list is whether it is on what is left of it
 abbrev Left : List ℕ → Atom → AtomList → ℕ → Type 0
-Left arities a list i = model.has (drop i (atomTable arities list)) (atomOf arities a) ≡ model.has (atomTable arities list) (atomOf arities a)
+Left arities a list i = model.has (drop i (atomsOf arities list)) (atomOf arities a) ≡ model.has (atomsOf arities list) (atomOf arities a)
 
 module _ (arities : List ℕ) (a : Atom) (list : AtomList) (i : ℕ) (at : i < list .count) (left : Left arities a list i) (r : Bool)
     (says : r ≡ model.sameAtom (atomOf arities a) (atomOf arities (getD (list .atoms) i blankAtom))) where
-  found : r ≡ true → true ≡ model.has (atomTable arities list) (atomOf arities a)
-  unfolding model.has atomTable
+  found : r ≡ true → true ≡ model.has (atomsOf arities list) (atomOf arities a)
+  unfolding model.has atomsOf
   found e = any-found _ _ _ _ (rw (next-item _ _ _ _ i at) at left) (sym says ∙ e)
 
   further : r ≡ false → Left arities a list (i + 1)
-  unfolding model.has atomTable
+  unfolding model.has atomsOf
   further e = any-next _ _ _ _ (rw (next-item _ _ _ _ i at) at left) (sym says ∙ e)
 
 nowhere : (arities : List ℕ) (a : Atom) (list : AtomList) (i : ℕ) → list .count ≤ i → Left arities a list i
-    → false ≡ model.has (atomTable arities list) (atomOf arities a)
-unfolding model.has atomTable any
+    → false ≡ model.has (atomsOf arities list) (atomOf arities a)
+unfolding model.has atomsOf any
 nowhere arities a list i h left = rw (no-item _ _ _ _ i h) at left
 
 abbrev Inv-loop : tie.InvT-loop

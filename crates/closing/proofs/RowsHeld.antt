@@ -1,0 +1,32 @@
+-- A table that the bags P of a task's parameters were written to begins with them.
+use Prim.Native.Nat.{ℕ, _*_, _≤_}
+use mathlib.Core.Path.{_≡_, sym, _∙_}
+use mathlib.Core.List.{List}
+use lib.ListN.{length}
+use Rattle.model.specs.Card.{Task}
+use Rattle.model.specs.Transitions.{properties}
+use Rattle.properties.specs.Parameters.{parametersIn, parameterBags, ParameterTables}
+use Rattle.properties.specs.Tables.{stride, bagsIn}
+use Rattle.properties.proofs.ParameterRows.{sizesOf, together, bagsOf, length-bags, bags-sized}
+use Rattle.properties.proofs.RowTables.{Sized, rows-before-back}
+use Rattle.closing.specs.Typing.{PreconditionRows}
+
+module _ {t : Task} (narrow : length (properties t) ≤ stride) {count : ℕ} {preconditions deletes adds p d a : List ℕ}
+    (written : ParameterTables t count preconditions deletes adds p d a) (room : stride * parametersIn t ≤ length p) where
+  sized : Sized (length (properties t)) (parameterBags (λ s. s .preconditions) t)
+  unfolding parameterBags bagsOf
+  sized = bags-sized (properties t) (λ s. s .preconditions) (t .schemas)
+
+  many : length (parameterBags (λ s. s .preconditions) t) ≡ parametersIn t
+  unfolding parameterBags bagsOf parametersIn together sizesOf
+  many = length-bags (properties t) (λ s. s .preconditions) (t .schemas)
+
+  pub preconditions-held : PreconditionRows t p
+  preconditions-held =
+      let bags = parameterBags (λ s. s .preconditions) t in
+      record {
+        rows-there = room;
+        rows-are =
+            (λ i. bagsIn (length (properties t)) (sym many i) (written .preconditions-are i))
+            ∙ rows-before-back (length (properties t)) narrow bags sized preconditions;
+      }

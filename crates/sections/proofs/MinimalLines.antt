@@ -1,0 +1,90 @@
+-- D and X lines of the conditions of a table: what the code finds of the minimal ones gives the lines of the listing.
+use Prim.Native.Nat.{ℕ, _-_, _≤_, _<_}
+use native.Mathlib.Nat.{sub-zero}
+use native.Mathlib.Omega.{arith}
+use mathlib.Core.Path.{_≡_, refl, sym, ap, ap₂, _∙_}
+use mathlib.Core.Bool.{true}
+use mathlib.Core.List.{List, [], _∷_, _++_, map, List·Memᴰ, List·Memᴰ·head, List·Memᴰ·tail}
+use borrow.Author.Tests.{lt-ltb}
+use lib.Dec.{ltb}
+use lib.ListN.{length, take, length-map}
+use lib.Seq.{take-at}
+use Rattle.card.specs.Represents.{padded}
+use Rattle.card.proofs.Padded.{length-padded}
+use Rattle.conditions.specs.Minimal.{containingAt, MinimalOf}
+use Rattle.conditions.specs.declared.minimal.Minimal.{Minimal}
+use Rattle.conditions.proofs.Containing.{excluded-by}
+use Rattle.laws.specs.Bags.{Bag}
+use Rattle.laws.specs.Lists.{all, upTo, keep}
+use Rattle.laws.proofs.Lists.{all-intro, keep-at, upTo-at, length-upTo, flatMap-append}
+use Rattle.laws.proofs.Mapped.{keep-ext}
+use Rattle.laws.proofs.Walks.{keep-few}
+use Rattle.model.specs.Lines.{Line, membership, exclusion, exclusions, excluded, minimal}
+use Rattle.model.specs.Text.{text, lineText}
+use Rattle.properties.specs.Tables.{bagsIn}
+use Rattle.properties.proofs.RowTables.{length-bagsIn}
+use Rattle.sections.specs.Exclusions.{apartBy, exclusionsBy}
+use Rattle.text.proofs.Writing.{Begins}
+
+-- X lines by masks are those of the listing
+module _ (bags : List Bag) (few : length bags ≤ 64) {masks : List ℕ} (are : masks ≡ padded 64 0 (map (containingAt bags) (upTo (length bags)))) where
+  exclusions-are : (indices : List ℕ) → ((i : ℕ) → List·Memᴰ i indices → i < length bags) → exclusionsBy masks indices ≡ exclusions bags indices
+  unfolding exclusionsBy exclusions apartBy
+  exclusions-are [] h = refl
+  exclusions-are (i ∷ later) h =
+      ap₂ (λ (xs ys : List Line). xs ++ ys)
+      (ap (map (exclusion i)) (keep-ext (apartBy masks i) (excluded bags i) later
+      (λ j m. excluded-by bags few are i j (h i (List·Memᴰ·head refl)) (h j (List·Memᴰ·tail m)))))
+      (exclusions-are later (λ j m. h j (List·Memᴰ·tail m)))
+
+-- minimal conditions have indices of conditions, and there are no more
+pub minimal-below : (bags : List Bag) (i : ℕ) → List·Memᴰ i (minimal bags) → i < length bags
+unfolding minimal
+minimal-below bags i m = upTo-at (length bags) i (keep-at _ (upTo (length bags)) i m .0)
+
+pub minimal-few : (bags : List Bag) → length (minimal bags) ≤ length bags
+unfolding minimal
+minimal-few bags = keep-few _ (length bags)
+
+-- the minimal conditions as the code finds them
+module _ (size count : ℕ) (table : List ℕ) (most : count ≤ 64) {r : Minimal} (found : MinimalOf (bagsIn size count table) r) where
+  abbrev bags : List Bag
+  bags = bagsIn size count table
+
+  few : length bags ≤ 64
+  few = omega (arith, length-bagsIn size count table)
+
+  -- the indices that are lent of its array
+  indices-lent : take (r .count - 0) (r .indices) ≡ minimal bags
+  unfolding padded
+  indices-lent =
+      ap (λ (n : ℕ). take n (r .indices)) (sub-zero (r .count)) ∙ ap (take (r .count)) (found .indices) ∙ take-at (minimal bags) _ (r .count) (sym (found .count))
+
+  pub indices-inside : r .count ≤ length (r .indices)
+  indices-inside =
+      omega (arith, found .count, minimal-few bags, few, ap length (found .indices), length-padded 64 0 (minimal bags) (omega (arith, minimal-few bags, few)))
+
+  -- have masks
+  pub masks-there : all (λ i. ltb i (length (r .containing))) (take (r .count - 0) (r .indices)) ≡ true
+  masks-there =
+      ap (all (λ i. ltb i (length (r .containing)))) indices-lent
+      ∙ all-intro (λ i. ltb i (length (r .containing))) (minimal bags)
+      (λ i m. lt-ltb i (length (r .containing)) (omega (arith, minimal-below bags i m, few, long)))
+    where
+      listed : length (map (containingAt bags) (upTo (length bags))) ≡ length bags
+      listed = length-map (upTo (length bags)) (containingAt bags) ∙ length-upTo (length bags)
+
+      long : length (r .containing) ≡ 64
+      long = ap length (found .containing) ∙ length-padded 64 0 (map (containingAt bags) (upTo (length bags))) (omega (arith, listed, few))
+
+  -- and give the lines, all D and all X
+  pub minimal-parts : Begins (text (map membership (minimal bags) ++ exclusions bags (minimal bags)))
+      (text (map membership (take (r .count - 0) (r .indices)))) (text (exclusionsBy (r .containing) (take (r .count - 0) (r .indices))))
+  unfolding text
+  minimal-parts =
+      record {
+        path =
+            flatMap-append lineText (map membership (minimal bags)) (exclusions bags (minimal bags))
+            ∙ ap₂ (λ (is : List ℕ) (lines : List Line). text (map membership is) ++ text lines) (sym indices-lent)
+            (sym (ap (exclusionsBy (r .containing)) indices-lent ∙ exclusions-are bags few (found .containing) (minimal bags) (minimal-below bags)));
+      }

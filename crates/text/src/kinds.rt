@@ -1,0 +1,10 @@
+// The kinds of spaces, document 01, "Spaces" and "Conditions".
+
+// The kind of a space, one letter of an `S` line.
+pub enum Kind {
+    Static,
+    Attribute,
+    Property,
+    Mixed,
+    Wide,
+}
