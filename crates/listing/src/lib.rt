@@ -20,10 +20,10 @@ ghost use Rattle.model.specs.Calls.{outputBytes};
 ghost use Rattle.card.specs.Represents.{taskOf, Represented};
 ghost use Rattle.properties.specs.Parameters.{parametersIn, RoomForBags};
 ghost use Rattle.closing.specs.Fixed.{fixedTable};
-ghost use Rattle.prepared.specs.Prepared.{rowsAtMost, Given};
+ghost use Rattle.prepared.specs.Prepared.{rowsAtMost, RoomForMoves, Given};
 ghost use Rattle.listing.specs.Answers.{Lists};
 ghost use Rattle.listing.specs.Sections.{TaskLists};
-ghost use Rattle.listing.specs.Lent.{AllAnalysable, RoomForMoves};
+ghost use Rattle.listing.specs.Lent.{AllAnalysable};
 
 // What the listing call answers: the length of the section's text, or why there is none.
 pub enum Listed {

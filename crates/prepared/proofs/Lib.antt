@@ -4,3 +4,4 @@ pub mod Analysing
 pub mod SectionsOf
 pub mod Cleared
 pub mod Totalling
+pub mod Lending

@@ -1,5 +1,5 @@
 -- A task whose tables are filled, and what is known of it beside them.
-use Prim.Native.Nat.{ℕ, _+_, _≤_}
+use Prim.Native.Nat.{ℕ, _+_, _*_, _≤_}
 use mathlib.Core.Path.{_≡_}
 use mathlib.Core.List.{List}
 use lib.ListN.{length}
@@ -8,7 +8,7 @@ use Rattle.model.specs.Card.{Task}
 use Rattle.model.specs.Writer.{checkTask}
 use Rattle.model.specs.Transitions.{properties}
 use Rattle.card.specs.Represents.{padded}
-use Rattle.properties.specs.Tables.{rowsBefore}
+use Rattle.properties.specs.Tables.{stride, rowsBefore}
 use Rattle.properties.specs.Represented.{objectBags, propertyArities}
 use Rattle.properties.specs.Parameters.{parametersIn, RoomForBags, ParameterTables}
 use Rattle.spaces.specs.SpaceTable.{SpacesOf}
@@ -17,6 +17,12 @@ use Rattle.prepared.specs.declared.Prepared.{Prepared}
 -- as many rows as the tables of a task's parameters, or of the moves of one of its spaces, take at most
 unfoldable pub rowsAtMost : Task → ℕ
 rowsAtMost t = parametersIn t + length (properties t)
+
+-- Tables that are lent for the analysis of spaces have room for so many moves, and for 64 conditions.
+pub record RoomForMoves (rows : ℕ) (starts finishes conditions : List ℕ) : Type 0 where
+  pub starts-room : stride * rows ≤ length starts
+  pub finishes-room : stride * rows ≤ length finishes
+  pub conditions-room : length conditions ≡ 3840
 
 -- The answer of `prepare` for a task, and every number of the four tables, before and after.
 pub record PreparedOf (t : Task) (r : Prepared) (preconditions deletes adds counts p d a c : List ℕ) : Type 0 where

@@ -2,7 +2,7 @@
 use Prim.Native.Nat.{ℕ, _+_, _≤_, _<_}
 use native.Mathlib.Numerals.{add-one}
 use native.Mathlib.Omega.{arith}
-use mathlib.Core.Path.{_≡_, refl, sym, ap, _∙_}
+use mathlib.Core.Path.{_≡_, refl, sym, ap, _∙_, subst}
 use mathlib.Core.Bool.{false}
 use mathlib.Core.List.{List, [], _∷_, foldl-append}
 use lib.ListN.{length, getD, take, replicate}
@@ -13,13 +13,14 @@ use Rattle.model.specs.Calls.{output}
 use Rattle.model.specs.Lines.{Line, analysis, closingLines, sections}
 use Rattle.model.specs.Text.{text}
 use Rattle.model.proofs.RuleCount.{properties-few}
+use Rattle.properties.specs.Parameters.{ParameterTables}
 use Rattle.properties.specs.Tables.{stride}
 use Rattle.text.specs.Written.{Writes}
 use Rattle.closing.proofs.TypedObjects.{spaces-few}
 use Rattle.totals.specs.Totals.{totalsOf}
 use Rattle.totals.proofs.AllTotals.{length-totals}
 use Rattle.prepared.specs.Found.{Analysable, FoundAt, foundLines, foundTotals}
-use Rattle.prepared.specs.Prepared.{Given}
+use Rattle.prepared.specs.Prepared.{RoomForMoves, PreparedOf, Given}
 use Rattle.prepared.specs.declared.Found.{Found}
 use Rattle.prepared.specs.declared.Prepared.{Prepared}
 use Rattle.prepared.proofs.Analysing.{found-of}
@@ -27,8 +28,7 @@ use Rattle.prepared.proofs.Finding.{lines-found}
 use Rattle.prepared.proofs.SectionsOf.{section-count, section-of-space, section-closing}
 use Rattle.prepared.proofs.Totalling.{totals-none, totals-with}
 use Rattle.printer.specs.declared.printing.Printing.{Printing}
-use Rattle.printer.specs.Ready.{Lent}
-use Rattle.printer.specs.Leaves.{over, inTurn, SpacePrinted, Reaches}
+use Rattle.printer.specs.Leaves.{over, inTurn, SpacePrinted, Reaches, Filled}
 
 -- a section that is written
 pub one-turn : (section : List Line) {out out' : List ℕ} {n : ℕ} → Writes (text section) out out' n → out' ≡ inTurn (section ∷ []) out
@@ -77,33 +77,19 @@ pub record Kept (starts₀ starts finishes₀ finishes conditions₀ conditions 
   pub conditions-kept : length conditions ≡ length conditions₀
   pub out-kept : length out ≡ length out₀
 
-pub lent-again : {moves : ℕ} {starts₀ starts finishes₀ finishes conditions₀ conditions out₀ out : List ℕ}
-    → Lent moves starts₀ finishes₀ conditions₀ out₀ → Kept starts₀ starts finishes₀ finishes conditions₀ conditions out₀ out
-    → Lent moves starts finishes conditions out
-lent-again lent k = record {
-  starts-long = omega (arith, lent .starts-long, k .starts-kept);
-  finishes-long = omega (arith, lent .finishes-long, k .finishes-kept);
-  conditions-long = k .conditions-kept ∙ lent .conditions-long;
-  out-long = omega (arith, lent .out-long, k .out-kept);
+pub room-again : {rows : ℕ} {starts₀ starts finishes₀ finishes conditions₀ conditions out₀ out : List ℕ}
+    → RoomForMoves rows starts₀ finishes₀ conditions₀ → Kept starts₀ starts finishes₀ finishes conditions₀ conditions out₀ out
+    → RoomForMoves rows starts finishes conditions
+room-again room k = record {
+  starts-room = omega (arith, room .starts-room, k .starts-kept);
+  finishes-room = omega (arith, room .finishes-room, k .finishes-kept);
+  conditions-room = k .conditions-kept ∙ room .conditions-room;
 }
 
-module _ {t : Task} {p : Prepared} {preconditions deletes adds counts : List ℕ} (given : Given t p preconditions deletes adds counts) where
-  -- a task has few spaces, and each can be analysed with what is lent
-  pub spaces-low : p .spaces .count ≤ 60
-  spaces-low = spaces-few t (p .spaces) (given .prepared .spaces-are) (properties-few t (given .checked))
-
-  pub analysable-next : {number : ℕ} {starts finishes conditions out : List ℕ} → number < p .spaces .count
-      → Lent (p .parameters + p .properties) starts finishes conditions out
-      → Analysable number p deletes adds counts starts finishes conditions
-  analysable-next h lent = record {
-    task = t;
-    preconditions = preconditions;
-    given = given;
-    known = h;
-    starts-long = lent .starts-long;
-    finishes-long = lent .finishes-long;
-    conditions-long = lent .conditions-long;
-  }
+-- a task has few spaces
+pub spaces-low : {t : Task} {p : Prepared} {preconditions deletes adds counts : List ℕ} → Given t p preconditions deletes adds counts
+    → p .spaces .count ≤ 60
+spaces-low {t} {p} given = spaces-few t (p .spaces) (given .prepared .spaces-are) (properties-few t (given .checked))
 
 -- the table of totals has its length
 pub fixed-long : {t : Task} {number : ℕ} {fixed out₀ out : List ℕ} → Before t number fixed out₀ out → length fixed ≡ 60
@@ -151,3 +137,11 @@ to-the-end {t} given e = record { whole = λ w. omega (arith, e, given .prepared
 -- a listing that a write cut off
 pub cut-off : {sections : List (List Line)} {r : Printing} → r .written ≡ false → Reaches sections r
 cut-off e = record { whole = λ w. never (sym w ∙ e) }
+
+-- the tables that were filled: every number of them
+pub filled : {t : Task} {r : Prepared} {preconditions deletes adds counts p d a c : List ℕ} → PreparedOf t r preconditions deletes adds counts p d a c
+    → Filled t preconditions deletes adds counts p d a c
+filled {t} {preconditions = preconditions} {deletes} {adds} {p = p} {d} {a} of = record {
+  parameters-are = subst (λ (n : ℕ). ParameterTables t n preconditions deletes adds p d a) (of .tables .counted) (of .tables);
+  counts-are = of .counts-are;
+}

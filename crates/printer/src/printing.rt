@@ -14,7 +14,7 @@ use prepared::write_space_section;
 use spaces::Spaces;
 ghost use mathlib.Core.Path.{_≡_};
 ghost use mathlib.Core.List.{[], _∷_};
-ghost use Prim.Native.Nat.{_+_, _≤_};
+ghost use Prim.Native.Nat.{_≤_};
 ghost use lib.ListN.{length, take};
 ghost use Rattle.model.specs.Calls.{outputBytes};
 ghost use Rattle.model.specs.Lines.{analysis, closingLines, sections};
@@ -23,9 +23,9 @@ ghost use Rattle.properties.specs.Parameters.{parametersIn, RoomForBags};
 ghost use Rattle.spaces.specs.SpaceTable.{SpacesOf};
 ghost use Rattle.closing.specs.Fixed.{fixedTable};
 ghost use Rattle.closing.specs.Typing.{PreconditionRows};
-ghost use Rattle.prepared.specs.Prepared.{rowsAtMost};
+ghost use Rattle.prepared.specs.Prepared.{rowsAtMost, RoomForMoves};
 ghost use Rattle.prepared.specs.Found.{Analysable};
-ghost use Rattle.printer.specs.Ready.{Ready, Lent};
+ghost use Rattle.printer.specs.Ready.{Ready};
 ghost use Rattle.printer.specs.Leaves.{inTurn, SpacePrinted, Reaches, Filled};
 
 // How far a listing was printed: how many of its sections were made, and whether all of it was written.
@@ -116,9 +116,8 @@ fn print_sections(
     out: &mut [u8],
 ) -> Printing
     requires { ⌜ Ready task prepared (now preconditions) (now deletes) (now adds) (now counts) ⌝ }
-    requires { ⌜
-        Lent (prepared .parameters + prepared .properties) (now starts) (now finishes) (now conditions) (now out)
-        ⌝ }
+    requires { ⌜ RoomForMoves (rowsAtMost (taskOf task)) (now starts) (now finishes) (now conditions) ⌝ }
+    requires { ⌜ outputBytes ≤ length (now out) ⌝ }
     ensures { λ r. ⌜ Reaches (sections (taskOf task)) r ⌝ }
     ensures { λ r. ⌜ now (out .exit) ≡ inTurn (take (r .sections) (sections (taskOf task))) (now (out .entry)) ⌝ }
 {
@@ -167,9 +166,10 @@ fn print_with(
     out: &mut [u8],
 ) -> Printing
     requires { ⌜ Represented task (taskOf task) ⌝ }
+    requires { ⌜ outputBytes ≤ length (now out) ⌝ }
     requires { ⌜ RoomForBags (parametersIn (taskOf task)) (now preconditions) (now deletes) (now adds) ⌝ }
     requires { ⌜ 3840 ≤ length (now counts) ⌝ }
-    requires { ⌜ Lent (rowsAtMost (taskOf task)) (now starts) (now finishes) (now conditions) (now out) ⌝ }
+    requires { ⌜ RoomForMoves (rowsAtMost (taskOf task)) (now starts) (now finishes) (now conditions) ⌝ }
     ensures { λ _. ⌜
         Filled
         (taskOf task)

@@ -3,7 +3,7 @@ use native.Mathlib.Omega.{arith}
 use borrow.Author.Needs.{needs}
 use Rattle.properties.proofs.ParameterRows.{rows-few}
 use Rattle.prepared.proofs.Cleared.{cleared-length}
-use Rattle.listing.proofs.Listing.{rows-most, cleared-tables}
+use Rattle.prepared.proofs.Lending.{rows-most, cleared-tables}
 use Rattle.listing.proofs.list_large.Statement.{statement}
 use Rattle.listing.proofs.list_large.Tie as tie
 

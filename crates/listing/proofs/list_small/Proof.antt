@@ -3,7 +3,7 @@ use native.Mathlib.Omega.{arith}
 use borrow.Author.Needs.{needs}
 use Rattle.card.specs.Represents.{taskOf}
 use Rattle.prepared.proofs.Cleared.{cleared-length}
-use Rattle.listing.proofs.Listing.{parameters-fewer, cleared-tables}
+use Rattle.prepared.proofs.Lending.{parameters-fewer, cleared-tables}
 use Rattle.listing.proofs.list_small.Statement.{statement}
 use Rattle.listing.proofs.list_small.Tie as tie
 

@@ -1,10 +1,11 @@
 -- No section past the closing one; that of a space, or the closing one.
 use borrow.Author.Needs.{needs}
 use Rattle.prepared.proofs.Analysing.{found-of}
+use Rattle.prepared.proofs.Lending.{given-filled, analysable-given}
 use Rattle.prepared.proofs.Totalling.{preconditions-given}
 use Rattle.listing.proofs.Answering.{list-unknown, list-written}
 use Rattle.listing.proofs.Totalling.{found-for}
-use Rattle.listing.proofs.Listing.{given-filled, analysable-given, space-listed, closing-listed}
+use Rattle.listing.proofs.Listing.{space-listed, closing-listed}
 use Rattle.listing.proofs.list_with.Statement.{statement}
 use Rattle.listing.proofs.list_with.Tie as tie
 

@@ -1,11 +1,9 @@
 -- Tables of 192 and of 252 rows have room for any task.
 use native.Mathlib.Omega.{arith}
 use borrow.Author.Needs.{needs}
-use Rattle.model.proofs.RuleCount.{properties-few}
 use Rattle.properties.proofs.ParameterRows.{rows-few}
-use Rattle.prepared.proofs.Cleared.{cleared-length, cleared-long, cleared-room}
-use Rattle.prepared.specs.Prepared.{rowsAtMost}
-use Rattle.printer.proofs.Tables.{cleared-lent}
+use Rattle.prepared.proofs.Cleared.{cleared-length}
+use Rattle.prepared.proofs.Lending.{rows-most, cleared-tables}
 use Rattle.printer.proofs.printing.print_large.Statement.{statement}
 use Rattle.printer.proofs.printing.print_large.Tie as tie
 
@@ -31,14 +29,10 @@ slice-aggregate-print-with-7 : tie.Need-slice-aggregate-print-with-7
 slice-aggregate-print-with-7 c = cleared-length _
 
 print-with-requires : tie.Need-print-with-requires
-unfolding rowsAtMost
 print-with-requires c κs =
     let pre = c .before .before .before .before .before .before .before .before .before .pre in
-    let rows = rows-few _ (pre .0 .checked) in
-    let columns = properties-few _ (pre .0 .checked) in (
-      pre .0,
-      (cleared-room 11520 (omega arith), (cleared-long 3840 3840 (omega arith), cleared-lent 15120 (omega arith) (pre .1))),
-    )
+    let ok = pre .0 .checked in
+    (pre .0, (pre .1, cleared-tables 11520 15120 (omega (arith, rows-few _ ok)) (omega (arith, rows-most _ ok))))
 
 same-length : tie.Need-same-length
 same-length c = search needs

@@ -3,9 +3,9 @@ use native.Mathlib.Omega.{arith}
 use Prim.Native.Nat.{_-_, _≤_}
 use mathlib.Core.Path.{refl, sym, _∙_}
 use Rattle.card.specs.Represents.{taskOf}
+use Rattle.prepared.proofs.Lending.{analysable-given}
 use Rattle.prepared.proofs.Totalling.{totals-all, preconditions-given}
-use Rattle.printer.proofs.Turns.{Before, Kept, lent-again, spaces-low, analysable-next, fixed-long, before-first, space-next, closing-next}
-use Rattle.printer.proofs.Turns.{to-the-end, cut-off}
+use Rattle.printer.proofs.Turns.{Before, Kept, room-again, spaces-low, fixed-long, before-first, space-next, closing-next, to-the-end, cut-off}
 use Rattle.printer.proofs.printing.print_sections.Statement.{statement}
 use Rattle.printer.proofs.printing.print_sections.Tie as tie
 
@@ -36,8 +36,8 @@ print-space-requires c κs =
     let loop = c .before .before .before .before .before .before in
     let pre = entry loop .pre in
     let inv = loop .loop .inv .1 in
-    let lent = lent-again (pre .1) (inv .1) in
-    (analysable-next (pre .0 .given) (c .before .before .before .before .before .loop-test .taken) lent, (fixed-long (inv .0), lent .out-long))
+    let room = room-again (pre .1 .0) (inv .1) in
+    (analysable-given (pre .0 .given) room (c .before .before .before .before .before .loop-test .taken), (fixed-long (inv .0), omega (arith, pre .1 .1, inv .1 .out-kept)))
 
 add-number : tie.Need-add-number Inv-loop μ-loop
 add-number c =
@@ -109,7 +109,7 @@ print-closing-requires c κs =
         given .prepared .spaces-are,
         (
           inv .0 .totals ∙ totals-all given (c .before .before .loop-test .left),
-          (preconditions-given given, lent-again (pre .1) (inv .1) .out-long),
+          (preconditions-given given, omega (arith, pre .1 .1, inv .1 .out-kept)),
         ),
       ),
     )

@@ -1,9 +1,9 @@
 -- Tables of 32 rows have room for a small task.
 use native.Mathlib.Omega.{arith}
 use borrow.Author.Needs.{needs}
-use Rattle.prepared.proofs.Cleared.{cleared-length, cleared-long, cleared-room}
-use Rattle.prepared.specs.Prepared.{rowsAtMost}
-use Rattle.printer.proofs.Tables.{cleared-lent}
+use Rattle.card.specs.Represents.{taskOf}
+use Rattle.prepared.proofs.Cleared.{cleared-length}
+use Rattle.prepared.proofs.Lending.{parameters-fewer, cleared-tables}
 use Rattle.printer.proofs.printing.print_small.Statement.{statement}
 use Rattle.printer.proofs.printing.print_small.Tie as tie
 
@@ -29,13 +29,11 @@ slice-aggregate-print-with-7 : tie.Need-slice-aggregate-print-with-7
 slice-aggregate-print-with-7 c = cleared-length _
 
 print-with-requires : tie.Need-print-with-requires
-unfolding rowsAtMost
 print-with-requires c κs =
-    let pre = c .before .before .before .before .before .before .before .before .before .pre in
-    let few = pre .1 .0 in (
-      pre .0,
-      (cleared-room 1920 (omega arith), (cleared-long 3840 3840 (omega arith), cleared-lent 1920 (omega arith) (pre .1 .1))),
-    )
+    let s = c .before .before .before .before .before .before .before .before .before in
+    let few = s .pre .1 .0 in
+    let fewer = parameters-fewer (taskOf (s .args .task)) in
+    (s .pre .0, (s .pre .1 .1, cleared-tables 1920 1920 (omega arith) (omega arith)))
 
 same-length : tie.Need-same-length
 same-length c = search needs

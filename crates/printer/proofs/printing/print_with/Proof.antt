@@ -1,6 +1,7 @@
 -- The tables are filled, and the sections printed from them.
 use borrow.Author.Needs.{needs}
-use Rattle.printer.proofs.Tables.{filled, given-then, lent-then}
+use Rattle.prepared.proofs.Lending.{given-filled}
+use Rattle.printer.proofs.Turns.{filled}
 use Rattle.printer.proofs.printing.print_with.Statement.{statement}
 use Rattle.printer.proofs.printing.print_with.Tie as tie
 
@@ -15,13 +16,14 @@ print-sections-requires : tie.Need-print-sections-requires
 print-sections-requires c κs =
     let called = c .before .before .before .before .before .before .before .before .before .before .before .before .before .before .before .before in
     let pre = called .before .before .before .before .before .before .before .before .before .before .before .before .before .pre in
-    let of = called .prepare .ensures in
     let kept = called .prepare .kept .1 in (
       record {
         represented = pre .0;
-        given = given-then of (pre .0 .checked) (pre .1 .0) (pre .1 .1 .0) (kept .0) (kept .1 .0) (kept .1 .1 .0) (kept .1 .1 .1 .0);
+        given =
+            given-filled (pre .0 .checked) (pre .1 .1 .0) (pre .1 .1 .1 .0) (called .prepare .ensures)
+            (kept .0, (kept .1 .0, (kept .1 .1 .0, kept .1 .1 .1 .0)));
       },
-      lent-then of (pre .1 .1 .1),
+      (pre .1 .1 .1 .1, pre .1 .0),
     )
 
 same-length : tie.Need-same-length
