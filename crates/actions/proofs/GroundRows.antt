@@ -1,16 +1,17 @@
 -- The rows of facts and of ground atoms, and lists of them filled one after the other.
-use Prim.Native.Nat.{ℕ, zero, suc, _+_, _-_, _≤_, _<_}
+use Prim.Native.Nat.{ℕ, zero, suc, _+_, _≤_, _<_}
 use native.Mathlib.Nat.{not-suc-le-zero}
 use native.Mathlib.Omega.{arith}
 use native.Mathlib.Numerals.{add-one}
 use mathlib.Core.Path.{_≡_, refl, sym, ap, _∙_}
 use mathlib.Core.Bool.{true}
-use mathlib.Core.List.{List, [], _∷_, _++_, map, map-append, map-map, append-assoc}
+use mathlib.Core.List.{List, [], _∷_, _++_, map, map-append, map-map}
 use lib.Dec.{ltb}
-use lib.ListN.{length, getD, take, drop, set, replicate, length-append, length-map}
-use lib.Seq.{take-suc, set-at, length-take-le}
+use lib.ListN.{length, getD, take, drop, set, length-map}
+use lib.Seq.{take-suc, length-take-le}
 use borrow.Author.Tests.{ltb-true}
-use Rattle.laws.specs.Lists.{all}
+use Rattle.laws.specs.Lists.{all, padded}
+use Rattle.laws.proofs.Padded.{map-written}
 use Rattle.laws.proofs.Tests.{and-left, and-right}
 use Rattle.laws.proofs.Lists.{all-at}
 use Rattle.laws.proofs.Mapped.{take-map}
@@ -24,7 +25,6 @@ use Rattle.card.proofs.Entries.{item-in, atoms-within, facts-within}
 use Rattle.card.specs.declared.Atom.{Atom as Kept}
 use Rattle.card.specs.declared.AtomList.{AtomList}
 use Rattle.card.specs.declared.FactList.{FactList}
-use Rattle.sets.specs.Numbers.{filled}
 use Rattle.state.specs.Rows.{rowNumber, factNumber}
 use Rattle.state.proofs.Writing.{store-next}
 use Rattle.actions.specs.Grounds.{placeByte, factsKept, Bound, FactsRight}
@@ -118,17 +118,6 @@ module _ {A : Type 0} where
   map-next f xs i d h =
       ap (λ (k : ℕ). map f (take k xs)) (add-one i) ∙ ap (map f) (take-suc xs i d h) ∙ map-append f (take i xs) (getD xs i d ∷ [])
 
--- one more number at the front of zeros
-pub filled-next : (size i v : ℕ) (ns : List ℕ) → length ns ≡ i → i < size → set (filled size ns) i v ≡ filled size (ns ++ (v ∷ []))
-unfolding filled
-filled-next size i v ns n h =
-    let zeros : size - length ns ≡ suc (size - suc i) = omega arith in
-    let fewer : size - suc i ≡ size - length (ns ++ (v ∷ [])) = (let l = length-append ns (v ∷ []) in omega arith) in
-    ap (λ (k : ℕ). set (ns ++ replicate k 0) i v) zeros
-    ∙ set-at ns 0 (replicate (size - suc i) 0) v i n
-    ∙ sym (append-assoc ns (v ∷ []) (replicate (size - suc i) 0))
-    ∙ ap (λ (k : ℕ). ns ++ (v ∷ []) ++ replicate k 0) fewer
-
 -- Ground facts of the first i atoms.
 module _ (arities objects : List ℕ) (l : AtomList) (bound : Bound arities objects l) where
   abbrev pub numberOf : Kept → ℕ
@@ -142,19 +131,15 @@ module _ (arities objects : List ℕ) (l : AtomList) (bound : Bound arities obje
       (item-in (atomOf arities) (l .count) blankAtom (l .atoms) i h)
 
   pub grounded-step :
-      (i v : ℕ) (numbers : List ℕ) → i < l .count → numbers ≡ filled 8 (map numberOf (take i (l .atoms)))
-      → v ≡ numberOf (getD (l .atoms) i blankAtom) → set numbers i v ≡ filled 8 (map numberOf (take (i + 1) (l .atoms)))
+      (i v : ℕ) (numbers : List ℕ) → i < l .count → numbers ≡ padded 8 0 (map numberOf (take i (l .atoms)))
+      → v ≡ numberOf (getD (l .atoms) i blankAtom) → set numbers i v ≡ padded 8 0 (map numberOf (take (i + 1) (l .atoms)))
   grounded-step i v numbers h e p =
       let few = bound .few in
       let size = bound .size in
-      ap (λ (ns : List ℕ). set ns i v) e
-      ∙ filled-next 8 i v (map numberOf (take i (l .atoms)))
-      (length-map (take i (l .atoms)) numberOf ∙ length-take-le i (l .atoms) (omega arith)) (omega arith)
-      ∙ ap (filled 8)
-      (ap (λ (n : ℕ). map numberOf (take i (l .atoms)) ++ (n ∷ [])) p ∙ sym (map-next numberOf (l .atoms) i blankAtom (omega arith)))
+      ap (set numbers i) p ∙ map-written 8 numberOf (l .atoms) blankAtom numbers i (omega arith) (omega arith) e
 
   pub grounded-end :
-      (i : ℕ) (numbers : List ℕ) → i ≡ l .count → numbers ≡ filled 8 (map numberOf (take i (l .atoms)))
+      (i : ℕ) (numbers : List ℕ) → i ≡ l .count → numbers ≡ padded 8 0 (map numberOf (take i (l .atoms)))
       → record { count = l .count; numbers = numbers } ≡ factsKept (map (ground objects) (atomsOf arities l))
   unfolding factsKept
   grounded-end i numbers all e =
@@ -164,9 +149,9 @@ module _ (arities objects : List ℕ) (l : AtomList) (bound : Bound arities obje
       let n : l .count ≡ length (map (ground objects) (map (atomOf arities) atoms)) =
       (sym (length-take-le (l .count) (l .atoms) (omega arith)) ∙ sym (length-map atoms (atomOf arities))
       ∙ sym (length-map (map (atomOf arities) atoms) (ground objects))) in
-      let same : numbers ≡ filled 8 (map factNumber (map (ground objects) (map (atomOf arities) atoms))) =
-      (e ∙ ap (λ (k : ℕ). filled 8 (map numberOf (take k (l .atoms)))) all
-      ∙ ap (filled 8)
+      let same : numbers ≡ padded 8 0 (map factNumber (map (ground objects) (map (atomOf arities) atoms))) =
+      (e ∙ ap (λ (k : ℕ). padded 8 0 (map numberOf (take k (l .atoms)))) all
+      ∙ ap (padded 8 0)
       (sym (map-map factNumber (λ a. ground objects (atomOf arities a)) atoms)
       ∙ ap (map factNumber) (sym (map-map (ground objects) (atomOf arities) atoms)))) in
       let whole : record { count = l .count; numbers = numbers } ≡ factsKept (map (ground objects) (map (atomOf arities) atoms)) =

@@ -5,14 +5,13 @@ use mathlib.Core.Bool.{true, cond}
 use mathlib.Core.List.{List, map}
 use lib.Dec.{leb, ltb}
 use lib.ListN.{length}
-use Rattle.laws.specs.Lists.{all}
+use Rattle.laws.specs.Lists.{all, padded}
 use Rattle.model.specs.Card.{Atom, inRange}
 use Rattle.model.specs.Writer.{known}
 use Rattle.model.specs.Strips.{filler}
 use Rattle.card.specs.Represents.{atomsOf, factsOf}
 use Rattle.card.specs.declared.AtomList.{AtomList}
 use Rattle.card.specs.declared.FactList.{FactList}
-use Rattle.sets.specs.Numbers.{filled}
 use Rattle.state.specs.Rows.{factNumber}
 use Rattle.actions.specs.declared.Facts.{Facts}
 
@@ -21,7 +20,7 @@ unfoldable pub placeByte : ℕ → ℕ → ℕ → ℕ
 placeByte arity k byte = cond (leb k arity) byte filler
 
 unfoldable pub factsKept : List Atom → Facts
-factsKept facts = record { count = length facts; numbers = filled 8 (map factNumber facts) }
+factsKept facts = record { count = length facts; numbers = padded 8 0 (map factNumber facts) }
 
 -- A list of a schema's atoms as the code keeps it, with an object for each parameter.
 pub record Bound (arities objects : List ℕ) (l : AtomList) : Type 0 where

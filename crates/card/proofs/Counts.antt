@@ -4,10 +4,10 @@ use native.Mathlib.Omega.{arith}
 use mathlib.Core.Path.{_≡_, ap, _∙_}
 use mathlib.Core.List.{map}
 use lib.ListN.{length, length-map}
+use Rattle.laws.proofs.Padded.{length-padded}
 use Rattle.model.proofs.Checked.{Checked, checked}
 use Rattle.card.specs.declared.Task.{Task}
 use Rattle.card.specs.Represents.{taskOf, taskFor, aritiesFor, schemaFor, blankSchema, schemasFor, atomFor, blankAtom, factsFor, Represented}
-use Rattle.card.proofs.Padded.{length-padded}
 
 module _ (task : Task) (r : Represented task (taskOf task)) where
   pub right : Checked (taskOf task)

@@ -7,26 +7,17 @@ use mathlib.Core.Path.{_≡_, refl, sym, ap, _∙_, subst}
 use mathlib.Core.List.{List, [], _∷_, _++_, map, List·Memᴰ}
 use lib.ListN.{length, getD, take, drop, replicate, length-append, length-replicate, length-map, List·getD-map, drop-of-length-le}
 use lib.Seq.{drop-cons, getD-take, length-take-le, take-append-le, take-at}
+use Rattle.laws.specs.Lists.{padded}
 use Rattle.laws.proofs.Lists.{mem-getD}
+use Rattle.laws.proofs.Padded.{padded-getD}
 use Rattle.card.specs.declared.AtomList.{AtomList}
 use Rattle.card.specs.declared.ArityList.{ArityList}
 use Rattle.card.specs.declared.Schema.{Schema}
 use Rattle.card.specs.declared.SchemaList.{SchemaList}
 use Rattle.card.specs.declared.FactList.{FactList}
-use Rattle.card.specs.Represents.{padded, blankAtom, atomsFor, blankSchema, entries, atomOf, atomsOf, schemaOf, aritiesOf, schemasOf, factsOf}
+use Rattle.card.specs.Represents.{blankAtom, atomsFor, blankSchema, entries, atomOf, atomsOf, schemaOf, aritiesOf, schemasOf, factsOf}
 
 module _ {A : Type 0} where
-  -- a list filled up with blanks has at each place what stands there, or the blank
-  getD-blanks : (n i : ℕ) (blank : A) → getD (replicate n blank) i blank ≡ blank
-  getD-blanks zero i blank = refl
-  getD-blanks (suc n) zero blank = refl
-  getD-blanks (suc n) (suc i) blank = getD-blanks n i blank
-
-  getD-filled : (xs : List A) (n i : ℕ) (blank : A) → getD (xs ++ replicate n blank) i blank ≡ getD xs i blank
-  getD-filled [] n i blank = getD-blanks n i blank
-  getD-filled (x ∷ xs) n zero blank = refl
-  getD-filled (x ∷ xs) n (suc i) blank = getD-filled xs n i blank
-
   pub length-entries : (count : ℕ) (blank : A) (xs : List A) → length (entries count blank xs) ≡ count
   unfolding entries padded
   length-entries count blank xs =
@@ -34,8 +25,8 @@ module _ {A : Type 0} where
       (rw (length-append, length-replicate) (omega arith))
 
   pub getD-entries : (count : ℕ) (blank : A) (xs : List A) (i : ℕ) → i < count → getD (entries count blank xs) i blank ≡ getD xs i blank
-  unfolding entries padded
-  getD-entries count blank xs i h = getD-take count (xs ++ replicate (count - length xs) blank) i blank h ∙ getD-filled xs (count - length xs) i blank
+  unfolding entries
+  getD-entries count blank xs i h = getD-take count (padded count blank xs) i blank h ∙ padded-getD count blank xs i
 
   -- the next entry at place i, and none at the count
   pub next-entry : (count : ℕ) (blank : A) (xs : List A) (i : ℕ) → i < count

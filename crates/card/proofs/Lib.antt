@@ -1,4 +1,3 @@
 pub mod Deciding
-pub mod Padded
 pub mod Counts
 pub mod Entries

@@ -1,8 +1,9 @@
 -- What the code's structs and enums stand for: the numbers of document 01, and a task with its arrays filled up by a fixed blank.
-use Prim.Native.Nat.{ℕ, _-_}
-use mathlib.Core.List.{List, [], _∷_, _++_, map}
-use lib.ListN.{length, getD, take, replicate}
+use Prim.Native.Nat.{ℕ}
+use mathlib.Core.List.{List, [], _∷_, map}
+use lib.ListN.{length, getD, take}
 use mathlib.Core.Path.{_≡_}
+use Rattle.laws.specs.Lists.{padded}
 use Rattle.model.specs.Answer.{Answer, refused, accepted}
 use Rattle.model.specs.Card as model
 use Rattle.model.specs.Writer.{checkTask}
@@ -38,10 +39,6 @@ refusalNumber FactOrder = 13
 refusalNumber BytesFollow = 14
 
 -- How the code keeps a task of the model: places that are no part of it hold a blank.
--- a list filled up to a length
-unfoldable pub padded : {A : Type 0} → ℕ → A → List A → List A
-padded size blank xs = xs ++ replicate (size - length xs) blank
-
 unfoldable pub atomFor : model.Atom → Atom
 atomFor a =
     record {

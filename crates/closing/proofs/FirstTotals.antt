@@ -5,6 +5,7 @@ use mathlib.Core.Path.{_≡_, refl, sym, ap, _∙_}
 use mathlib.Core.List.{List, [], _∷_, _++_, map, flatMap}
 use lib.ListN.{length, getD, take, drop, length-map, length-drop}
 use lib.Seq.{getD-take, getD-drop, length-take-le, ext-getD}
+use Rattle.laws.proofs.Padded.{length-padded, padded-at}
 use Rattle.laws.specs.Lists.{sum, upTo}
 use Rattle.laws.proofs.Lists.{length-upTo, getD-upTo, upTo-at}
 use Rattle.laws.proofs.Mapped.{getD-map, flatMap-ext}
@@ -13,7 +14,6 @@ use Rattle.model.specs.Card.{Task}
 use Rattle.model.specs.Transitions.{properties}
 use Rattle.model.specs.Lines.{total, analysis, propertyNumber, totalsBy, totals}
 use Rattle.model.proofs.RuleCount.{length-properties}
-use Rattle.card.proofs.Padded.{length-padded, padded-at}
 use Rattle.closing.proofs.Tallying.{entry-next, entry-none}
 use Rattle.closing.specs.Fixed.{firstAndOne, fixedOf, fixedTable, firstSome, totalLine, totalFound}
 

@@ -7,6 +7,7 @@ use mathlib.Core.List.{List, [], map, foldl, map-map, List·Memᴰ}
 use lib.Dec.{eqb, ltb}
 use lib.ListN.{length, getD, take, length-map}
 use borrow.Author.Tests.{ltb-true, ltb-false}
+use Rattle.laws.proofs.Padded.{length-padded, padded-at, padded-past}
 use Rattle.laws.specs.Lists.{any, all, keep, upTo, sum, member, distinct}
 use Rattle.laws.specs.Bags.{Bag, support}
 use Rattle.laws.proofs.Tests.{by-test}
@@ -33,8 +34,6 @@ use Rattle.properties.proofs.ParameterRows.{sizesOf, together, bagsOf, length-s
 use Rattle.spaces.specs.declared.Spaces as code
 use Rattle.spaces.specs.SpaceTable.{SpacesOf, groupsOf, lowestOf}
 use Rattle.spaces.specs.Steps.{enabledBy}
-use Rattle.card.proofs.Padded.{padded-at, length-padded}
-use Rattle.spaces.proofs.Filling.{padded-past}
 use Rattle.spaces.proofs.Joins.{masksOf, masks-at, mask-ext, enabled-joins}
 use Rattle.spaces.proofs.TaskSpaces.{groupArray, own-label, labels-known, member-alone}
 use Rattle.closing.specs.Typing.{labelMasks, typedLines, MembersGiven, PreconditionRows}
@@ -75,7 +74,7 @@ module _ (t : Task) (sp : code.Spaces) (of : SpacesOf t sp) (narrow : length (pr
   lowest-known k =
       by-test (ltb k (length (labels t)))
       (λ e. let h = ltb-true k (length (labels t)) e in omega (arith, lowest-are k h, label-below k h))
-      (λ e. omega (arith, ap (λ (l : List ℕ). getD l k 0) (of .lowest), padded-past 60 (labels t) k (ltb-false k (length (labels t)) e)))
+      (λ e. omega (arith, ap (λ (l : List ℕ). getD l k 0) (of .lowest), padded-past 60 0 (labels t) k (ltb-false k (length (labels t)) e)))
 
   groups-long : length (sp .groups) ≡ 60
   unfolding groupArray groups

@@ -2,11 +2,10 @@
 use Prim.Native.Nat.{ℕ, zero, suc}
 use mathlib.Core.List.{List, [], _∷_, map}
 use lib.ListN.{length, getD, take, drop}
-use Rattle.laws.specs.Lists.{sum, upTo}
+use Rattle.laws.specs.Lists.{sum, upTo, padded}
 use Rattle.model.specs.Card.{Task}
 use Rattle.model.specs.Transitions.{properties}
 use Rattle.model.specs.Lines.{Line, total, Analysis, analysis, totalsBy}
-use Rattle.card.specs.Represents.{padded}
 use Rattle.properties.specs.Tables.{stride}
 
 -- the first number of a list and one, 0 for none

@@ -7,10 +7,9 @@ use mathlib.Core.Bool.{Bool, true, false, not, _&&_}
 use mathlib.Core.List.{List, [], map}
 use lib.Dec.{eqb}
 use lib.ListN.{length, getD, length-map}
-use Rattle.card.specs.Represents.{padded}
-use Rattle.card.proofs.Padded.{padded-at}
+use Rattle.laws.proofs.Padded.{padded-at}
 use Rattle.laws.specs.Bags.{Bag, contains, strictlyContains}
-use Rattle.laws.specs.Lists.{any, keep, upTo, same}
+use Rattle.laws.specs.Lists.{any, keep, upTo, same, padded}
 use Rattle.laws.proofs.Bags.{contains-refl, contains-antisym, strictly-at}
 use Rattle.laws.proofs.Lists.{same-eq, same-refl, upTo-at, length-upTo, getD-upTo}
 use Rattle.laws.proofs.Mapped.{getD-map, keep-ext, any-ext, any-map}

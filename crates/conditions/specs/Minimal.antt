@@ -4,9 +4,8 @@ use mathlib.Core.Path.{_≡_}
 use mathlib.Core.Bool.{Bool, not, _&&_}
 use mathlib.Core.List.{List, [], map}
 use lib.ListN.{length, getD}
-use Rattle.card.specs.Represents.{padded}
 use Rattle.laws.specs.Bags.{Bag, contains}
-use Rattle.laws.specs.Lists.{keep, upTo}
+use Rattle.laws.specs.Lists.{keep, upTo, padded}
 use Rattle.masks.specs.Sets.{maskOf, isMember}
 use Rattle.model.specs.Lines.{minimal}
 use Rattle.conditions.specs.declared.minimal.Minimal.{Minimal}

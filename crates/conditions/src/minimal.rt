@@ -8,9 +8,8 @@ ghost use mathlib.Core.Path.{_≡_};
 ghost use mathlib.Core.Bool.{not};
 ghost use mathlib.Core.List.{map};
 ghost use Prim.Native.Nat.{_≤_, _<_};
-ghost use Rattle.card.specs.Represents.{padded};
 ghost use Rattle.laws.specs.Bags as laws;
-ghost use Rattle.laws.specs.Lists.{any, upTo};
+ghost use Rattle.laws.specs.Lists.{any, upTo, padded};
 ghost use Rattle.properties.specs.Tables.{bagAt, bagsIn, HasRow, HasRows};
 ghost use Rattle.conditions.specs.Minimal.{containingAt, strictlyBy, MinimalOf};
 

@@ -1,17 +1,16 @@
--- Front parts of lists, as a loop passes over a list: what one more element adds to a front part, to its sum, and to an array filled from the front.
+-- Front parts of lists, as a loop passes over a list: what one more element adds to a front part and to its sum.
 use Prim.Native.Nat.{ℕ, zero, suc, _+_, _-_, _≤_, _<_, zero-le, suc-le-suc}
 use native.Mathlib.Nat.{zero-add, not-suc-le-zero, le-of-suc-le-suc, le-refl}
 use native.Mathlib.Omega.{arith}
 use mathlib.Core.Path.{_≡_, refl, sym, ap, _∙_, subst}
 use mathlib.Core.Bool.{Bool, true, false, cond}
-use mathlib.Core.List.{List, [], _∷_, _++_, map, append-assoc}
+use mathlib.Core.List.{List, [], _∷_, _++_, map}
 use lib.Dec.{ltb, eqb}
-use lib.ListN.{length, getD, take, set, replicate, length-map, length-set}
-use lib.Seq.{take-suc, set-at, getD-set-same, getD-set-other}
+use lib.ListN.{length, getD, take, set, length-set}
+use lib.Seq.{take-suc, getD-set-same, getD-set-other}
 use borrow.Author.Tests.{ltb-true, ltb-false, eqb-true, eqb-false}
 use Rattle.laws.specs.Lists.{from, upTo, sum, keep}
 use Rattle.laws.proofs.Tests.{by-test}
-use Rattle.laws.proofs.Lists.{length-upTo}
 
 -- one more number in sequence
 pub from-next : (start n : ℕ) → from start (suc n) ≡ from start n ++ ((start + n) ∷ [])
@@ -33,18 +32,6 @@ module _ {A B : Type 0} where
 -- what a function gives on the numbers so far, and on one more
 pub map-upTo-next : {B : Type 0} (f : ℕ → B) (n : ℕ) → map f (upTo (suc n)) ≡ map f (upTo n) ++ (f n ∷ [])
 map-upTo-next f n = ap (map f) (upTo-next n) ∙ map-parts f (upTo n) (n ∷ [])
-
--- an array of a fixed size, filled from the front by a function of the place, takes the next value
-pub fill-next : {B : Type 0} (f : ℕ → B) (blank : B) (size n : ℕ) → n < size
-    → set (map f (upTo n) ++ replicate (size - n) blank) n (f n) ≡ map f (upTo (suc n)) ++ replicate (size - suc n) blank
-fill-next f blank size n h =
-    ap (λ (k : ℕ). set (map f (upTo n) ++ replicate k blank) n (f n)) (left size n h)
-    ∙ set-at (map f (upTo n)) blank (replicate (size - suc n) blank) (f n) n (length-map (upTo n) f ∙ length-upTo n)
-    ∙ sym (append-assoc (map f (upTo n)) (f n ∷ []) (replicate (size - suc n) blank))
-    ∙ ap (λ (l : List _). l ++ replicate (size - suc n) blank) (sym (map-upTo-next f n))
-  where
-    left : (size n : ℕ) → n < size → size - n ≡ suc (size - suc n)
-    left size n h = omega arith
 
 -- the sum of two parts, and of one more element
 pub sum-parts : (xs ys : List ℕ) → sum (xs ++ ys) ≡ sum xs + sum ys

@@ -13,5 +13,6 @@ pub mod Reading
 pub mod Fronts
 pub mod Columns
 pub mod Walks
+pub mod Padded
 pub mod Restricted
 pub mod Places

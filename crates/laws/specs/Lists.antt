@@ -1,8 +1,9 @@
 -- The functions on lists that the definitions use beside the library's own.
-use Prim.Native.Nat.{ℕ, zero, suc, _+_}
+use Prim.Native.Nat.{ℕ, zero, suc, _+_, _-_}
 use mathlib.Core.Bool.{Bool, true, false, cond, not, _&&_, _||_}
-use mathlib.Core.List.{List, [], _∷_}
+use mathlib.Core.List.{List, [], _∷_, _++_}
 use lib.Dec.{eqb, ltb}
+use lib.ListN.{length, replicate}
 
 module _ {A : Type 0} where
   -- some element passes the test
@@ -24,6 +25,10 @@ module _ {A : Type 0} where
   unfoldable pub count : (A → Bool) → List A → ℕ
   count test [] = 0
   count test (x ∷ xs) = let counted = count test xs in cond (test x) (suc counted) counted
+
+  -- a list filled up to a length
+  unfoldable pub padded : ℕ → A → List A → List A
+  padded size blank xs = xs ++ replicate (size - length xs) blank
 
 -- `size` numbers in sequence, the first of them `start`
 unfoldable pub from : ℕ → ℕ → List ℕ
@@ -68,5 +73,5 @@ standsAt x (suc i) (y ∷ ys) = standsAt x i ys
 
 -- opens every definition of this module, for what is proved by computation
 unfoldable pub lists-open : Unit {0}
-unfolding any all keep count from upTo sum member distinct same before standsAt
+unfolding any all keep count padded from upTo sum member distinct same before standsAt
 lists-open = tt

@@ -11,7 +11,7 @@ use Rattle.totals.specs.Totals.{totalsOf}
 use Rattle.prepared.specs.declared.Prepared.{Prepared}
 use Rattle.prepared.specs.declared.Found.{Found}
 use Rattle.prepared.specs.Prepared.{Given}
-use Rattle.prepared.specs.Found.{Analysable, FoundAt, FoundOf, foundTotals}
+use Rattle.prepared.specs.Found.{SpaceReady, SpaceFound, FoundOf, foundTotals}
 use Rattle.prepared.proofs.Analysing.{found-of}
 use Rattle.prepared.proofs.Totalling.{totals-none, totals-with, totals-all}
 
@@ -32,9 +32,9 @@ entered-none p deletes adds counts t preconditions given = totals-none t
 module _ {p : Prepared} {deletes adds counts : List ℕ} where
   -- one space can be analysed where another was
   pub analysable-again : {i j : ℕ} {starts finishes conditions nowStarts nowFinishes nowConditions : List ℕ}
-      → Analysable i p deletes adds counts starts finishes conditions
+      → SpaceReady i p deletes adds counts starts finishes conditions
       → SameLengths starts finishes conditions nowStarts nowFinishes nowConditions → j < p .spaces .count
-      → Analysable j p deletes adds counts nowStarts nowFinishes nowConditions
+      → SpaceReady j p deletes adds counts nowStarts nowFinishes nowConditions
   analysable-again h kept known = record {
     task = h .task;
     preconditions = h .preconditions;
@@ -45,14 +45,14 @@ module _ {p : Prepared} {deletes adds counts : List ℕ} where
     conditions-long = omega (arith, h .conditions-long, kept .conditions-kept);
   }
 
-  module _ {number : ℕ} {starts finishes conditions : List ℕ} (h : Analysable number p deletes adds counts starts finishes conditions)
+  module _ {number : ℕ} {starts finishes conditions : List ℕ} (h : SpaceReady number p deletes adds counts starts finishes conditions)
       {f : Found} {nowStarts nowFinishes nowConditions : List ℕ}
-      (found : FoundAt number p deletes adds counts f starts finishes conditions nowStarts nowFinishes nowConditions)
+      (found : SpaceFound number p deletes adds counts f starts finishes conditions nowStarts nowFinishes nowConditions)
       (kept : length nowConditions ≡ length conditions) where
     -- what was found is the analysis of a space of whatever task is prepared
     pub found-for : {t : Task} {preconditions : List ℕ} → Given t p preconditions deletes adds counts → FoundOf t number p f nowConditions
     found-for {t} {preconditions} given =
-        let here : Analysable number p deletes adds counts starts finishes conditions = record {
+        let here : SpaceReady number p deletes adds counts starts finishes conditions = record {
           task = t;
           preconditions = preconditions;
           given = given;

@@ -1,5 +1,5 @@
 -- Document 01, "Property rules": properties, the bags of a schema's parameters, and the transition rules (document 01: property rules).
-use Prim.Native.Nat.{ℕ, suc, _+_, _*_}
+use Prim.Native.Nat.{ℕ, suc}
 use mathlib.Core.Bool.{Bool, cond, _&&_}
 use mathlib.Core.List.{List, [], _∷_, _++_, map, flatMap}
 use lib.Dec.{eqb}
@@ -66,11 +66,6 @@ parameterRules t s k =
 -- in schema then parameter order; identical rules are kept
 unfoldable pub transitions : Task → List Transition
 transitions t = flatMap (λ s. flatMap (parameterRules t s) (upTo (s .parameters))) (t .schemas)
-
--- Not of document 01: how many rules a schema has at most, by which tables are measured: one for each argument of an added atom, three an
--- atom, and one for each parameter.
-abbrev pub schemaBound : Schema → ℕ
-schemaBound s = 3 * length (s .adds) + s .parameters
 
 -- opens every definition of this module, for what is proved by computation
 unfoldable pub transitions-open : Unit {0}

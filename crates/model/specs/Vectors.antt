@@ -39,12 +39,12 @@ said (accepted value) = 1 ∷ value ∷ []
 said (refused number) = 0 ∷ number ∷ []
 
 -- what a call on a buffer answers, and the first bytes of the buffer: those written and two more, or four after a refusal
-unfoldable pub shown : Answer ℕ → List ℕ → List ℕ
-shown (accepted length) buffer = take (length + 2) buffer
-shown (refused number) buffer = take 4 buffer
+unfoldable pub frontShown : Answer ℕ → List ℕ → List ℕ
+frontShown (accepted length) buffer = take (length + 2) buffer
+frontShown (refused number) buffer = take 4 buffer
 
-unfoldable pub told : Call → List (List ℕ)
-told call = said (call .answer) ∷ shown (call .answer) (call .buffer) ∷ []
+unfoldable pub callReply : Call → List (List ℕ)
+callReply call = said (call .answer) ∷ frontShown (call .answer) (call .buffer) ∷ []
 
 unfoldable pub playing : List ℕ → Task → List Action → Standing → List (List ℕ)
 playing card t [] standing = map factBytes (stateOf t standing)
@@ -56,8 +56,8 @@ unfoldable pub fresh : ℕ → List ℕ
 fresh size = replicate size 7
 
 -- the opening call, on a buffer with four bytes more than are asked for
-unfoldable pub opened : List ℕ → Standing
-opened card =
+unfoldable pub atOpening : List ℕ → Standing
+atOpening card =
     let call = initial card (fresh (stateBytes + 4)) in
     record { buffer = call .buffer; count = counted 0 (call .answer) }
 
@@ -71,15 +71,15 @@ extension (a ∷ analyses) (suc n) = extension analyses n
 
 unfoldable pub reply : Question → Answer Task → List (List ℕ)
 reply (prints card) answer = program card ∷ []
-reply (plays card actions) (accepted t) = playing card t actions (opened card)
+reply (plays card actions) (accepted t) = playing card t actions (atOpening card)
 reply (plays card actions) (refused n) = (0 ∷ n ∷ []) ∷ []
-reply (clears card actions) answer = cleared (history card actions (opened card))
+reply (clears card actions) answer = cleared (history card actions (atOpening card))
 reply (extends card n) (accepted t) = extension (analysis t) n ∷ []
 reply (extends card n) (refused number) = (0 ∷ number ∷ []) ∷ []
 reply (reads card) (accepted t) = (1 ∷ []) ∷ []
 reply (reads card) (refused number) = (0 ∷ number ∷ []) ∷ []
-reply (lists card number size) answer = told (section card number (fresh size))
-reply (writes t size) answer = told (encode t (fresh size))
+reply (lists card number size) answer = callReply (section card number (fresh size))
+reply (writes t size) answer = callReply (encode t (fresh size))
 
 unfoldable pub cardOf : Question → List ℕ
 cardOf (prints card) = card
@@ -433,7 +433,7 @@ table =
 -- opens every definition of this module but the table, for what is proved by computation
 unfoldable pub vectors-open : Unit {0}
 unfolding
-    ascii lines said shown told playing fresh opened cleared extension reply cardOf answer k1 k4 k5 moving k6 starts turning eleven bare growing
+    ascii lines said frontShown callReply playing fresh atOpening cleared extension reply cardOf answer k1 k4 k5 moving k6 starts turning eleven bare growing
     act unary tableWith bench-card presses-refused presses-made swallowed-add mixed-space conditions-56 wide-space no-bytes byte-more
     objects-65 objects-64 roles-1 roles-7 two-starts two-rounds three-arguments two-digits empty-lists conditions-64 condition-65 section-written
     section-past short-first card-first zeros-after table-written table-short atoms-first list-of-9

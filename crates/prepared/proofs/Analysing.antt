@@ -5,13 +5,13 @@ use mathlib.Core.Path.{_≡_, sym, ap, _∙_, subst}
 use mathlib.Core.List.{List, []}
 use lib.ListN.{length, getD, take}
 use lib.Seq.{take-append-seam}
+use Rattle.laws.specs.Lists.{padded}
 use Rattle.laws.proofs.Walks.{keep-few}
 use Rattle.model.specs.Card.{Task}
 use Rattle.model.specs.Spaces as model
 use Rattle.model.specs.Transitions.{properties}
 use Rattle.model.proofs.Checked.{checked}
 use Rattle.model.proofs.RuleCount.{properties-few}
-use Rattle.card.specs.Represents.{padded}
 use Rattle.spaces.specs.Own.{ownOf, Owns}
 use Rattle.spaces.specs.SpaceTable.{groupsOf, spaceAt}
 use Rattle.spaces.specs.declared.own.Own.{Own}
@@ -27,7 +27,7 @@ use Rattle.analysis.proofs.Tasks.{Lengths}
 use Rattle.prepared.proofs.Finding.{padded-long}
 use Rattle.prepared.specs.declared.Prepared.{Prepared}
 use Rattle.prepared.specs.declared.Found.{Found}
-use Rattle.prepared.specs.Found.{ownAt, passAt, initialAt, ownIn, membersAt, Analysable, FoundAt, FoundOf}
+use Rattle.prepared.specs.Found.{ownOfSpace, passAt, initialAt, ownIn, membersAt, SpaceReady, SpaceFound, FoundOf}
 
 -- the own properties, as the code keeps them
 pub own-kept : {own : List ℕ} {r : Own} → Owns own r → take (r .count) (r .properties) ≡ own
@@ -40,7 +40,7 @@ pub own-inside : {own : List ℕ} {r : Own} → Owns own r → length own ≤ 60
 own-inside {own} h few = omega (arith, few, h .count, ap length (h .properties), padded-long 60 own)
 
 module _ {number : ℕ} {p : Prepared} {deletes adds counts starts finishes conditions : List ℕ}
-    (h : Analysable number p deletes adds counts starts finishes conditions) where
+    (h : SpaceReady number p deletes adds counts starts finishes conditions) where
   abbrev t : Task
   t = h .task
 
@@ -61,20 +61,20 @@ module _ {number : ℕ} {p : Prepared} {deletes adds counts starts finishes cond
   )
 
   -- its own properties, no more than the task has
-  pub own-is : ownAt p number ≡ spaceAt t number .properties
-  unfolding ownAt
+  pub own-is : ownOfSpace p number ≡ spaceAt t number .properties
+  unfolding ownOfSpace
   own-is =
       ap (λ (n : ℕ). ownOf (p .spaces .groups) n (getD (p .spaces .lowest) number 0)) (h .given .prepared .properties-counted)
       ∙ own-of t number there (h .given .prepared .spaces-are)
 
-  own-fewer : length (ownAt p number) ≤ p .properties
-  unfolding ownAt ownOf
+  own-fewer : length (ownOfSpace p number) ≤ p .properties
+  unfolding ownOfSpace ownOf
   own-fewer = keep-few _ (p .properties)
 
-  pub own-low : length (ownAt p number) ≤ 60
+  pub own-low : length (ownOfSpace p number) ≤ 60
   own-low = omega (arith, own-fewer, few-properties)
 
-  space-given : SpaceGiven t number (ownAt p number) (getD (p .spaces .members) number 0) (p .parameters) deletes adds counts
+  space-given : SpaceGiven t number (ownOfSpace p number) (getD (p .spaces .members) number 0) (p .parameters) deletes adds counts
   space-given = record {
     checked = h .given .checked;
     place-known = there;
@@ -89,7 +89,7 @@ module _ {number : ℕ} {p : Prepared} {deletes adds counts starts finishes cond
     counts-are = h .given .prepared .counts-are;
   }
 
-  lengths : Lengths (ownAt p number) (p .parameters) deletes adds counts starts finishes conditions
+  lengths : Lengths (ownOfSpace p number) (p .parameters) deletes adds counts starts finishes conditions
   lengths = record {
     deletes-long = h .given .room .deletes-room;
     adds-long = h .given .room .adds-room;
@@ -100,7 +100,7 @@ module _ {number : ℕ} {p : Prepared} {deletes adds counts starts finishes cond
   }
 
   -- so it can be made, from the own properties as they are handed over, and then is what the space's number says
-  module _ {own : List ℕ} (e : own ≡ ownAt p number) where
+  module _ {own : List ℕ} (e : own ≡ ownOfSpace p number) where
     pub analysable-space : analysis.Analysable own (getD (p .spaces .members) number 0) (p .parameters) deletes adds counts starts finishes conditions
     analysable-space =
         subst
@@ -108,10 +108,10 @@ module _ {number : ℕ} {p : Prepared} {deletes adds counts starts finishes cond
         analysis.Analysable l (getD (p .spaces .members) number 0) (p .parameters) deletes adds counts starts finishes conditions)
         (sym e) (tasks.analysable space-given lengths)
 
-    pub found-at : {f : Found} {nowStarts nowFinishes nowConditions : List ℕ} → Owns (ownAt p number) (f .own)
+    pub found-at : {f : Found} {nowStarts nowFinishes nowConditions : List ℕ} → Owns (ownOfSpace p number) (f .own)
         → analysis.Analyses (sorted [] (ownRules own (p .parameters) deletes adds)) (ownConditions own counts (membersAt p number)) (f .analysed)
         starts finishes conditions nowStarts nowFinishes nowConditions
-        → FoundAt number p deletes adds counts f starts finishes conditions nowStarts nowFinishes nowConditions
+        → SpaceFound number p deletes adds counts f starts finishes conditions nowStarts nowFinishes nowConditions
     unfolding passAt initialAt
     found-at {f} {nowStarts} {nowFinishes} {nowConditions} owns a = record {
       own-is = owns;
@@ -125,7 +125,7 @@ module _ {number : ℕ} {p : Prepared} {deletes adds counts starts finishes cond
 
   -- and what was found is the analysis of the task's space
   pub found-of : {f : Found} {nowStarts nowFinishes nowConditions : List ℕ}
-      → FoundAt number p deletes adds counts f starts finishes conditions nowStarts nowFinishes nowConditions
+      → SpaceFound number p deletes adds counts f starts finishes conditions nowStarts nowFinishes nowConditions
       → length nowConditions ≡ length conditions → FoundOf t number p f nowConditions
   unfolding passAt initialAt
   found-of {f} found kept =

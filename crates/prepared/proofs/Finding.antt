@@ -4,6 +4,7 @@ use native.Mathlib.Omega.{arith}
 use mathlib.Core.Path.{_≡_, sym, ap, _∙_, subst}
 use mathlib.Core.List.{List, List·Memᴰ}
 use lib.ListN.{length, getD, replicate, length-append, length-replicate}
+use Rattle.laws.specs.Lists.{padded}
 use Rattle.laws.proofs.Lists.{mem-getD}
 use Rattle.masks.proofs.Members.{members-few}
 use Rattle.model.specs.Card.{Task}
@@ -13,7 +14,6 @@ use Rattle.model.specs.Spaces as model
 use Rattle.model.specs.Text.{text}
 use Rattle.model.specs.Transitions.{properties}
 use Rattle.model.proofs.RuleCount.{properties-few}
-use Rattle.card.specs.Represents.{padded}
 use Rattle.properties.specs.Tables.{bagsIn}
 use Rattle.properties.specs.Represented.{propertyArities}
 use Rattle.properties.proofs.ArityTable.{arities-read}
@@ -25,7 +25,7 @@ use Rattle.text.specs.Room.{Room}
 use Rattle.space_lines.specs.OwnLines.{Listable, AritiesOf}
 use Rattle.space_lines.proofs.TaskSections.{section-is, listable}
 use Rattle.space_lines.proofs.SectionRoom.{section-fits}
-use Rattle.totals.specs.Totals.{entered, Enterable}
+use Rattle.totals.specs.Totals.{entered, TotalsEnterable}
 use Rattle.prepared.specs.declared.Prepared.{Prepared}
 use Rattle.prepared.specs.declared.Found.{Found}
 use Rattle.prepared.specs.Found.{ownIn, conditionsIn, membersAt, FoundOf, foundLines, foundTotals}
@@ -77,10 +77,10 @@ module _ {t : Task} {number : ℕ} {p : Prepared} {f : Found} {conditions : List
 
   -- and its totals entered, from the own properties and the number of members as they are handed over
   module _ {own : List ℕ} (e : own ≡ ownIn f) {members : ℕ} (m : members ≡ length (membersAt p number)) where
-    pub enterable-found : (fixed : List ℕ) → length fixed ≡ 60 → Enterable own (f .analysed .count) members conditions fixed
+    pub enterable-found : (fixed : List ℕ) → length fixed ≡ 60 → TotalsEnterable own (f .analysed .count) members conditions fixed
     enterable-found fixed long =
-        subst (λ (n : ℕ). Enterable own (f .analysed .count) n conditions fixed) (sym m)
-        (subst (λ (l : List ℕ). Enterable l (f .analysed .count) (length (membersAt p number)) conditions fixed) (sym e)
+        subst (λ (n : ℕ). TotalsEnterable own (f .analysed .count) n conditions fixed) (sym m)
+        (subst (λ (l : List ℕ). TotalsEnterable l (f .analysed .count) (length (membersAt p number)) conditions fixed) (sym e)
         record {
           rows-there = listable-found .rows;
           apart = listable-found .apart;

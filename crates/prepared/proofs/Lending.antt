@@ -13,7 +13,7 @@ use Rattle.properties.specs.Tables.{stride}
 use Rattle.properties.proofs.ParameterRows.{rows-few}
 use Rattle.prepared.specs.declared.Prepared.{Prepared}
 use Rattle.prepared.specs.Prepared.{rowsAtMost, RoomForMoves, PreparedOf, Given}
-use Rattle.prepared.specs.Found.{Analysable}
+use Rattle.prepared.specs.Found.{SpaceReady}
 use Rattle.prepared.proofs.Cleared.{cleared, cleared-length, cleared-long, cleared-room}
 
 -- tables with room that were filled, and kept their lengths
@@ -41,7 +41,7 @@ given-filled {preconditions = preconditions} {deletes} {adds} {counts} ok room l
 -- any of its spaces can be analysed then
 pub analysable-given : {t : Task} {r : Prepared} {p d a c starts finishes conditions : List ℕ} {number : ℕ} → Given t r p d a c
     → RoomForMoves (rowsAtMost t) starts finishes conditions → number < r .spaces .count
-    → Analysable number r d a c starts finishes conditions
+    → SpaceReady number r d a c starts finishes conditions
 unfolding rowsAtMost
 analysable-given {t} {p = p} given room known = record {
   task = t;

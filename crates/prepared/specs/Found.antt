@@ -3,6 +3,7 @@ use Prim.Native.Nat.{ℕ, _+_, _*_, _≤_, _<_}
 use mathlib.Core.Path.{_≡_}
 use mathlib.Core.List.{List, []}
 use lib.ListN.{length, getD, take}
+use Rattle.laws.specs.Lists.{padded}
 use Rattle.laws.specs.Bags.{Bag}
 use Rattle.masks.specs.Sets.{membersOf}
 use Rattle.model.specs.Answer.{accepted}
@@ -10,7 +11,6 @@ use Rattle.model.specs.Card.{Task}
 use Rattle.model.specs.Writer.{checkTask}
 use Rattle.model.specs.Lines.{Line}
 use Rattle.model.specs.Spaces as model
-use Rattle.card.specs.Represents.{padded}
 use Rattle.properties.specs.Tables.{stride, bagsIn}
 use Rattle.properties.specs.Represented.{propertyArities}
 use Rattle.spaces.specs.Own.{ownOf, Owns}
@@ -39,7 +39,7 @@ membersAt p number = membersOf (getD (p .spaces .members) number 0)
 
 -- What the analysis of a space asks: some task prepared, one of its spaces, room for as many moves as the task has parameters and
 -- properties, and for 64 conditions.
-pub record Analysable (number : ℕ) (p : Prepared) (deletes adds counts starts finishes conditions : List ℕ) : Type 0 where
+pub record SpaceReady (number : ℕ) (p : Prepared) (deletes adds counts starts finishes conditions : List ℕ) : Type 0 where
   pub task : Task
   pub preconditions : List ℕ
   pub given : Given task p preconditions deletes adds counts
@@ -49,19 +49,19 @@ pub record Analysable (number : ℕ) (p : Prepared) (deletes adds counts starts 
   pub conditions-long : length conditions ≡ 3840
 
 -- the own properties of the space with this number, the pass over the rules for it, and the initial conditions of its members
-unfoldable pub ownAt : Prepared → ℕ → List ℕ
-ownAt p number = ownOf (p .spaces .groups) (p .properties) (getD (p .spaces .lowest) number 0)
+unfoldable pub ownOfSpace : Prepared → ℕ → List ℕ
+ownOfSpace p number = ownOf (p .spaces .groups) (p .properties) (getD (p .spaces .lowest) number 0)
 
 unfoldable pub passAt : Prepared → ℕ → List ℕ → List ℕ → Sorted
-passAt p number deletes adds = sorted [] (ownRules (ownAt p number) (p .parameters) deletes adds)
+passAt p number deletes adds = sorted [] (ownRules (ownOfSpace p number) (p .parameters) deletes adds)
 
 unfoldable pub initialAt : Prepared → ℕ → List ℕ → List Bag
-initialAt p number counts = ownConditions (ownAt p number) counts (membersAt p number)
+initialAt p number counts = ownConditions (ownOfSpace p number) counts (membersAt p number)
 
 -- Its own properties and its analysis, and every number of the three tables lent for it.
-pub record FoundAt (number : ℕ) (p : Prepared) (deletes adds counts : List ℕ) (f : Found) (starts finishes conditions : List ℕ)
+pub record SpaceFound (number : ℕ) (p : Prepared) (deletes adds counts : List ℕ) (f : Found) (starts finishes conditions : List ℕ)
     (nowStarts nowFinishes nowConditions : List ℕ) : Type 0 where
-  pub own-is : Owns (ownAt p number) (f .own)
+  pub own-is : Owns (ownOfSpace p number) (f .own)
   pub analyses :
       Analyses (passAt p number deletes adds) (initialAt p number counts) (f .analysed) starts finishes conditions nowStarts nowFinishes
       nowConditions

@@ -3,11 +3,11 @@ use Prim.Native.Nat.{ℕ, _+_, _*_, _≤_}
 use mathlib.Core.Path.{_≡_}
 use mathlib.Core.List.{List}
 use lib.ListN.{length}
+use Rattle.laws.specs.Lists.{padded}
 use Rattle.model.specs.Answer.{accepted}
 use Rattle.model.specs.Card.{Task}
 use Rattle.model.specs.Writer.{checkTask}
 use Rattle.model.specs.Transitions.{properties}
-use Rattle.card.specs.Represents.{padded}
 use Rattle.properties.specs.Tables.{stride, rowsBefore}
 use Rattle.properties.specs.Represented.{objectBags, propertyArities}
 use Rattle.properties.specs.Parameters.{parametersIn, RoomForBags, ParameterTables}

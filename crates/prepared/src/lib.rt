@@ -22,7 +22,7 @@ ghost use Rattle.card.specs.Represents.{taskOf, Represented};
 ghost use Rattle.properties.specs.Parameters.{parametersIn, RoomForBags};
 ghost use Rattle.text.specs.Written.{Writes};
 ghost use Rattle.prepared.specs.Prepared.{rowsAtMost, PreparedOf};
-ghost use Rattle.prepared.specs.Found.{Analysable, FoundAt, SomeFound, foundLines, foundTotals};
+ghost use Rattle.prepared.specs.Found.{SpaceReady, SpaceFound, SomeFound, foundLines, foundTotals};
 
 // What is known of a task beside its tables: how many parameters its schemas have together, how many properties, the arity of each
 // property's predicate, and its spaces.
@@ -109,10 +109,10 @@ pub fn analyse_space(
     conditions: &mut [u16],
 ) -> Found
     requires { ⌜
-        Analysable number prepared (now deletes) (now adds) (now counts) (now starts) (now finishes) (now conditions)
+        SpaceReady number prepared (now deletes) (now adds) (now counts) (now starts) (now finishes) (now conditions)
         ⌝ }
     ensures { λ r. ⌜
-        FoundAt
+        SpaceFound
         number
         prepared
         (now (deletes .entry))

@@ -19,7 +19,7 @@ use Rattle.text.specs.Written.{Writes}
 use Rattle.closing.proofs.TypedObjects.{spaces-few}
 use Rattle.totals.specs.Totals.{totalsOf}
 use Rattle.totals.proofs.AllTotals.{length-totals}
-use Rattle.prepared.specs.Found.{Analysable, FoundAt, foundLines, foundTotals}
+use Rattle.prepared.specs.Found.{SpaceReady, SpaceFound, foundLines, foundTotals}
 use Rattle.prepared.specs.Prepared.{RoomForMoves, PreparedOf, Given}
 use Rattle.prepared.specs.declared.Found.{Found}
 use Rattle.prepared.specs.declared.Prepared.{Prepared}
@@ -37,9 +37,9 @@ one-turn section w = w .buffer
 
 -- the section of a space, written from what was found of it, and the totals, for each task that is prepared so
 module _ {number : ℕ} {p : Prepared} {deletes adds counts starts finishes conditions : List ℕ}
-    (asked : Analysable number p deletes adds counts starts finishes conditions) where
+    (asked : SpaceReady number p deletes adds counts starts finishes conditions) where
   pub space-printed : {f : Found} {nowStarts nowFinishes nowConditions fixed fixed' out out' : List ℕ} {n : ℕ}
-      → FoundAt number p deletes adds counts f starts finishes conditions nowStarts nowFinishes nowConditions
+      → SpaceFound number p deletes adds counts f starts finishes conditions nowStarts nowFinishes nowConditions
       → length nowConditions ≡ length conditions → fixed' ≡ foundTotals number p f nowConditions fixed
       → Writes (text (foundLines number p f nowConditions)) out out' n → SpacePrinted number p deletes adds counts fixed fixed' out out'
   space-printed {f} {nowConditions = nowConditions} {out = out} found kept entered written = record {
@@ -54,7 +54,7 @@ module _ {number : ℕ} {p : Prepared} {deletes adds counts starts finishes cond
   }
     where
       asked-of : {t : Task} {preconditions : List ℕ} → Given t p preconditions deletes adds counts
-          → Analysable number p deletes adds counts starts finishes conditions
+          → SpaceReady number p deletes adds counts starts finishes conditions
       asked-of {t} {preconditions} given = record {
         task = t;
         preconditions = preconditions;

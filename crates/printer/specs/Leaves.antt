@@ -28,14 +28,14 @@ unfoldable pub inTurn : List (List Line) → List ℕ → List ℕ
 inTurn sections buffer = foldl over buffer sections
 
 -- what printing a card leaves in the buffer: a refused card leaves it as it was, an accepted card's sections are written to it in turn
-unfoldable pub shown : Answer Task → List ℕ → List ℕ
-shown (refused n) buffer = buffer
-shown (accepted t) buffer = inTurn (sections t) buffer
+unfoldable pub leftByPrinting : Answer Task → List ℕ → List ℕ
+leftByPrinting (refused n) buffer = buffer
+leftByPrinting (accepted t) buffer = inTurn (sections t) buffer
 
 -- and what it leaves after so many sections
-unfoldable pub shownTo : ℕ → Answer Task → List ℕ → List ℕ
-shownTo n (refused k) buffer = buffer
-shownTo n (accepted t) buffer = inTurn (take n (sections t)) buffer
+unfoldable pub leftBySections : ℕ → Answer Task → List ℕ → List ℕ
+leftBySections n (refused k) buffer = buffer
+leftBySections n (accepted t) buffer = inTurn (take n (sections t)) buffer
 
 -- How far a listing of these sections was printed: to its end if all of it was written.
 pub record Reaches (sections : List (List Line)) (r : Printing) : Type 0 where
@@ -43,14 +43,14 @@ pub record Reaches (sections : List (List Line)) (r : Printing) : Type 0 where
 
 -- A card was printed, whole or up to a write that failed.
 pub record Prints (answer : Answer Task) (r : Printing) (out out' : List ℕ) : Type 0 where
-  pub buffer : out' ≡ shownTo (r .sections) answer out
-  pub whole : r .written ≡ true → out' ≡ shown answer out
+  pub buffer : out' ≡ leftBySections (r .sections) answer out
+  pub whole : r .written ≡ true → out' ≡ leftByPrinting answer out
 
 -- What became of an input. The card is the n bytes that were read to the front of the window.
 abbrev pub PrintsFrom : Printed → List ℕ → List ℕ → List ℕ → Type 0
 PrintsFrom Unread window out out' = out' ≡ out
-PrintsFrom (Whole n) window out out' = (n ≤ length window) × (out' ≡ shown (decode (take n window)) out)
-PrintsFrom (CutOff n k) window out out' = (n ≤ length window) × (out' ≡ shownTo k (decode (take n window)) out)
+PrintsFrom (Whole n) window out out' = (n ≤ length window) × (out' ≡ leftByPrinting (decode (take n window)) out)
+PrintsFrom (CutOff n k) window out out' = (n ≤ length window) × (out' ≡ leftBySections k (decode (take n window)) out)
 
 -- The section of a space was written and its totals entered, for each task whose tables were given.
 pub record SpacePrinted (number : ℕ) (p : Prepared) (deletes adds counts fixed fixed' out out' : List ℕ) : Type 0 where

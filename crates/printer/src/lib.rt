@@ -15,7 +15,7 @@ use reader::decode;
 use refusals::refused_line;
 ghost use mathlib.Core.Path.{_≡_};
 ghost use Rattle.model.specs.Card.{decode};
-ghost use Rattle.printer.specs.Leaves.{shown, Prints, PrintsFrom};
+ghost use Rattle.printer.specs.Leaves.{leftByPrinting, Prints, PrintsFrom};
 
 // What became of an input: it could not be read; or the card at the front of the window, of so many bytes, was printed whole, or cut
 // off after so many of its sections were made.

@@ -24,7 +24,7 @@ ghost use Rattle.spaces.specs.SpaceTable.{SpacesOf};
 ghost use Rattle.closing.specs.Fixed.{fixedTable};
 ghost use Rattle.closing.specs.Typing.{PreconditionRows};
 ghost use Rattle.prepared.specs.Prepared.{rowsAtMost, RoomForMoves};
-ghost use Rattle.prepared.specs.Found.{Analysable};
+ghost use Rattle.prepared.specs.Found.{SpaceReady};
 ghost use Rattle.printer.specs.Ready.{Ready};
 ghost use Rattle.printer.specs.Leaves.{inTurn, SpacePrinted, Reaches, Filled};
 
@@ -49,7 +49,7 @@ fn print_space(
     out: &mut [u8],
 ) -> bool
     requires { ⌜
-        Analysable number prepared (now deletes) (now adds) (now counts) (now starts) (now finishes) (now conditions)
+        SpaceReady number prepared (now deletes) (now adds) (now counts) (now starts) (now finishes) (now conditions)
         ⌝ }
     requires { ⌜ length (now fixed) ≡ 60 ⌝ }
     requires { ⌜ outputBytes ≤ length (now out) ⌝ }

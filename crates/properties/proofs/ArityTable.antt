@@ -9,7 +9,8 @@ use lib.ListN.{length, getD, take, drop, set, replicate, length-append, length-m
 use lib.ListN.{replicate-append-replicate}
 use lib.Seq.{take-at, drop-at, take-suc, take-all, getD-append-add}
 use borrow.Author.Fill.{fill-more}
-use Rattle.laws.specs.Lists.{upTo, sum}
+use Rattle.laws.proofs.Padded.{padded-at}
+use Rattle.laws.specs.Lists.{upTo, sum, padded}
 use Rattle.laws.proofs.Columns.{length-flatMap}
 use Rattle.laws.proofs.Fronts.{map-parts, sum-take-next, sum-take-all}
 use Rattle.laws.proofs.Lists.{flatMap-append, length-upTo}
@@ -17,8 +18,6 @@ use Rattle.laws.proofs.Mapped.{getD-map}
 use Rattle.model.specs.Card.{Task}
 use Rattle.model.specs.Lines.{arityOf}
 use Rattle.model.specs.Transitions.{Property, propertiesFrom, properties}
-use Rattle.card.specs.Represents.{padded}
-use Rattle.card.proofs.Padded.{padded-at}
 use Rattle.properties.specs.Represented.{propertyArities}
 
 -- ---- one predicate

@@ -21,7 +21,7 @@ use Rattle.card.specs.declared.ArityList.{ArityList}
 use Rattle.card.specs.Represents.{aritiesOf, atomOf}
 use Rattle.properties.specs.Represented.{AritiesRight}
 use Rattle.properties.specs.Tables.{row, rowsBefore}
-use Rattle.properties.specs.Tallies.{tallied, entered, Enterable}
+use Rattle.properties.specs.Tallies.{tallied, talliedRows, Talliable}
 use Rattle.properties.proofs.Rows.{row-ext}
 use Rattle.model.proofs.Grouping.{length-bagOf}
 use Rattle.properties.proofs.Predicates.{Placed}
@@ -111,7 +111,7 @@ module _ {predicates : ArityList} {firsts : List ℕ} (right : AritiesRight pred
       omega (arith, first-is, length-take arity (a .first ∷ a .second ∷ a .third ∷ []))
 
   -- there is room for the atom
-  pub atom-fits : Enterable most (getD firsts q 0) (take arity (a .first ∷ a .second ∷ a .third ∷ [])) table
+  pub atom-fits : Talliable most (getD firsts q 0) (take arity (a .first ∷ a .second ∷ a .third ∷ [])) table
   unfolding arguments
   atom-fits = record {
     one-row = within;
@@ -122,7 +122,7 @@ module _ {predicates : ArityList} {firsts : List ℕ} (right : AritiesRight pred
   }
 
   -- and then it is counted
-  pub atom-counted : (later : List ℕ) → later ≡ entered (getD firsts q 0) (take arity (a .first ∷ a .second ∷ a .third ∷ [])) table
+  pub atom-counted : (later : List ℕ) → later ≡ talliedRows (getD firsts q 0) (take arity (a .first ∷ a .second ∷ a .third ∷ [])) table
       → BagTable (bagOf (propertiesFrom 0 (aritiesOf predicates)) (atoms ++ (atomOf (aritiesOf predicates) a ∷ []))) n before later
   unfolding arguments
   atom-counted later e = record {

@@ -16,7 +16,7 @@ use Rattle.laws.proofs.Tests.{by-test}
 use Rattle.laws.proofs.Lists.{length-upTo}
 use Rattle.laws.proofs.Fronts.{map-upTo-next}
 use Rattle.properties.specs.Tables.{row, rows, rowsBefore}
-use Rattle.properties.specs.Tallies.{raised, marked, tallied, entered, Enterable}
+use Rattle.properties.specs.Tallies.{raised, marked, tallied, talliedRows, Talliable}
 use Rattle.properties.proofs.Rows.{rows-join}
 use Rattle.properties.proofs.Tally.{length-marked, marked-here, marked-elsewhere}
 
@@ -92,14 +92,14 @@ row-raised o y c table hc hy ho =
 -- ---- an atom entered
 
 -- room for the first argument, and for the others after it
-module _ (most first y : ℕ) (ys table : List ℕ) (fits : Enterable most first (y ∷ ys) table) where
+module _ (most first y : ℕ) (ys table : List ℕ) (fits : Talliable most first (y ∷ ys) table) where
   pub enter-here : (60 * y + first < length table) × (getD table (60 * y + first) 0 < most)
   enter-here =
       let one = fits .one-row in
       let there = fits .rows-there y (List·Memᴰ·head refl) in
       (omega arith, fits .small y first (List·Memᴰ·head refl) (le-refl first) (omega arith))
 
-  pub enter-next : Enterable most (suc first) ys (raised table (60 * y + first))
+  pub enter-next : Talliable most (suc first) ys (raised table (60 * y + first))
   enter-next = record {
     one-row = let one = fits .one-row in omega arith;
     rows-there =
@@ -113,15 +113,15 @@ module _ (most first y : ℕ) (ys table : List ℕ) (fits : Enterable most first
       other o c h k p = let one = fits .one-row in omega arith
 
 -- the length stays, the row of each argument counts the atom, and rows of no argument stay
-pub length-entered : (first : ℕ) (ys table : List ℕ) → length (entered first ys table) ≡ length table
-unfolding entered
+pub length-entered : (first : ℕ) (ys table : List ℕ) → length (talliedRows first ys table) ≡ length table
+unfolding talliedRows
 length-entered first [] table = refl
 length-entered first (y ∷ ys) table =
     length-entered (suc first) ys (raised table (60 * y + first)) ∙ length-raised table (60 * y + first)
 
-pub row-entered : (most o first : ℕ) (ys table : List ℕ) → Enterable most first ys table → 60 * o + 60 ≤ length table
-    → rowOf o (entered first ys table) ≡ tallied o first ys (rowOf o table)
-unfolding entered tallied
+pub row-entered : (most o first : ℕ) (ys table : List ℕ) → Talliable most first ys table → 60 * o + 60 ≤ length table
+    → rowOf o (talliedRows first ys table) ≡ tallied o first ys (rowOf o table)
+unfolding talliedRows tallied
 row-entered most o first [] table fits h = refl
 row-entered most o first (y ∷ ys) table fits h =
     row-entered most o (suc first) ys (raised table (60 * y + first)) (enter-next most first y ys table fits)
@@ -130,8 +130,8 @@ row-entered most o first (y ∷ ys) table fits h =
     (row-raised o y first table (let one = fits .one-row in omega arith) (fits .rows-there y (List·Memᴰ·head refl)) h)
 
 pub beyond-entered : (n first : ℕ) (ys table : List ℕ) → first + length ys ≤ 60 → ((y : ℕ) → List·Memᴰ y ys → y < n)
-    → drop (60 * n) (entered first ys table) ≡ drop (60 * n) table
-unfolding entered raised
+    → drop (60 * n) (talliedRows first ys table) ≡ drop (60 * n) table
+unfolding talliedRows raised
 beyond-entered n first [] table fits below = refl
 beyond-entered n first (y ∷ ys) table fits below =
     beyond-entered n (suc first) ys (raised table (60 * y + first)) (omega arith) (λ z m. below z (List·Memᴰ·tail m))
@@ -181,8 +181,8 @@ rows-behind bags n before other e p =
 
 -- What is left: the first n of these arguments, entered from `first` on in the table so far, make the whole.
 pub record Left (most first n : ℕ) (ys table whole : List ℕ) : Type 0 where
-  pub fits : Enterable most first (take n ys) table
-  pub rest : entered first (take n ys) table ≡ whole
+  pub fits : Talliable most first (take n ys) table
+  pub rest : talliedRows first (take n ys) table ≡ whole
 
 module _ {most first n y : ℕ} {ys table whole : List ℕ} (left : Left most first n (y ∷ ys) table whole) (some : 1 ≤ n) where
   parted : take n (y ∷ ys) ≡ y ∷ take (n - 1) ys
@@ -191,8 +191,8 @@ module _ {most first n y : ℕ} {ys table whole : List ℕ} (left : Left most fi
       one-less : {k : ℕ} → 1 ≤ k → k ≡ suc (k - 1)
       one-less h = omega arith
 
-  fits-parted : Enterable most first (y ∷ take (n - 1) ys) table
-  fits-parted = subst (λ (l : List ℕ). Enterable most first l table) parted (left .fits)
+  fits-parted : Talliable most first (y ∷ take (n - 1) ys) table
+  fits-parted = subst (λ (l : List ℕ). Talliable most first l table) parted (left .fits)
 
   -- the next argument has room
   pub left-here : (60 * y + first < length table) × (getD table (60 * y + first) 0 < most)
@@ -200,12 +200,12 @@ module _ {most first n y : ℕ} {ys table whole : List ℕ} (left : Left most fi
 
   -- and is entered
   pub left-next : {next : ℕ} → next ≡ first + 1 → {later : List ℕ} → later ≡ raised table (60 * y + first) → Left most next (n - 1) ys later whole
-  unfolding entered
+  unfolding talliedRows
   left-next {next} e {later} l =
       let step : next ≡ suc first = e ∙ add-one first in
       record {
         fits = rw (step, l) (enter-next most first y (take (n - 1) ys) table fits-parted);
-        rest = rw (step, l) (sym (ap (λ (zs : List ℕ). entered first zs table) parted) ∙ left .rest);
+        rest = rw (step, l) (sym (ap (λ (zs : List ℕ). talliedRows first zs table) parted) ∙ left .rest);
       }
 
 -- the place of the third argument
@@ -214,8 +214,8 @@ two-on first = omega arith
 
 -- after the last the table is the whole
 pub left-end : {most first n : ℕ} {ys table whole : List ℕ} → Left most first n ys table whole → n ≤ 0 → table ≡ whole
-unfolding entered
-left-end {first = first} {ys = ys} {table = table} left h = ap (λ (k : ℕ). entered first (take k ys) table) (none h) ∙ left .rest
+unfolding talliedRows
+left-end {first = first} {ys = ys} {table = table} left h = ap (λ (k : ℕ). talliedRows first (take k ys) table) (none h) ∙ left .rest
   where
     none : {k : ℕ} → k ≤ 0 → 0 ≡ k
     none p = omega arith

@@ -1,27 +1,27 @@
 -- Where the properties of each predicate begin, as a loop over the arities finds it.
-use Prim.Native.Nat.{ℕ, suc, _+_, _-_, _≤_, _<_}
+use Prim.Native.Nat.{ℕ, suc, _+_, _≤_, _<_}
 use native.Mathlib.Omega.{arith}
 use mathlib.Core.Path.{_≡_, refl, sym, ap, _∙_}
-use mathlib.Core.List.{List, _++_, map}
+use mathlib.Core.List.{List, map}
 use lib.ListN.{length, getD, take, set, replicate, length-map}
 use lib.Seq.{take-take, length-take-le}
-use Rattle.laws.specs.Lists.{from, upTo, sum}
+use Rattle.laws.specs.Lists.{from, upTo, sum, padded}
 use Rattle.laws.proofs.Lists.{length-upTo, upTo-at}
 use Rattle.laws.proofs.Mapped.{map-ext}
-use Rattle.laws.proofs.Fronts.{fill-next, sum-take-next}
+use Rattle.laws.proofs.Fronts.{map-upTo-next, sum-take-next}
+use Rattle.laws.proofs.Padded.{padded-set}
 use Rattle.model.proofs.RuleCount.{length-properties}
-use Rattle.card.specs.Represents.{padded}
 use Rattle.properties.specs.Represented.{firstProperties, Numbers}
 
 -- what the loop has after n predicates: the number of their properties, and where those of each begin
 pub record Begun (arities : List ℕ) (n : ℕ) (firsts : List ℕ) (count : ℕ) : Type 0 where
   pub summed : count ≡ sum (take n arities)
-  pub filled : firsts ≡ map (λ p. sum (take p arities)) (upTo n) ++ replicate (20 - n) 0
+  pub filled : firsts ≡ padded 20 0 (map (λ p. sum (take p arities)) (upTo n))
 
 module _ (arities : List ℕ) where
   -- before the first predicate
   pub begin : Begun arities 0 (replicate 20 0) 0
-  begin = record { summed = unfold sum in refl; filled = unfold upTo from in refl }
+  begin = record { summed = unfold sum in refl; filled = unfold upTo from padded in refl }
 
   -- one predicate more
   pub next : (n : ℕ) (firsts : List ℕ) (count : ℕ) → n < 20 → n < length arities → Begun arities n firsts count
@@ -30,21 +30,19 @@ module _ (arities : List ℕ) where
     summed = ap (λ (c : ℕ). c + getD arities n 0) (b .summed) ∙ sym (sum-take-next arities n k);
     filled =
         ap (λ (l : List ℕ). set l n count) (b .filled)
-        ∙ ap (set (map (λ p. sum (take p arities)) (upTo n) ++ replicate (20 - n) 0) n) (b .summed)
-        ∙ fill-next (λ p. sum (take p arities)) 0 20 n h;
+        ∙ ap (set (padded 20 0 (map (λ p. sum (take p arities)) (upTo n))) n) (b .summed)
+        ∙ padded-set 20 0 (map (λ p. sum (take p arities)) (upTo n)) (sum (take n arities)) (length-map (upTo n) _ ∙ length-upTo n) h
+        ∙ ap (padded 20 0) (sym (map-upTo-next (λ p. sum (take p arities)) n));
   }
 
   -- after the last one
   pub finish : (n : ℕ) (firsts : List ℕ) (count : ℕ) → n ≤ length arities → Begun arities n firsts count
       → Numbers (take n arities) (record { count = count; firsts = firsts })
-  unfolding padded firstProperties
+  unfolding firstProperties
   finish n firsts count h b = record {
     counted = b .summed ∙ sym (length-properties 0 (take n arities));
     firsts =
-        b .filled
-        ∙ ap (λ (k : ℕ). map (λ p. sum (take p arities)) (upTo n) ++ replicate (20 - k) 0)
-        (sym (length-map (upTo n) (λ p. sum (take p arities)) ∙ length-upTo n))
-        ∙ ap (λ (l : List ℕ). l ++ replicate (20 - length l) 0) same;
+        b .filled ∙ ap (padded 20 0) same;
   }
     where
       same : map (λ p. sum (take p arities)) (upTo n) ≡ map (λ p. sum (take p (take n arities))) (upTo (length (take n arities)))

@@ -7,7 +7,7 @@ use mathlib.Core.List.{List, map}
 use lib.Dec.{ltb, eqb}
 use lib.ListN.{length, getD, take, replicate, length-map, List·getD-append, List·getD-map}
 use borrow.Author.Tests.{ltb-true}
-use Rattle.laws.specs.Lists.{all, sum, upTo}
+use Rattle.laws.specs.Lists.{all, sum, upTo, padded}
 use Rattle.laws.proofs.Tests.{and-left}
 use Rattle.laws.proofs.Lists.{all-at, mem-getD, length-upTo, getD-upTo}
 use Rattle.laws.proofs.Fronts.{sum-take-next, sum-take-all}
@@ -18,7 +18,7 @@ use Rattle.model.proofs.Checked.{between-low, between-high}
 use Rattle.model.proofs.RuleCount.{sum-all}
 use Rattle.card.specs.declared.Atom.{Atom}
 use Rattle.card.specs.declared.ArityList.{ArityList}
-use Rattle.card.specs.Represents.{padded, blankAtom, entries, aritiesOf, atomOf}
+use Rattle.card.specs.Represents.{blankAtom, entries, aritiesOf, atomOf}
 use Rattle.card.proofs.Entries.{getD-entries, item-in, length-arities}
 use Rattle.properties.specs.Represented.{AritiesRight, firstProperties}
 

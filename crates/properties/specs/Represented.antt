@@ -4,7 +4,7 @@ use mathlib.Core.Path.{_≡_}
 use mathlib.Core.Bool.{true}
 use mathlib.Core.List.{List, map, flatMap}
 use lib.ListN.{length, take, replicate}
-use Rattle.laws.specs.Lists.{all, sum, upTo}
+use Rattle.laws.specs.Lists.{all, sum, upTo, padded}
 use Rattle.laws.specs.Bags.{Bag}
 use Rattle.model.specs.Card as model
 use Rattle.model.specs.Card.{between}
@@ -13,7 +13,7 @@ use Rattle.model.specs.Transitions.{propertiesFrom, properties, bagOf}
 use Rattle.card.specs.declared.ArityList.{ArityList}
 use Rattle.card.specs.declared.AtomList.{AtomList}
 use Rattle.card.specs.declared.Schema.{Schema}
-use Rattle.card.specs.Represents.{padded, aritiesOf, atomsOf}
+use Rattle.card.specs.Represents.{aritiesOf, atomsOf}
 use Rattle.properties.specs.declared.Numbering.{Numbering}
 
 -- the bags of all objects over the task's facts, object by object

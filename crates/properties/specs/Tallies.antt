@@ -20,12 +20,12 @@ tallied x first [] bag = bag
 tallied x first (argument ∷ arguments) bag = tallied x (suc first) arguments (marked x argument first bag)
 
 -- a table of the bags of all arguments (objects or parameters) after such an atom: each argument counts it in its own row
-unfoldable pub entered : ℕ → List ℕ → List ℕ → List ℕ
-entered first [] table = table
-entered first (argument ∷ arguments) table = entered (suc first) arguments (raised table (stride * argument + first))
+unfoldable pub talliedRows : ℕ → List ℕ → List ℕ → List ℕ
+talliedRows first [] table = table
+talliedRows first (argument ∷ arguments) table = talliedRows (suc first) arguments (raised table (stride * argument + first))
 
 -- the arguments can be entered: their rows are in the table, and from the first property on each count is below the most that it can be
-pub record Enterable (most first : ℕ) (arguments table : List ℕ) : Type 0 where
+pub record Talliable (most first : ℕ) (arguments table : List ℕ) : Type 0 where
   pub one-row : first + length arguments ≤ stride
   pub rows-there : (o : ℕ) → List·Memᴰ o arguments → stride * o + stride ≤ length table
   pub small : (o c : ℕ) → List·Memᴰ o arguments → first ≤ c → c < stride → getD table (stride * o + c) 0 < most

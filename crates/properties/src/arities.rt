@@ -5,7 +5,8 @@ ghost use mathlib.Core.List.{_++_};
 ghost use mathlib.Core.Path.{_≡_};
 ghost use Prim.Native.Nat.{_+_, _≤_};
 ghost use lib.ListN.{length, take, drop, replicate};
-ghost use Rattle.card.specs.Represents.{aritiesOf, padded};
+ghost use Rattle.laws.specs.Lists.{padded};
+ghost use Rattle.card.specs.Represents.{aritiesOf};
 ghost use Rattle.properties.specs.Represented.{AritiesRight, propertyArities};
 
 // Puts the arity of a predicate into the places of its properties, which begin at `first`.

@@ -12,7 +12,7 @@ ghost use lib.ListN.{length, getD, take, drop, replicate};
 ghost use Rattle.card.specs.Represents.{aritiesOf, taskOf, Represented};
 ghost use Rattle.properties.specs.Represented.{objectBags, Numbers};
 ghost use Rattle.properties.specs.Tables.{rowsBefore};
-ghost use Rattle.properties.specs.Tallies.{raised, entered, Enterable};
+ghost use Rattle.properties.specs.Tallies.{raised, talliedRows, Talliable};
 
 // How properties are numbered: how many there are, and the number of each predicate's first one.
 pub struct Numbering {
@@ -71,8 +71,8 @@ fn enter_argument(counts: &mut [u16], object: u8, property: usize)
 // Counts a fact for each of its objects: the properties of its predicate begin at `first`, and it has `arity` arguments.
 fn enter_fact(counts: &mut [u16], first: usize, fact: Atom, arity: usize)
     requires { ⌜ (1 ≤ arity) × (arity ≤ 3) ⌝ }
-    requires { ⌜ Enterable 65535 first (take arity (fact .first ∷ fact .second ∷ fact .third ∷ [])) (now counts) ⌝ }
-    ensures { λ _. ⌜ now (counts .exit) ≡ entered first (take arity (fact .first ∷ fact .second ∷ fact .third ∷ [])) (now (counts .entry)) ⌝ }
+    requires { ⌜ Talliable 65535 first (take arity (fact .first ∷ fact .second ∷ fact .third ∷ [])) (now counts) ⌝ }
+    ensures { λ _. ⌜ now (counts .exit) ≡ talliedRows first (take arity (fact .first ∷ fact .second ∷ fact .third ∷ [])) (now (counts .entry)) ⌝ }
 {
     enter_argument(counts, fact.first, first);
     if arity < 2 {

@@ -11,13 +11,14 @@ ghost use mathlib.Core.List.{[], _∷_, _++_};
 ghost use mathlib.Core.Path.{_≡_};
 ghost use Prim.Native.Nat.{_+_, _*_, _≤_, _<_};
 ghost use lib.ListN.{length, getD, take, drop, replicate};
+ghost use Rattle.laws.specs.Lists.{padded};
 ghost use Rattle.model.specs.Transitions.{propertiesFrom};
-ghost use Rattle.card.specs.Represents.{aritiesOf, atomsOf, schemaOf, taskOf, padded, Represented};
+ghost use Rattle.card.specs.Represents.{aritiesOf, atomsOf, schemaOf, taskOf, Represented};
 ghost use Rattle.properties.specs.Represented.{AritiesRight, AtomsRight, SchemaRight, firstProperties};
 ghost use Rattle.properties.specs.Parameters.{parametersIn, bagsOver, RoomForBags, ParameterTables};
 ghost use Rattle.properties.specs.Entered.{RoomFrom, SchemaEntered};
 ghost use Rattle.properties.specs.Tables.{rowsBefore};
-ghost use Rattle.properties.specs.Tallies.{raised, entered, Enterable};
+ghost use Rattle.properties.specs.Tallies.{raised, talliedRows, Talliable};
 
 // Empties the first rows of a table of parameters' bags.
 fn clear_rows(table: &mut [u8], rows: usize)
@@ -45,8 +46,8 @@ fn enter_argument(table: &mut [u8], parameter: u8, property: usize)
 // Counts an atom for each of its parameters: the properties of its predicate begin at `first`, and it has `arity` arguments.
 fn enter_atom(table: &mut [u8], first: usize, atom: Atom, arity: usize)
     requires { ⌜ (1 ≤ arity) × (arity ≤ 3) ⌝ }
-    requires { ⌜ Enterable 255 first (take arity (atom .first ∷ atom .second ∷ atom .third ∷ [])) (now table) ⌝ }
-    ensures { λ _. ⌜ now (table .exit) ≡ entered first (take arity (atom .first ∷ atom .second ∷ atom .third ∷ [])) (now (table .entry)) ⌝ }
+    requires { ⌜ Talliable 255 first (take arity (atom .first ∷ atom .second ∷ atom .third ∷ [])) (now table) ⌝ }
+    ensures { λ _. ⌜ now (table .exit) ≡ talliedRows first (take arity (atom .first ∷ atom .second ∷ atom .third ∷ [])) (now (table .entry)) ⌝ }
 {
     enter_argument(table, atom.first, first);
     if arity < 2 {

@@ -7,6 +7,7 @@ use mathlib.Core.Option.{none}
 use mathlib.Core.Path.{_≡_, refl, ap, _∙_, sym, subst, subst⁻¹}
 use lib.ListN.{length, take, drop, length-append, drop-of-length-le}
 use lib.Seq.{drop-cons}
+use Rattle.laws.specs.Lists.{padded}
 use Rattle.model.specs.Answer.{Answer, refused, accepted}
 use Rattle.model.specs.Card as model
 use Rattle.card.specs.declared.ArityList.{ArityList}
@@ -16,7 +17,7 @@ use Rattle.card.specs.declared.Refusal.{Refusal}
 use Rattle.card.specs.declared.Task.{Task}
 use Rattle.card.specs.declared.Decoded.{Decoded}
 use Rattle.card.specs.declared.Verdict.the-variants.{Accepted}
-use Rattle.card.specs.Represents.{refusalNumber, aritiesOf, aritiesFor, schemasOf, schemasFor, factsOf, factsFor, padded}
+use Rattle.card.specs.Represents.{refusalNumber, aritiesOf, aritiesFor, schemasOf, schemasFor, factsOf, factsFor}
 use Rattle.card.specs.Represents.{taskOf, taskFor, answerOf, taskBeside, Decodes}
 use Rattle.card.proofs.Entries.{arities-part}
 use Rattle.model.proofs.Answers.{need-both}

@@ -4,10 +4,11 @@ use mathlib.Core.List.{List, []}
 use mathlib.Core.Option.{Option, none}
 use mathlib.Core.Path.{_≡_, ap, ap₂}
 use lib.ListN.{length, drop, replicate}
+use Rattle.laws.specs.Lists.{padded}
 use Rattle.model.specs.Card as model
 use Rattle.card.specs.declared.Schema.{Schema}
 use Rattle.card.specs.declared.SchemaList.{SchemaList}
-use Rattle.card.specs.Represents.{padded, schemaOf, schemaFor, blankSchema, schemasOf, schemasFor}
+use Rattle.card.specs.Represents.{schemaOf, schemaFor, blankSchema, schemasOf, schemasFor}
 use Rattle.reader_bytes.specs.declared.Step.the-variants.{At}
 use Rattle.reader_bytes.specs.Reads.{Reads}
 use Rattle.reader_bytes.proofs.Reading.{accepts}

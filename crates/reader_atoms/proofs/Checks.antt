@@ -6,11 +6,13 @@ use mathlib.Core.List.{List, map}
 use mathlib.Core.Option.{Option}
 use mathlib.Core.Path.{_≡_, refl, ap, _∙_, sym}
 use lib.ListN.{length, length-map}
+use Rattle.laws.proofs.Padded.{length-padded}
+use Rattle.laws.specs.Lists.{padded}
 use Rattle.model.specs.Answer.{refused, accepted}
 use Rattle.model.specs.Card as model
 use Rattle.card.specs.declared.Atom.{Atom}
 use Rattle.card.specs.declared.AtomList.{AtomList}
-use Rattle.card.specs.Represents.{refusalNumber, atomOf, atomFor, atomsOf, atomsFor, padded, entries, blankAtom}
+use Rattle.card.specs.Represents.{refusalNumber, atomOf, atomFor, atomsOf, atomsFor, entries, blankAtom}
 use Rattle.reader_atoms.specs.declared.Previous.{Previous}
 use Rattle.reader_atoms.specs.declared.Previous.the-variants.{Nothing, Atom as After}
 use Rattle.card.specs.declared.ListField.{ListField}
@@ -18,7 +20,6 @@ use Rattle.card.specs.declared.ListField.the-variants.{Preconditions, Deletes, 
 use Rattle.card.specs.Fields.{fieldTest, fieldRefusal}
 use Rattle.reader_atoms.specs.Atoms.{previousOf, previousFor, aboveBytes, hasBytes, AtomsKept, PreviousKept}
 use Rattle.reader_atoms.specs.Atoms.{belongsBytes, fieldAtom}
-use Rattle.card.proofs.Padded.{length-padded}
 use Rattle.card.proofs.Entries.{entries-kept}
 use Rattle.model.proofs.Answers.{need-both}
 use Rattle.reader_bytes.proofs.Answers.{goes, halts, fails}

@@ -7,9 +7,10 @@ use mathlib.Core.Option.{Option, none, some}
 use mathlib.Core.Path.{_≡_, refl, ap, ap₂, _∙_, sym, subst}
 use lib.ListN.{length, take, drop, set, replicate, length-set, length-replicate, take-append-drop}
 use lib.Seq.{length-take-le, take-suc-set, drop-set-lt, drop-drop}
+use Rattle.laws.specs.Lists.{padded}
 use Rattle.model.specs.Answer.{Answer, refused, accepted, _>>=_}
 use Rattle.model.specs.Card.{Reader, many}
-use Rattle.card.specs.Represents.{padded, entries}
+use Rattle.card.specs.Represents.{entries}
 use Rattle.card.proofs.Entries.{entries-within, length-table}
 use Rattle.reader_bytes.proofs.Answers.{goes}
 use Rattle.reader_atoms.proofs.Many.{many-stops}

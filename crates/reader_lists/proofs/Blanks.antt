@@ -4,13 +4,14 @@ use mathlib.Core.List.{List, [], map, map-id}
 use mathlib.Core.Option.{Option, none}
 use mathlib.Core.Path.{_≡_, ap, ap₂, _∙_}
 use lib.ListN.{length, drop, replicate}
+use Rattle.laws.specs.Lists.{padded}
 use Rattle.model.specs.Answer.{accepted}
 use Rattle.model.specs.Card as model
 use Rattle.card.specs.declared.Atom.{Atom}
 use Rattle.card.specs.declared.AtomList.{AtomList}
 use Rattle.card.specs.declared.ArityList.{ArityList}
 use Rattle.card.specs.declared.FactList.{FactList}
-use Rattle.card.specs.Represents.{padded, entries, atomOf, atomFor, blankAtom, atomsOf, atomsFor, aritiesOf, aritiesFor, factsOf, factsFor}
+use Rattle.card.specs.Represents.{entries, atomOf, atomFor, blankAtom, atomsOf, atomsFor, aritiesOf, aritiesFor, factsOf, factsFor}
 use Rattle.reader_bytes.specs.declared.Step.the-variants.{At}
 use Rattle.reader_bytes.specs.Reads.{Reads}
 use Rattle.reader_bytes.proofs.Reading.{accepts}

@@ -9,13 +9,12 @@ use borrow.Author.Tests.{lt-ltb}
 use lib.Dec.{ltb}
 use lib.ListN.{length, take, length-map}
 use lib.Seq.{take-at}
-use Rattle.card.specs.Represents.{padded}
-use Rattle.card.proofs.Padded.{length-padded}
+use Rattle.laws.proofs.Padded.{length-padded}
 use Rattle.conditions.specs.Minimal.{containingAt, MinimalOf}
 use Rattle.conditions.specs.declared.minimal.Minimal.{Minimal}
 use Rattle.conditions.proofs.Containing.{excluded-by}
 use Rattle.laws.specs.Bags.{Bag}
-use Rattle.laws.specs.Lists.{all, upTo, keep}
+use Rattle.laws.specs.Lists.{all, upTo, keep, padded}
 use Rattle.laws.proofs.Lists.{all-intro, keep-at, upTo-at, length-upTo, flatMap-append}
 use Rattle.laws.proofs.Mapped.{keep-ext}
 use Rattle.laws.proofs.Walks.{keep-few}

@@ -10,9 +10,9 @@ use lib.Dec.{ltb}
 use borrow.Author.Tests.{ltb-true, ltb-false}
 use lib.ListN.{length, getD, take, drop, replicate, length-append, length-drop, length-replicate, take-append-drop}
 use lib.Seq.{take-take, take-all, take-at, drop-at, drop-drop, length-take-le}
-use Rattle.laws.specs.Lists.{member}
+use Rattle.laws.specs.Lists.{member, padded}
 use Rattle.laws.proofs.Tests.{never, by-test}
-use Rattle.sets.specs.Numbers.{rising, place, found, without, inserted, gapClosed, roomMade, filled, SetKept, Becomes}
+use Rattle.sets.specs.Numbers.{rising, place, found, without, inserted, gapClosed, roomMade, SetKept, Becomes}
 use Rattle.sets.specs.declared.Found.{Found}
 use Rattle.sets.specs.declared.Found.the-variants.{At, Missing}
 use Rattle.sets.proofs.Ascending.{place-within, member-past-end, without-rising, inserted-rising, length-without, length-inserted}
@@ -56,7 +56,7 @@ module _ (count n : ℕ) (was : List ℕ) (kept : SetKept count was) where
 
   -- nothing changes
   pub unchanged : (list : List ℕ) → list ≡ take count was → Becomes list was was count
-  unfolding filled
+  unfolding padded
   unchanged list e =
       let same : length list ≡ count = (ap length e ∙ size) in
       record {
@@ -74,7 +74,7 @@ module _ (count n : ℕ) (was : List ℕ) (kept : SetKept count was) where
   pub removed-there :
       (at : ℕ) (now : List ℕ) → member n (take count was) ≡ true → at ≡ place n (take count was) → now ≡ gapClosed at count was
       → Becomes (without n (take count was)) was now (count - 1)
-  unfolding gapClosed filled
+  unfolding gapClosed padded
   removed-there at now e p q =
       let few = kept .few in
       let all = size in
@@ -101,7 +101,7 @@ module _ (count n : ℕ) (was : List ℕ) (kept : SetKept count was) where
   pub inserted-new :
       (at : ℕ) (now : List ℕ) → count < length was → member n (take count was) ≡ false → at ≡ place n (take count was)
       → now ≡ roomMade at count n was → Becomes (inserted n (take count was)) was now (count + 1)
-  unfolding roomMade filled
+  unfolding roomMade padded
   inserted-new at now room e p q =
       let all = size in
       let within = place-within n (take count was) in
@@ -127,18 +127,18 @@ module _ (count n : ℕ) (was : List ℕ) (kept : SetKept count was) where
 -- what a change left is a set again, where it ascends and there is room for it
 module _ {set before after : List ℕ} {r : ℕ} (becomes : Becomes set before after r) (room : length set ≤ length before) where
   pub left-set : take r after ≡ set
-  unfolding filled
+  unfolding padded
   left-set =
       ap (λ (l : List ℕ). take r l) (becomes .listed) ∙ take-at set _ r (sym (becomes .counted))
 
   pub left-length : length after ≡ length before
-  unfolding filled
+  unfolding padded
   left-length =
       ap length (becomes .listed) ∙ length-append set (replicate (length before - length set) 0)
       ∙ (let zeros = length-replicate {A = ℕ} (length before - length set) 0 in omega arith)
 
   pub left-kept : rising 0 set ≡ true → SetKept r after
-  unfolding filled
+  unfolding padded
   left-kept e =
       let same = left-length in
       let count = becomes .counted in
@@ -173,7 +173,7 @@ module _ {change : List ℕ → ℕ → List ℕ} {ns list before : List ℕ} {i
       → length (change (take r now) (getD ns i 0)) ≤ suc (length (take r now))
       → length (change (take r now) (getD ns i 0)) ≤ length before
       → Changing change ns list before (i + 1) next s
-  unfolding filled
+  unfolding padded
   changing-step h b e k l =
       let done = foldl change list (take i ns) in
       let now-set : take r now ≡ done = left-set (c .becomes) (c .fits) in
@@ -186,7 +186,7 @@ module _ {change : List ℕ → ℕ → List ℕ} {ns list before : List ℕ} {i
       record {
         some-done = omega arith;
         becomes = record {
-          listed = b .listed ∙ ap (λ (m : ℕ). filled m (change (take r now) (getD ns i 0))) same ∙ ap (filled (length before)) (sym more);
+          listed = b .listed ∙ ap (λ (m : ℕ). padded m 0 (change (take r now) (getD ns i 0))) same ∙ ap (padded (length before) 0) (sym more);
           counted = b .counted ∙ ap length (sym more);
         };
         ascends = ap (rising 0) more ∙ e;

@@ -5,7 +5,7 @@ use mathlib.Core.Bool.{Bool, true, cond, not, _&&_}
 use mathlib.Core.List.{List, [], _∷_, _++_, foldl}
 use lib.Dec.{leb, ltb, eqb}
 use lib.ListN.{length, take, drop, replicate}
-use Rattle.laws.specs.Lists.{keep, member}
+use Rattle.laws.specs.Lists.{keep, member, padded}
 use Rattle.sets.specs.declared.Found.{Found}
 use Rattle.sets.specs.declared.Found.the-variants.{At, Missing}
 
@@ -47,10 +47,6 @@ withoutAll out ns = foldl (λ ms n. without n ms) ns out
 unfoldable pub insertedAll : List ℕ → List ℕ → List ℕ
 insertedAll new ns = foldl (λ ms n. inserted n ms) ns new
 
--- a list filled up with 0
-unfoldable pub filled : ℕ → List ℕ → List ℕ
-filled size ns = ns ++ replicate (size - length ns) 0
-
 -- A set kept in a longer list: its numbers ascend at the front, and 0 stands behind them.
 pub record SetKept (count : ℕ) (ns : List ℕ) : Type 0 where
   pub few : count ≤ length ns
@@ -59,5 +55,5 @@ pub record SetKept (count : ℕ) (ns : List ℕ) : Type 0 where
 
 -- What a change leaves: a set, filled up to the length there was, and its count.
 pub record Becomes (set before after : List ℕ) (r : ℕ) : Type 0 where
-  pub listed : after ≡ filled (length before) set
+  pub listed : after ≡ padded (length before) 0 set
   pub counted : r ≡ length set

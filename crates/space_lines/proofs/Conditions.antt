@@ -18,7 +18,7 @@ use Rattle.model.proofs.OwnLists.{lists-sized, joined-from, adjoin-all-from}
 use Rattle.properties.specs.Tables.{stride, rows, rowsBefore, bagsIn, HasRows}
 use Rattle.properties.proofs.Rows.{length-rows}
 use Rattle.properties.proofs.RowTables.{rows-before-back}
-use Rattle.space_lines.specs.OwnLines.{Held}
+use Rattle.space_lines.specs.OwnLines.{ConditionsHeld}
 
 -- rules and initial conditions are over the space's properties
 moves-sized : (u : Space) (m : Move) → List·Memᴰ m (movesOf u)
@@ -50,7 +50,7 @@ condition-sized t u b m =
 
 -- A table that begins with the rows of these conditions, where the space's properties fit a row.
 module _ (t : Task) (u : Space) (narrow : length (u .properties) ≤ stride) {before table : List ℕ} {count : ℕ}
-    (held : Held (analyse t u .conditions) before table count) where
+    (held : ConditionsHeld (analyse t u .conditions) before table count) where
   abbrev conditions : List Bag
   conditions = analyse t u .conditions
 

@@ -42,7 +42,7 @@ pub record AritiesOf (t : Task) (arities : List ℕ) : Type 0 where
   pub are : (c : ℕ) → c < length (properties t) → getD arities c 0 ≡ arityOf t c
 
 -- Conditions as rows at the front of a table, and their number.
-pub record Held (conditions : List Bag) (before table : List ℕ) (count : ℕ) : Type 0 where
+pub record ConditionsHeld (conditions : List Bag) (before table : List ℕ) (count : ℕ) : Type 0 where
   pub counted : count ≡ length conditions
   pub table-is : table ≡ rowsBefore conditions before
 
@@ -51,4 +51,4 @@ pub record SpaceHeld (t : Task) (s : model.Space) (kind : Kind) (own : List ℕ)
   pub kind-is : kindSays kind ≡ analyse t s .kind
   pub own-is : own ≡ s .properties
   pub members-are : membersOf members ≡ s .members
-  pub conditions-held : Held (analyse t s .conditions) before table count
+  pub conditions-held : ConditionsHeld (analyse t s .conditions) before table count

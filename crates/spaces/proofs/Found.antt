@@ -7,7 +7,8 @@ use mathlib.Core.List.{List, map, List·Memᴰ}
 use lib.Dec.{eqb}
 use lib.ListN.{length, getD, take, length-map}
 use lib.Seq.{take-at}
-use Rattle.laws.specs.Lists.{keep, upTo}
+use Rattle.laws.proofs.Padded.{padded-below}
+use Rattle.laws.specs.Lists.{keep, upTo, padded}
 use Rattle.laws.specs.Bags.{plus}
 use Rattle.laws.proofs.Bags.{length-plus, support-at}
 use Rattle.laws.proofs.Lists.{keep-at, upTo-at, flatMap-at}
@@ -16,14 +17,12 @@ use Rattle.model.specs.Transitions.{Transition, properties, bagOf, rulesOf}
 use Rattle.model.specs.Spaces.{moved, grouping, spaces}
 use Rattle.model.proofs.Grouping.{grouping-lowest, rulesOf-sized}
 use Rattle.model.proofs.Closing.{groups, labels, spacesWith, spaceWith, belongs, spaces-alone}
-use Rattle.card.specs.Represents.{padded}
 use Rattle.properties.specs.Parameters.{RoomForBags, rulesIn}
 use Rattle.properties.specs.Tables.{bagAt}
 use Rattle.properties.proofs.Rows.{length-bagAt}
 use Rattle.spaces.specs.SpaceTable.{spacesIn, groupsOf, lowestOf, SpacesOf}
-use Rattle.spaces.specs.Steps.{groupsIn, labelled, opened, roundsIn}
+use Rattle.spaces.specs.Steps.{groupsIn, labelled, openMasks, roundsIn}
 use Rattle.spaces.specs.Tabled.{TablesOf}
-use Rattle.spaces.proofs.Filling.{padded-below}
 use Rattle.spaces.proofs.RowRounds.{preconditions-there, deletes-there, adds-there, groups-by-rules, rounds-by-rules}
 use Rattle.spaces.proofs.RuleSteps.{roundsOf}
 use Rattle.spaces.proofs.TaskSpaces.{groupArray, grouping-known, labels-found, closedMasks, members-found}
@@ -60,7 +59,7 @@ module _ (size parameters objects : ℕ) (p d a c : List ℕ) {groups lowest mas
     (listed : lowest ≡ padded 60 0 (labelled size groups))
     (closed : masks
     ≡ padded 60 0
-    (map (λ l. getD (roundsIn groups objects size parameters p d a count (opened groups size c objects)) l 0) (take count lowest))) where
+    (map (λ l. getD (roundsIn groups objects size parameters p d a count (openMasks groups size c objects)) l 0) (take count lowest))) where
   count-is : count ≡ length (labelled size (groupsIn size parameters d a))
   count-is = counted ∙ ap (λ (g : List ℕ). length (labelled size g)) grouped
 
@@ -84,7 +83,7 @@ module _ (size parameters objects : ℕ) (p d a c : List ℕ) {groups lowest mas
             (closed
             ∙ (λ j.
             padded 60 0
-            (map (λ l. getD (roundsIn (grouped j) objects size parameters p d a (count-is j) (opened (grouped j) size c objects)) l 0)
+            (map (λ l. getD (roundsIn (grouped j) objects size parameters p d a (count-is j) (openMasks (grouped j) size c objects)) l 0)
             (in-order j))))
             i;
       }
@@ -110,16 +109,16 @@ module _ {t : Task} {size parameters objects : ℕ} {p d a c : List ℕ} (held :
   masks : List ℕ
   masks =
       roundsIn (groupsIn size parameters d a) objects size parameters p d a (length (labelled size (groupsIn size parameters d a)))
-      (opened (groupsIn size parameters d a) size c objects)
+      (openMasks (groupsIn size parameters d a) size c objects)
 
   same-masks : masks ≡ closedMasks t c
   unfolding closedMasks masks
   same-masks =
       rounds-by-rules narrow room (groupsIn size parameters d a) objects (length (labelled size (groupsIn size parameters d a)))
-      (opened (groupsIn size parameters d a) size c objects)
+      (openMasks (groupsIn size parameters d a) size c objects)
       ∙ (λ i.
       roundsOf (array i) (held .objects-are i) (held .rules-are i) (length (labelled-are i))
-      (opened (array i) (held .properties-are i) c (held .objects-are i)))
+      (openMasks (array i) (held .properties-are i) c (held .objects-are i)))
 
   pub spaces-of-task : SpacesOf t (spacesIn size parameters objects p d a c)
   unfolding spacesIn groupsOf lowestOf groupArray labels masks Rattle.model.proofs.Closing.groups

@@ -17,7 +17,7 @@ use Rattle.masks.proofs.Kept.{common-kept, union-kept, none-kept, one-kept, all
 use Rattle.model.specs.Transitions.{Transition}
 use Rattle.model.specs.Spaces.{moved}
 use Rattle.properties.specs.Tables.{bagAt}
-use Rattle.spaces.specs.Steps.{openAt, opened, joinAt, enabledBy}
+use Rattle.spaces.specs.Steps.{openAt, openMasks, joinAt, enabledBy}
 use Rattle.spaces.proofs.RuleSteps.{joinFirst, gainBy, roundOf, roundsOf}
 
 -- an object is a member of the space of a label
@@ -202,8 +202,8 @@ module _ (n : ℕ) (groups : List ℕ) (known : (c : ℕ) → getD groups c 0 < 
       ∙ fold-joins n (joinAt groups (maskOf (keep (eqb x) (upTo n)))) (λ c o l. eqb l (getD groups c 0) && eqb x o) (support (bagAt size counts x))
       (λ c m now. join-joins now (eqb x) c) joins
 
-  pub opened-joins : (size : ℕ) (counts : List ℕ) → opened groups size counts n ≡ masksOf n (opensBy size counts)
-  unfolding opened opensBy
+  pub opened-joins : (size : ℕ) (counts : List ℕ) → openMasks groups size counts n ≡ masksOf n (opensBy size counts)
+  unfolding openMasks opensBy
   opened-joins size counts =
       ap (λ (masks : List ℕ). foldl (λ l o. openAt groups size counts o l) masks (upTo n)) (masks-none n)
       ∙ fold-joins n (λ l o. openAt groups size counts o l) joined (upTo n) (λ x m now. open-joins size counts x (upTo-at n x m) now) (λ o l. false)

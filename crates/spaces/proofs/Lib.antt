@@ -1,4 +1,3 @@
-pub mod Filling
 pub mod Rows
 pub mod RuleSteps
 pub mod RowRules

@@ -5,6 +5,7 @@ use mathlib.Core.Bool.{true}
 use mathlib.Core.List.{List, [], map, List·Memᴰ}
 use lib.Dec.{eqb}
 use lib.ListN.{length, getD, length-map}
+use Rattle.laws.proofs.Padded.{padded-at}
 use Rattle.laws.specs.Lists.{keep, upTo, distinct}
 use Rattle.laws.proofs.Lists.{keep-at, upTo-at}
 use Rattle.laws.proofs.Numbers.{distinct-keep, distinct-upTo}
@@ -14,7 +15,6 @@ use Rattle.model.specs.Transitions.{properties, transitions}
 use Rattle.model.specs.Spaces.{Space, spaces}
 use Rattle.model.proofs.Grouping.{length-grouping}
 use Rattle.model.proofs.Closing.{groups, labels, propertiesAt, spaceWith, spacesWith, belongs, spaces-alone}
-use Rattle.card.proofs.Padded.{padded-at}
 use Rattle.masks.specs.Sets.{maskOf, membersOf}
 use Rattle.masks.proofs.Members.{kept-members}
 use Rattle.spaces.specs.declared.Spaces.{Spaces}

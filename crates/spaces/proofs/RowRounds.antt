@@ -3,12 +3,11 @@ use Prim.Native.Nat.{ℕ, zero, suc, _≤_, _<_}
 use native.Mathlib.Omega.{arith}
 use mathlib.Core.Path.{_≡_, refl, sym, ap, _∙_}
 use mathlib.Core.List.{List}
-use Rattle.laws.specs.Lists.{upTo}
+use Rattle.laws.specs.Lists.{upTo, padded}
 use Rattle.laws.proofs.Folds.{fold-ext, fold-lists}
 use Rattle.laws.proofs.Lists.{length-upTo, upTo-at}
 use Rattle.model.specs.Transitions.{Transition, rulesOf}
 use Rattle.model.specs.Spaces.{moved, uniteAll, grouping}
-use Rattle.card.specs.Represents.{padded}
 use Rattle.properties.specs.Parameters.{RoomForBags, rulesIn}
 use Rattle.properties.specs.Tables.{stride, bagAt, HasRow}
 use Rattle.properties.proofs.Rows.{length-bagAt}

@@ -8,7 +8,8 @@ use mathlib.Core.List.{List, [], _∷_, map, map-map, List·Memᴰ, List·Memᴰ
 use lib.Dec.{eqb}
 use lib.ListN.{length, getD, length-map}
 use borrow.Author.Tests.{eqb-true, eq-eqb}
-use Rattle.laws.specs.Lists.{any, all, keep, upTo, member}
+use Rattle.laws.proofs.Padded.{padded-at, padded-below}
+use Rattle.laws.specs.Lists.{any, all, keep, upTo, member, padded}
 use Rattle.laws.specs.Bags.{Bag, isEmpty, support, restrict}
 use Rattle.laws.proofs.Tests.{by-test, same-test, and-left, and-right, and-intro, and-swap, not-true, to-not-true}
 use Rattle.laws.proofs.Lists.{any-at, any-intro, keep-at, keep-intro, upTo-at, upTo-intro, member-at, member-intro, mem-getD, place-of}
@@ -23,12 +24,9 @@ use Rattle.model.specs.Transitions.{Transition, properties, bagOf, transitions}
 use Rattle.model.specs.Spaces.{moved, moves, condition, spaces}
 use Rattle.model.proofs.Grouping.{Lowest, label-known, grouping-joins, grouping-lowest, transitions-sized, moved-known}
 use Rattle.model.proofs.Closing.{groups, labels, propertiesAt, rulesAt, opens, spaceWith, spacesWith, admitted, step, belongs, spaces-alone}
-use Rattle.card.specs.Represents.{padded}
 use Rattle.properties.specs.Tables.{bagAt}
-use Rattle.spaces.specs.Steps.{labelled, opened}
+use Rattle.spaces.specs.Steps.{labelled, openMasks}
 use Rattle.spaces.proofs.RuleSteps.{roundsOf}
-use Rattle.card.proofs.Padded.{padded-at}
-use Rattle.spaces.proofs.Filling.{padded-below}
 use Rattle.spaces.proofs.Joins.{Joins, firstLabel, admittedBy, brings, oneRound, manyRounds, opensBy}
 use Rattle.spaces.proofs.Joins.{masks-at, mask-ext, rounds-joins, opened-joins}
 
@@ -234,7 +232,7 @@ module _ (t : Task) where
   unfoldable pub closedMasks : List ℕ → List ℕ
   closedMasks counts =
       roundsOf (groupArray t) (t .objects) (transitions t) (length (labels t))
-      (opened (groupArray t) (length (properties t)) counts (t .objects))
+      (openMasks (groupArray t) (length (properties t)) counts (t .objects))
 
   module _ (narrow : length (properties t) ≤ 60) where
     -- the members that the code finds are those of the task's spaces

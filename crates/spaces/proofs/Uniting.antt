@@ -8,12 +8,12 @@ use mathlib.Core.List.{List, [], _∷_, _++_, map, map-id, map-append, foldl, Li
 use lib.Dec.{eqb}
 use lib.ListN.{length, getD, set, replicate, List·getD-append}
 use borrow.Author.Tests.{eqb-true, eqb-false, eq-eqb, ne-eqb}
+use Rattle.laws.specs.Lists.{padded}
 use Rattle.laws.proofs.Tests.{cond-true, cond-false, or-cases, or-left, or-right, by-test}
 use Rattle.laws.proofs.Mapped.{map-ext}
 use Rattle.laws.proofs.Walks.{changed, changed-at, changed-next, changed-left}
 use Rattle.model.specs.Spaces.{unite, uniteAll}
 use Rattle.model.proofs.Grouping.{length-unite, uniteAll-keeps}
-use Rattle.card.specs.Represents.{padded}
 use Rattle.spaces.specs.Steps.{firstOr}
 
 -- one label in the place of another

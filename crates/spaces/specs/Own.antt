@@ -4,8 +4,7 @@ use mathlib.Core.Path.{_≡_}
 use mathlib.Core.List.{List}
 use lib.Dec.{eqb}
 use lib.ListN.{length, getD}
-use Rattle.laws.specs.Lists.{keep, upTo}
-use Rattle.card.specs.Represents.{padded}
+use Rattle.laws.specs.Lists.{keep, upTo, padded}
 use Rattle.spaces.specs.declared.own.Own.{Own}
 
 -- the properties, of the first `size`, whose group has the lowest property c, ascending

@@ -4,14 +4,13 @@ use mathlib.Core.Path.{_≡_}
 use mathlib.Core.List.{List, [], map}
 use lib.Dec.{eqb}
 use lib.ListN.{length, getD}
-use Rattle.laws.specs.Lists.{keep, upTo}
+use Rattle.laws.specs.Lists.{keep, upTo, padded}
 use Rattle.model.specs.Card.{Task}
 use Rattle.model.specs.Transitions.{properties, transitions}
 use Rattle.model.specs.Spaces as model
-use Rattle.card.specs.Represents.{padded}
 use Rattle.masks.specs.Sets.{maskOf}
 use Rattle.spaces.specs.declared.Spaces.{Spaces}
-use Rattle.spaces.specs.Steps.{groupsIn, labelled, opened, roundsIn}
+use Rattle.spaces.specs.Steps.{groupsIn, labelled, openMasks, roundsIn}
 
 -- the spaces by the parameters in the first rows of three tables, over `size` properties, and the initial bags of the objects. What an object
 -- gains depends on no other object, so that as many rounds as there are spaces are enough
@@ -19,7 +18,7 @@ unfoldable pub spacesIn : ℕ → ℕ → ℕ → List ℕ → List ℕ → List
 spacesIn size parameters objects p d a counts =
     let groups = groupsIn size parameters d a in
     let lowest = labelled size groups in
-    let masks = roundsIn groups objects size parameters p d a (length lowest) (opened groups size counts objects) in
+    let masks = roundsIn groups objects size parameters p d a (length lowest) (openMasks groups size counts objects) in
     record {
       count = length lowest;
       groups = groups;

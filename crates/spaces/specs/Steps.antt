@@ -4,10 +4,9 @@ use mathlib.Core.Bool.{Bool, cond, not}
 use mathlib.Core.List.{List, [], _∷_, foldl}
 use lib.Dec.{eqb, ltb}
 use lib.ListN.{length, getD, set, replicate}
-use Rattle.laws.specs.Lists.{any, keep, upTo}
+use Rattle.laws.specs.Lists.{any, keep, upTo, padded}
 use Rattle.laws.specs.Bags.{Bag, support}
 use Rattle.model.specs.Spaces.{uniteAll}
-use Rattle.card.specs.Represents.{padded}
 use Rattle.masks.specs.Sets.{singleOf, allBelow, unionOf, commonOf}
 use Rattle.properties.specs.Tables.{stride, bagAt}
 
@@ -49,8 +48,8 @@ joinAt groups objects masks c = let l = getD groups c 0 in set masks l (unionOf 
 unfoldable pub openAt : List ℕ → ℕ → List ℕ → ℕ → List ℕ → List ℕ
 openAt groups size counts o masks = foldl (joinAt groups (singleOf o)) masks (support (bagAt size counts o))
 
-unfoldable pub opened : List ℕ → ℕ → List ℕ → ℕ → List ℕ
-opened groups size counts objects = foldl (λ masks o. openAt groups size counts o masks) (replicate stride 0) (upTo objects)
+unfoldable pub openMasks : List ℕ → ℕ → List ℕ → ℕ → List ℕ
+openMasks groups size counts objects = foldl (λ masks o. openAt groups size counts o masks) (replicate stride 0) (upTo objects)
 
 -- the objects that are members of the space of each property of a bag; an empty bag means every object
 unfoldable pub enabledBy : List ℕ → ℕ → List ℕ → Bag → ℕ

@@ -7,9 +7,8 @@ ghost use mathlib.Core.List.{map};
 ghost use Prim.Native.Nat.{_*_, _≤_, _<_};
 ghost use lib.Dec.{eqb};
 ghost use lib.ListN.{length};
-ghost use Rattle.laws.specs.Lists.{upTo};
+ghost use Rattle.laws.specs.Lists.{upTo, padded};
 ghost use Rattle.model.specs.Spaces as model;
-ghost use Rattle.card.specs.Represents.{padded};
 ghost use Rattle.properties.specs.Tables.{bagAt, HasRow};
 ghost use Rattle.spaces.specs.Steps.{hasStart, changedBy, unitedBy, firstOr, groupsIn, labelled};
 

@@ -7,12 +7,11 @@ ghost use mathlib.Core.Path.{_≡_};
 ghost use mathlib.Core.List.{map, foldl};
 ghost use Prim.Native.Nat.{ℕ, _+_, _*_, _≤_, _<_};
 ghost use lib.ListN.{length, getD, take};
-ghost use Rattle.laws.specs.Lists.{same};
-ghost use Rattle.card.specs.Represents.{padded};
+ghost use Rattle.laws.specs.Lists.{same, padded};
 ghost use Rattle.properties.specs.Parameters.{RoomForBags};
 ghost use Rattle.properties.specs.Tables.{bagAt, HasRow};
 ghost use Rattle.spaces.specs.Tabled.{Grouped};
-ghost use Rattle.spaces.specs.Steps.{changedBy, joinAt, openAt, opened, gainRow, roundIn, roundsIn};
+ghost use Rattle.spaces.specs.Steps.{changedBy, joinAt, openAt, openMasks, gainRow, roundIn, roundsIn};
 
 // Objects join the space of a property.
 fn join(members: &mut [u64], groups: &[u8], c: usize, those: u64)
@@ -48,7 +47,7 @@ pub fn initial_members(groups: &[u8], counts: &[u16], objects: usize, size: usiz
     requires { ⌜ Grouped size (now groups) ⌝ }
     requires { ⌜ objects ≤ 64 ⌝ }
     requires { ⌜ 60 * objects ≤ length (now counts) ⌝ }
-    ensures { λ r. ⌜ r ≡ opened (now (groups .entry)) size (now (counts .entry)) objects ⌝ }
+    ensures { λ r. ⌜ r ≡ openMasks (now (groups .entry)) size (now (counts .entry)) objects ⌝ }
 {
     let mut members = [0u64; 60];
     for object in 0..objects {

@@ -8,7 +8,7 @@ use mathlib.Core.List.{List, [], _∷_, _++_, map, foldl}
 use mathlib.Core.Option.{none}
 use lib.ListN.{length, take, drop, replicate, length-map, length-append, length-drop, length-replicate}
 use lib.Seq.{take-at, drop-at}
-use Rattle.laws.specs.Lists.{all, keep, member}
+use Rattle.laws.specs.Lists.{all, keep, member, padded}
 use Rattle.laws.proofs.Tests.{and-left, and-right}
 use Rattle.laws.proofs.Lists.{all-at, all-intro}
 use Rattle.laws.proofs.Mapped.{all-map, all-ext}
@@ -24,7 +24,7 @@ use Rattle.model.proofs.States.{ground-known}
 use Rattle.card.specs.Represents.{atomsOf, schemaOf}
 use Rattle.card.specs.declared.AtomList.{AtomList}
 use Rattle.card.specs.declared.Schema.{Schema}
-use Rattle.sets.specs.Numbers.{rising, insertedAll, filled, SetKept, Becomes}
+use Rattle.sets.specs.Numbers.{rising, insertedAll, SetKept, Becomes}
 use Rattle.state.specs.Rows.{factNumber, numbersIn, stored, Shape}
 use Rattle.state.proofs.Writing.{length-numbersIn}
 use Rattle.state.proofs.FactNumbers.{allKnown, member-has, numbers-puts, numbers-removed, rising-state, numbers-of-rows, stored-written, put-known, keep-known}
@@ -226,13 +226,13 @@ module _ {arities objects : List ℕ} {schema : Schema} {buffer : List ℕ} {cou
       next-are = ap (nextNumbers model-schema objects) numbers-are ∙ next-numbers
 
       pub next-stored : take (n - 0) after ≡ map factNumber next
-      unfolding filled
+      unfolding padded
       next-stored =
           ap (λ (k : ℕ). take k after) (sub-zero n) ∙ ap (take n) (becomes .listed)
           ∙ take-at (nextNumbers model-schema objects (take count numbers)) _ n (sym (becomes .counted)) ∙ next-are
 
       pub next-within : n ≤ length after
-      unfolding filled
+      unfolding padded
       next-within =
           let set = nextNumbers model-schema objects (take count numbers) in
           let size = ap length (becomes .listed) ∙ length-append set (replicate (length numbers - length set) 0) in

@@ -7,13 +7,14 @@ use mathlib.Core.Bool.{true}
 use mathlib.Core.List.{List, [], _∷_, map}
 use lib.ListN.{length, take, replicate, length-map, length-append}
 use lib.Seq.{take-at, length-take-le}
+use Rattle.laws.specs.Lists.{padded}
 use Rattle.model.specs.Card as model
 use Rattle.model.specs.Strips.{ground, takenOut, putIn}
 use Rattle.card.specs.Represents.{atomsOf, schemaOf}
 use Rattle.card.proofs.Entries.{length-atoms}
 use Rattle.card.specs.declared.AtomList.{AtomList}
 use Rattle.card.specs.declared.Schema.{Schema}
-use Rattle.sets.specs.Numbers.{rising, without, withoutAll, insertedAll, filled, SetKept, Becomes}
+use Rattle.sets.specs.Numbers.{rising, without, withoutAll, insertedAll, SetKept, Becomes}
 use Rattle.sets.proofs.Ascending.{without-rising, length-without}
 use Rattle.sets.proofs.Changing.{left-set, left-length, left-kept}
 use Rattle.state.specs.Rows.{factNumber}
@@ -53,7 +54,7 @@ module _ {f : Facts} (facts : List model.Atom) (kept : f ≡ factsKept facts) (f
   kept-count = ap (λ (g : Facts). g .count) kept
 
   pub kept-within : f .count ≤ length (f .numbers)
-  unfolding factsKept filled
+  unfolding factsKept padded
   kept-within =
       let size : length (f .numbers) ≡ length (map factNumber facts) + length {A = ℕ} (replicate (8 - length (map factNumber facts)) 0) =
       (ap (λ (g : Facts). length (g .numbers)) kept ∙ length-append (map factNumber facts) (replicate (8 - length (map factNumber facts)) 0)) in
@@ -62,7 +63,7 @@ module _ {f : Facts} (facts : List model.Atom) (kept : f ≡ factsKept facts) (f
       omega arith
 
   pub kept-numbers : take (f .count - 0) (f .numbers) ≡ map factNumber facts
-  unfolding factsKept filled
+  unfolding factsKept padded
   kept-numbers =
       ap (λ (k : ℕ). take k (f .numbers)) (sub-zero (f .count))
       ∙ ap (λ (g : Facts). take (f .count) (g .numbers)) kept
@@ -101,13 +102,13 @@ module _
     pub next-becomes :
         {next : List ℕ} {r : ℕ} → Becomes (insertedAll (map factNumber (putIn (schemaOf arities schema) objects)) (take left now)) now next r
         → Becomes (nextNumbers (schemaOf arities schema) objects (take count was)) was next r
-    unfolding nextNumbers filled out
+    unfolding nextNumbers padded out
     next-becomes b =
         let same = left-set gone fits in
         let new : List ℕ = map factNumber (putIn (schemaOf arities schema) objects) in
         record {
           listed =
-              b .listed ∙ ap (λ (k : ℕ). filled k (insertedAll new (take left now))) between-length
-              ∙ ap (λ (l : List ℕ). filled (length was) (insertedAll new l)) same;
+              b .listed ∙ ap (λ (k : ℕ). padded k 0 (insertedAll new (take left now))) between-length
+              ∙ ap (λ (l : List ℕ). padded (length was) 0 (insertedAll new l)) same;
           counted = b .counted ∙ ap (λ (l : List ℕ). length (insertedAll new l)) same;
         }

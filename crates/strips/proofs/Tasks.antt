@@ -6,6 +6,7 @@ use mathlib.Core.Bool.{true}
 use mathlib.Core.Option.{none}
 use mathlib.Core.List.{List, [], _∷_, map}
 use lib.ListN.{length, getD, length-map, List·getD-map}
+use Rattle.laws.proofs.Padded.{length-padded, padded-at}
 use Rattle.laws.specs.Lists.{all}
 use Rattle.laws.proofs.Lists.{all-at, all-intro, mem-getD}
 use Rattle.model.specs.Answer.{accepted}
@@ -19,7 +20,6 @@ use Rattle.card.specs.Represents.{schemaOf, aritiesOf, schemasOf, taskOf, Repre
 use Rattle.card.specs.Represents.{atomFor, blankAtom, atomsFor, schemaFor, blankSchema, schemasFor, taskFor}
 use Rattle.card.specs.declared.Schema.{Schema}
 use Rattle.card.specs.declared.Task.{Task}
-use Rattle.card.proofs.Padded.{length-padded, padded-at}
 use Rattle.card.proofs.Entries.{item-at}
 use Rattle.card.proofs.Counts.{right, schema-count, schemas-few, schemas-inside, facts-few, facts-size}
 use Rattle.state.specs.Rows.{Shape}

@@ -9,7 +9,7 @@ use lib.Dec.{ltb}
 use lib.ListN.{length, getD, take, replicate, length-map, length-replicate, List·getD-eq-default}
 use lib.Seq.{take-all, take-suc, ext-getD}
 use borrow.Author.Tests.{ltb-true, ltb-false}
-use Rattle.laws.specs.Lists.{keep, upTo, member}
+use Rattle.laws.specs.Lists.{keep, upTo, member, padded}
 use Rattle.laws.proofs.Tests.{by-test}
 use Rattle.laws.proofs.Lists.{flatMap-append, length-upTo, getD-upTo, mem-getD, mem-take}
 use Rattle.laws.proofs.Mapped.{getD-map}
@@ -23,7 +23,6 @@ use Rattle.model.specs.Lines.{Analysis, analyse, analysis, countOf, oneNumber, 
 use Rattle.model.proofs.RuleCount.{properties-few}
 use Rattle.model.proofs.SpaceFacts.{space-unique, properties-known}
 use Rattle.model.proofs.ListedSpace.{space-of-analysis, analysed}
-use Rattle.card.specs.Represents.{padded}
 use Rattle.properties.specs.Tables.{row}
 use Rattle.properties.proofs.Rows.{getD-zeros, getD-row, length-row}
 use Rattle.closing.specs.Fixed.{firstAndOne, fixedOf, fixedTable}

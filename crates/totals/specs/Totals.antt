@@ -27,7 +27,7 @@ totalsOf analyses =
     analyses
 
 -- what entering a space's totals asks: a table of its conditions, its properties apart and each with a place, and at most 64 members
-pub record Enterable (own : List ℕ) (count members : ℕ) (table fixed : List ℕ) : Type 0 where
+pub record TotalsEnterable (own : List ℕ) (count members : ℕ) (table fixed : List ℕ) : Type 0 where
   pub rows-there : HasRows (length own) count table
   pub apart : distinct own ≡ true
   pub places-there : (j : ℕ) → j < length own → getD own j 0 < length fixed

@@ -5,7 +5,7 @@ ghost use Prim.Native.Nat.{_*_, _≤_, _<_};
 ghost use lib.ListN.{length};
 ghost use Rattle.sections.specs.Limits.{columnOf};
 ghost use Rattle.properties.specs.Tables.{bagsIn};
-ghost use Rattle.totals.specs.Totals.{givenBy, entered, Enterable};
+ghost use Rattle.totals.specs.Totals.{givenBy, entered, TotalsEnterable};
 
 // One more than the total of a property whose counts are in a column, if they are all the same; 0 if not.
 fn total_by(table: &[u16], count: usize, column: usize, members: u32) -> u32
@@ -29,7 +29,7 @@ fn total_by(table: &[u16], count: usize, column: usize, members: u32) -> u32
 // Enters the totals of a space, each at the number of its property. The conditions are in a table, a row each, the own properties in
 // their order.
 pub fn enter_totals(fixed: &mut [u32], own: &[usize], table: &[u16], count: usize, members: u32)
-    requires { ⌜ Enterable (now own) count members (now table) (now fixed) ⌝ }
+    requires { ⌜ TotalsEnterable (now own) count members (now table) (now fixed) ⌝ }
     ensures { λ _. ⌜
         now (fixed .exit)
         ≡ entered

@@ -4,9 +4,9 @@ use mathlib.Core.Path.{_≡_, refl}
 use mathlib.Core.List.{map}
 use native.Mathlib.Omega.{arith}
 use lib.ListN.{take}
+use Rattle.laws.specs.Lists.{padded}
 use Rattle.model.specs.Strips.{ground}
 use Rattle.card.specs.Represents.{atomOf, blankAtom}
-use Rattle.sets.specs.Numbers.{filled}
 use Rattle.state.specs.Rows.{factNumber}
 use Rattle.actions.proofs.GroundRows.{atom-known, grounded-step, grounded-end}
 use Rattle.actions.proofs.grounded.Statement.{statement}
@@ -14,7 +14,7 @@ use Rattle.actions.proofs.grounded.Tie as tie
 
 abbrev Inv-loop : tie.InvT-loop
 Inv-loop arities objects list count numbers₀ i₀ numbers i =
-    (i ≤ list .count) × (numbers ≡ filled 8 (map (λ a. factNumber (ground objects (atomOf arities a))) (take i (list .atoms))))
+    (i ≤ list .count) × (numbers ≡ padded 8 0 (map (λ a. factNumber (ground objects (atomOf arities a))) (take i (list .atoms))))
 
 abbrev μ-loop : tie.MeasureT-loop
 μ-loop arities objects list count numbers₀ i₀ numbers i = list .count - i
@@ -24,7 +24,7 @@ abbrev entry : tie.At-loop Inv-loop μ-loop → tie.Start Inv-loop μ-loop
 entry c = c .before .before .before
 
 loop-holds : tie.Need-loop-holds Inv-loop μ-loop
-unfolding filled
+unfolding padded
 loop-holds c = (omega arith, refl)
 
 mul-a : tie.Need-mul-a Inv-loop μ-loop

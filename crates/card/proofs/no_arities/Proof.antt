@@ -1,6 +1,7 @@
 -- `no_arities` is the list with nothing on it.
 use mathlib.Core.Path.{refl}
-use Rattle.card.specs.Represents.{aritiesFor, padded, blankAtom}
+use Rattle.laws.specs.Lists.{padded}
+use Rattle.card.specs.Represents.{aritiesFor, blankAtom}
 use Rattle.card.proofs.no_arities.Statement.{statement}
 use Rattle.card.proofs.no_arities.Tie as tie
 

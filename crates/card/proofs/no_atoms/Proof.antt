@@ -2,8 +2,9 @@
 use mathlib.Core.Path.{ap}
 use borrow.Author.Needs.{needs}
 use lib.ListN.{replicate}
+use Rattle.laws.specs.Lists.{padded}
 use Rattle.card.specs.declared.AtomList.{AtomList}
-use Rattle.card.specs.Represents.{atomsFor, padded}
+use Rattle.card.specs.Represents.{atomsFor}
 use Rattle.card.proofs.no_atoms.Statement.{statement}
 use Rattle.card.proofs.no_atoms.Tie as tie
 

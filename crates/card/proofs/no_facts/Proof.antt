@@ -2,8 +2,9 @@
 use mathlib.Core.Path.{ap}
 use borrow.Author.Needs.{needs}
 use lib.ListN.{replicate}
+use Rattle.laws.specs.Lists.{padded}
 use Rattle.card.specs.declared.FactList.{FactList}
-use Rattle.card.specs.Represents.{factsFor, padded}
+use Rattle.card.specs.Represents.{factsFor}
 use Rattle.card.proofs.no_facts.Statement.{statement}
 use Rattle.card.proofs.no_facts.Tie as tie
 

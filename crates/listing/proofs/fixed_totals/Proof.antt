@@ -4,7 +4,7 @@ use native.Mathlib.Omega.{arith}
 use mathlib.Core.Path.{_≡_, refl, sym, _∙_}
 use lib.ListN.{length, length-replicate}
 use borrow.Author.Needs.{needs}
-use Rattle.prepared.specs.Found.{Analysable}
+use Rattle.prepared.specs.Found.{SpaceReady}
 use Rattle.prepared.proofs.Analysing.{found-of, sizes-low}
 use Rattle.listing.proofs.Totalling.{SameLengths, analysable-again, Entered, entered-none, entered-next, entered-all}
 use Rattle.listing.proofs.fixed_totals.Statement.{statement}
@@ -33,7 +33,7 @@ analysed c = c .before .before .before .before .before .before .before .before
 
 -- the space can be analysed
 can : (c : tie.In-loop Inv-loop μ-loop)
-    → Analysable (c .before .loop .number) (entry (c .before) .args .prepared) (entry (c .before) .args .deletes .now)
+    → SpaceReady (c .before .loop .number) (entry (c .before) .args .prepared) (entry (c .before) .args .deletes .now)
     (entry (c .before) .args .adds .now) (entry (c .before) .args .counts .now) (c .before .loop .starts) (c .before .loop .finishes)
     (c .before .loop .conditions)
 can c =

@@ -5,7 +5,7 @@ use native.Mathlib.Omega.{arith}
 use mathlib.Core.Path.{_≡_, ap, _∙_}
 use lib.ListN.{take}
 use borrow.Author.Needs.{needs}
-use Rattle.prepared.specs.Found.{ownAt}
+use Rattle.prepared.specs.Found.{ownOfSpace}
 use Rattle.prepared.proofs.Analysing.{own-kept, own-inside, own-low, sizes-low, analysable-space, found-at}
 use Rattle.prepared.proofs.analyse_space.Statement.{statement}
 use Rattle.prepared.proofs.analyse_space.Tie as tie
@@ -17,8 +17,8 @@ entry c = c .before .before .before .before .before .before .before .before .bef
 -- the own properties, as they are lent
 own-lent : (c : tie.After-own-properties)
     → take (c .own-properties .result .count - 0) (c .own-properties .result .properties)
-    ≡ ownAt (entry c .args .prepared) (entry c .args .number)
-unfolding ownAt
+    ≡ ownOfSpace (entry c .args .prepared) (entry c .args .number)
+unfolding ownOfSpace
 own-lent c =
     ap (λ (n : ℕ). take n (c .own-properties .result .properties)) (sub-zero (c .own-properties .result .count))
     ∙ own-kept (c .own-properties .ensures)
@@ -41,7 +41,7 @@ part-analyse-start : tie.Need-part-analyse-start
 part-analyse-start c = search needs
 
 part-analyse-end : tie.Need-part-analyse-end
-unfolding ownAt
+unfolding ownOfSpace
 part-analyse-end c =
     let own = c .before .before in
     own-inside (own .own-properties .ensures) (own-low (entry own .pre))
@@ -67,7 +67,7 @@ same-length-3 : tie.Need-same-length-3
 same-length-3 c = search needs
 
 returns : tie.Need-returns
-unfolding ownAt
+unfolding ownOfSpace
 returns c =
     let own = c .before .before .before .before .before .before .before .before .before .before .before .before .before .before in
     found-at (entry own .pre) (own-lent own) (own .own-properties .ensures) (c .before .before .before .before .before .before .analyse .ensures)

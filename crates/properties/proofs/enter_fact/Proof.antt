@@ -3,7 +3,7 @@ use denote.Ref.{now}
 use mathlib.Core.List.{[], _∷_}
 use mathlib.Core.Path.{refl}
 use lib.ListN.{take}
-use Rattle.properties.specs.Tallies.{entered}
+use Rattle.properties.specs.Tallies.{talliedRows}
 use Rattle.properties.proofs.Entering.{Left, left-here, left-next, two-on, left-end}
 use native.Mathlib.Omega.{arith}
 use borrow.Author.Needs.{needs}
@@ -23,7 +23,7 @@ second c = c .before .before .before .before .before
 -- at first all arguments are left
 left : (s : tie.Start)
     → Left 65535 (s .args .first) (s .args .arity) (s .args .fact .first ∷ s .args .fact .second ∷ s .args .fact .third ∷ []) (now (s .args .counts))
-    (entered (s .args .first) (take (s .args .arity) (s .args .fact .first ∷ s .args .fact .second ∷ s .args .fact .third ∷ [])) (now (s .args .counts)))
+    (talliedRows (s .args .first) (take (s .args .arity) (s .args .fact .first ∷ s .args .fact .second ∷ s .args .fact .third ∷ [])) (now (s .args .counts)))
 left s = record { fits = s .pre .1; rest = refl }
 
 enter-argument-requires : tie.Need-enter-argument-requires

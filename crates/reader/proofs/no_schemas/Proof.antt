@@ -1,6 +1,7 @@
 -- `no_schemas` is the list with nothing on it.
 use lib.ListN.{replicate}
-use Rattle.card.specs.Represents.{schemasFor, padded}
+use Rattle.laws.specs.Lists.{padded}
+use Rattle.card.specs.Represents.{schemasFor}
 use borrow.Author.Needs.{needs}
 use Rattle.reader.proofs.no_schemas.Statement.{statement}
 use Rattle.reader.proofs.no_schemas.Tie as tie

@@ -5,9 +5,9 @@ use mathlib.Core.Path.{_≡_, sym, ap, _∙_, subst}
 use mathlib.Core.List.{List, map}
 use lib.Dec.{eqb}
 use lib.ListN.{length, getD, take}
+use Rattle.laws.proofs.Padded.{length-padded}
+use Rattle.laws.specs.Lists.{padded}
 use Rattle.laws.proofs.Walks.{keep-few}
-use Rattle.card.specs.Represents.{padded}
-use Rattle.card.proofs.Padded.{length-padded}
 use Rattle.properties.specs.Parameters.{RoomForBags}
 use Rattle.spaces.specs.Steps.{groupsIn, labelled, roundsIn}
 use Rattle.spaces.specs.Tabled.{Grouped}

@@ -5,11 +5,10 @@ use native.Mathlib.Omega.{arith}
 use mathlib.Core.Path.{_≡_, refl, sym, ap, _∙_}
 use mathlib.Core.List.{List}
 use lib.ListN.{set}
-use Rattle.laws.specs.Lists.{from, upTo}
+use Rattle.laws.proofs.Padded.{padded-next}
+use Rattle.laws.specs.Lists.{from, upTo, padded}
 use Rattle.laws.proofs.Lists.{length-upTo}
 use Rattle.laws.proofs.Walks.{upTo-next}
-use Rattle.card.specs.Represents.{padded}
-use Rattle.spaces.proofs.Filling.{padded-next}
 use Rattle.spaces.proofs.grouping.each_alone.Statement.{statement}
 use Rattle.spaces.proofs.grouping.each_alone.Tie as tie
 

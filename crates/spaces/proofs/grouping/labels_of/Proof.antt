@@ -9,11 +9,10 @@ use mathlib.Core.List.{List}
 use lib.Dec.{eqb}
 use lib.ListN.{length, getD, set}
 use borrow.Author.Tests.{eq-eqb, ne-eqb}
-use Rattle.laws.specs.Lists.{keep, from, upTo}
+use Rattle.laws.proofs.Padded.{pick-written, pick-skipped}
+use Rattle.laws.specs.Lists.{keep, from, upTo, padded}
 use Rattle.laws.proofs.Walks.{keep-few}
-use Rattle.card.specs.Represents.{padded}
 use Rattle.spaces.specs.Steps.{labelled}
-use Rattle.spaces.proofs.Filling.{pick-written, pick-skipped}
 use Rattle.spaces.proofs.grouping.labels_of.Statement.{statement}
 use Rattle.spaces.proofs.grouping.labels_of.Tie as tie
 

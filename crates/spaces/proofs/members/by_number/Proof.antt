@@ -5,8 +5,8 @@ use native.Mathlib.Omega.{arith}
 use mathlib.Core.Path.{_≡_, refl, ap, _∙_}
 use mathlib.Core.List.{map}
 use lib.ListN.{getD, take}
-use Rattle.card.specs.Represents.{padded}
-use Rattle.spaces.proofs.Filling.{map-written}
+use Rattle.laws.proofs.Padded.{map-written}
+use Rattle.laws.specs.Lists.{padded}
 use Rattle.spaces.proofs.members.by_number.Statement.{statement}
 use Rattle.spaces.proofs.members.by_number.Tie as tie
 
@@ -52,7 +52,7 @@ loop-again c =
     let head = c .before .before .before in
     let a = head .before .args in (
       omega arith,
-      map-written 60 (λ l. getD (a .members .now) l 0) (a .lowest .now) (head .loop .numbered) (head .loop .k) (omega arith) (omega arith)
+      map-written 60 (λ l. getD (a .members .now) l 0) (a .lowest .now) 0 (head .loop .numbered) (head .loop .k) (omega arith) (omega arith)
           (head .loop .inv .1),
     )
 

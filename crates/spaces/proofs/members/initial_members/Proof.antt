@@ -5,7 +5,7 @@ use mathlib.Core.Path.{_≡_, refl, sym, _∙_}
 use mathlib.Core.List.{List, foldl}
 use lib.ListN.{length, replicate}
 use Rattle.laws.proofs.Walks.{left, walk-starts, walk-next, walk-ends}
-use Rattle.spaces.specs.Steps.{openAt, opened}
+use Rattle.spaces.specs.Steps.{openAt, openMasks}
 use Rattle.spaces.proofs.members.initial_members.Statement.{statement}
 use Rattle.spaces.proofs.members.initial_members.Tie as tie
 
@@ -16,17 +16,17 @@ abbrev Inv-loop : tie.InvT-loop
 Inv-loop groups counts objects size members₀ object₀ members object =
     (object ≤ objects)
     × (length members ≡ 60)
-    × (foldl (openNext groups size counts) members (left object objects) ≡ opened groups size counts objects)
+    × (foldl (openNext groups size counts) members (left object objects) ≡ openMasks groups size counts objects)
 
 abbrev μ-loop : tie.MeasureT-loop
 μ-loop groups counts objects size members₀ object₀ members object = objects - object
 
 loop-holds : tie.Need-loop-holds Inv-loop μ-loop
-unfolding opened
+unfolding openMasks
 loop-holds c =
     let a = c .before .before .args in
     let next = openNext (a .groups .now) (a .size) (a .counts .now) in
-    (zero-le, refl, walk-starts next (opened (a .groups .now) (a .size) (a .counts .now) (a .objects)) (a .objects) (replicate 60 0) refl)
+    (zero-le, refl, walk-starts next (openMasks (a .groups .now) (a .size) (a .counts .now) (a .objects)) (a .objects) (replicate 60 0) refl)
 
 slice-aggregate-open-object : tie.Need-slice-aggregate-open-object Inv-loop μ-loop
 slice-aggregate-open-object c = sym (c .before .before .loop .inv .1)
@@ -52,7 +52,7 @@ loop-again c =
     let next = openNext (a .groups .now) (a .size) (a .counts .now) in (
       omega arith,
       called .open-object .kept .0 ∙ head .loop .inv .1,
-      walk-next next (opened (a .groups .now) (a .size) (a .counts .now) (a .objects)) (a .objects) (head .loop .object) (head .loop .members)
+      walk-next next (openMasks (a .groups .now) (a .size) (a .counts .now) (a .objects)) (a .objects) (head .loop .object) (head .loop .members)
           _ (called .before .before .loop-test .taken) (called .open-object .ensures) (head .loop .inv .2),
     )
 
@@ -60,7 +60,7 @@ returns : tie.Need-returns Inv-loop μ-loop
 returns c =
     let head = c .before in
     let a = head .before .before .before .args in
-    walk-ends (openNext (a .groups .now) (a .size) (a .counts .now)) (opened (a .groups .now) (a .size) (a .counts .now) (a .objects))
+    walk-ends (openNext (a .groups .now) (a .size) (a .counts .now)) (openMasks (a .groups .now) (a .size) (a .counts .now) (a .objects))
     (a .objects) (head .loop .object) (head .loop .members) (c .loop-test .left) (head .loop .inv .2)
 
 pub initial-members-spec : {M : Type 1} → statement M

@@ -9,10 +9,9 @@ use mathlib.Core.List.{List}
 use lib.Dec.{eqb}
 use lib.ListN.{length, getD}
 use borrow.Author.Tests.{eq-eqb, ne-eqb}
-use Rattle.laws.specs.Lists.{keep, from, upTo}
-use Rattle.card.specs.Represents.{padded}
+use Rattle.laws.proofs.Padded.{pick-written, pick-skipped}
+use Rattle.laws.specs.Lists.{keep, from, upTo, padded}
 use Rattle.spaces.specs.Own.{ownOf}
-use Rattle.spaces.proofs.Filling.{pick-written, pick-skipped}
 use Rattle.spaces.proofs.own.own_properties.Statement.{statement}
 use Rattle.spaces.proofs.own.own_properties.Tie as tie
 
