@@ -14,7 +14,7 @@ use Rattle.reader_bytes.specs.declared.Cursor.{Cursor}
 use Rattle.reader_bytes.specs.declared.Step.{Step}
 use Rattle.reader_bytes.specs.declared.Step.the-variants.{At, Refused}
 use Rattle.reader_bytes.specs.Reads.{Reads}
-use Rattle.reader_atoms.specs.Atoms.{argumentBytes, argumentsOf, withArguments, placesOf}
+use Rattle.reader_atoms.specs.Atoms.{argumentBytes, argumentsOf, withArguments, argumentPlaces}
 use Rattle.reader_bytes.proofs.Answers.{goes, halts}
 use Rattle.reader_atoms.proofs.Many.{many-stops, many-stops-later, many-more, many-none}
 use Rattle.reader_bytes.proofs.Reading.{accepts, refuses, accepted-by, within-card, kept-as, refused-by, blank-by}
@@ -92,7 +92,7 @@ module _ (arities : List ℕ) (bound number : ℕ) (s : List ℕ) where
       (within-card w refl) (k ∙ ap (λ p. atomFor (as-atom p a)) q)
     where
       as-atom : ℕ → Atom → model.Atom
-      as-atom p a = record { predicate = p; arguments = take (getD arities p 0) (placesOf a) }
+      as-atom p a = record { predicate = p; arguments = take (getD arities p 0) (argumentPlaces a) }
   predicate-read {card = card} (Refused k) {a} e w =
       subst⁻¹ (λ a. Reads (atomOf arities) atomFor blankAtom card (atom arities bound number s) (Refused k) a) (blank-by w refl)
       (refuses (goes _ e ∙ halts _ (refused-by w refl)))

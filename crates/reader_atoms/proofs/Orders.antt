@@ -14,7 +14,7 @@ use Rattle.card.specs.declared.Atom.{Atom}
 use Rattle.card.specs.declared.AtomList.{AtomList}
 use Rattle.card.specs.Represents.{entries, blankAtom, atomOf, atomFor}
 use Rattle.card.proofs.Entries.{next-entry, no-entry}
-use Rattle.reader_atoms.specs.Atoms.{bytesOf, placesOf, hasBytes}
+use Rattle.reader_atoms.specs.Atoms.{bytesOf, argumentPlaces, hasBytes}
 
 -- a number is the same as itself, and not below itself
 eqb-self : (x : ℕ) → eqb x x ≡ true
@@ -70,39 +70,39 @@ abbrev pub Kept : List ℕ → Atom → Type 0
 Kept arities a = a ≡ atomFor (atomOf arities a)
 
 -- the argument places of an atom as read: its arguments, then 0
-places-filled : (n : ℕ) (a : Atom) → a ≡ atomFor (record { predicate = a .predicate; arguments = take n (placesOf a) })
-    → placesOf a ≡ take n (placesOf a) ++ drop n (0 ∷ 0 ∷ 0 ∷ [])
+places-filled : (n : ℕ) (a : Atom) → a ≡ atomFor (record { predicate = a .predicate; arguments = take n (argumentPlaces a) })
+    → argumentPlaces a ≡ take n (argumentPlaces a) ++ drop n (0 ∷ 0 ∷ 0 ∷ [])
 unfolding atomFor
-places-filled zero a k = ap placesOf k
-places-filled (suc zero) a k = ap placesOf k
-places-filled (suc (suc zero)) a k = ap placesOf k
+places-filled zero a k = ap argumentPlaces k
+places-filled (suc zero) a k = ap argumentPlaces k
+places-filled (suc (suc zero)) a k = ap argumentPlaces k
 places-filled (suc (suc (suc zero))) a k = refl
 places-filled (suc (suc (suc (suc n)))) a k = refl
 
 -- an atom as read, whose arity is n
 abbrev Filled : ℕ → Atom → Type 0
-Filled n a = a ≡ atomFor (record { predicate = a .predicate; arguments = take n (placesOf a) })
+Filled n a = a ≡ atomFor (record { predicate = a .predicate; arguments = take n (argumentPlaces a) })
 
 -- a comparison of lists that does not look at a common end compares two atoms of one predicate by all their places
 module _
     (f : List ℕ → List ℕ → Bool)
     (ends : (xs ys zs : List ℕ) → length xs ≡ length ys → f (xs ++ zs) (ys ++ zs) ≡ f xs ys)
     (a b : Atom) where
-  same-arity : (n : ℕ) → Filled n a → Filled n b → f (take n (placesOf a)) (take n (placesOf b)) ≡ f (placesOf a) (placesOf b)
+  same-arity : (n : ℕ) → Filled n a → Filled n b → f (take n (argumentPlaces a)) (take n (argumentPlaces b)) ≡ f (argumentPlaces a) (argumentPlaces b)
   same-arity n ka kb =
-      let l : length (take n (placesOf a)) ≡ length (take n (placesOf b)) = length-take n (placesOf a) ∙ sym (length-take n (placesOf b)) in
-      sym (ends (take n (placesOf a)) (take n (placesOf b)) (drop n (0 ∷ 0 ∷ 0 ∷ [])) l)
+      let l : length (take n (argumentPlaces a)) ≡ length (take n (argumentPlaces b)) = length-take n (argumentPlaces a) ∙ sym (length-take n (argumentPlaces b)) in
+      sym (ends (take n (argumentPlaces a)) (take n (argumentPlaces b)) (drop n (0 ∷ 0 ∷ 0 ∷ [])) l)
       ∙ ap₂ f (sym (places-filled n a ka)) (sym (places-filled n b kb))
 
   -- .. given that the predicates are the same
   compared : (arities : List ℕ) → Kept arities a → Kept arities b → (t : Bool) → eqb (a .predicate) (b .predicate) ≡ t
-      → (t && f (atomOf arities a .arguments) (atomOf arities b .arguments)) ≡ (t && f (placesOf a) (placesOf b))
+      → (t && f (atomOf arities a .arguments) (atomOf arities b .arguments)) ≡ (t && f (argumentPlaces a) (argumentPlaces b))
   unfolding atomOf
   compared arities ka kb false e = refl
   compared arities ka kb true e =
       let n : ℕ = getD arities (a .predicate) 0 in
       let q : n ≡ getD arities (b .predicate) 0 = ap (λ p. getD arities p 0) (eqb-true _ _ e) in
-      subst (λ m. f (take n (placesOf a)) (take m (placesOf b)) ≡ f (placesOf a) (placesOf b)) q
+      subst (λ m. f (take n (argumentPlaces a)) (take m (argumentPlaces b)) ≡ f (argumentPlaces a) (argumentPlaces b)) q
       (same-arity n ka (subst⁻¹ (λ m. Filled m b) q kb))
 
 module _ (arities : List ℕ) (a b : Atom) (ka : Kept arities a) (kb : Kept arities b) where

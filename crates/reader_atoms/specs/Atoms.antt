@@ -46,11 +46,11 @@ refusalOfAtom (NoAtom r) = r
 unfoldable pub argumentBytes : ℕ → ℕ → ℕ → model.Reader (List ℕ)
 argumentBytes arity bound number = model.many (λ previous. model.byteThat (λ x. ltb x bound) number) none arity
 
-abbrev pub placesOf : Atom → List ℕ
-placesOf a = a .first ∷ a .second ∷ a .third ∷ []
+abbrev pub argumentPlaces : Atom → List ℕ
+argumentPlaces a = a .first ∷ a .second ∷ a .third ∷ []
 
 unfoldable pub argumentsOf : ℕ → Atom → List ℕ
-argumentsOf arity a = take arity (placesOf a)
+argumentsOf arity a = take arity (argumentPlaces a)
 
 unfoldable pub withArguments : ℕ → List ℕ → Atom
 withArguments predicate arguments = atomFor (record { predicate = predicate; arguments = arguments })
@@ -61,7 +61,7 @@ ArgumentsRead predicate arity card answer r = Reads (argumentsOf arity) (withArg
 
 -- the four bytes of an atom
 abbrev pub bytesOf : Atom → List ℕ
-bytesOf a = a .predicate ∷ placesOf a
+bytesOf a = a .predicate ∷ argumentPlaces a
 
 -- an atom with the same bytes is on the list
 unfoldable pub hasBytes : AtomList → Atom → Bool
