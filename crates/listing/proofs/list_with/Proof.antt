@@ -1,17 +1,45 @@
 -- No section past the closing one; that of a space, or the closing one.
 use borrow.Author.Needs.{needs}
 use Rattle.prepared.proofs.Analysing.{found-of}
-use Rattle.prepared.proofs.Lending.{given-filled, analysable-given}
+use Rattle.prepared.proofs.Lending.{analysable-given}
 use Rattle.prepared.proofs.Totalling.{preconditions-given}
 use Rattle.listing.proofs.Answering.{list-unknown, list-written}
 use Rattle.listing.proofs.Totalling.{found-for}
-use Rattle.listing.proofs.Listing.{space-listed, closing-listed}
+use Rattle.listing.proofs.Listing.{tables-given, space-listed, closing-listed}
 use Rattle.listing.proofs.list_with.Statement.{statement}
 use Rattle.listing.proofs.list_with.Tie as tie
 
--- the start, from the tables filled
-abbrev entry : tie.After-prepare → tie.Start
-entry c = c .before .before .before .before .before .before .before .before .before .before .before .before .before
+-- Places of the function that are spoken of, each reached from a later one: its start, the tables filled, the choice of a section, and
+-- what is done for a space or for the closing section.
+abbrev start : tie.After-prepare → tie.Start
+start c = c .before .before .before .before .before .before .before .before .before .before .before .before .before
+
+abbrev filled : tie.After-struct-known → tie.After-prepare
+filled c = c .before .before .before .before .before .before .before .before .before .before
+
+abbrev known : tie.After-struct-known2 → tie.Else1
+known c = c .before
+
+abbrev filled-for : tie.After-struct-known2 → tie.After-prepare
+filled-for c = filled (known c .before)
+
+abbrev asked : tie.After-analyse-space-arg6 → tie.Then2
+asked c = c .before .before .before .before .before .before
+
+abbrev analysed : tie.After-write-space-section-arg2 → tie.After-analyse-space
+analysed c = c .before .before .before .before .before .before .before .before
+
+abbrev written : tie.After-slice-known16 → tie.After-write-space-section
+written c = c .before .before
+
+abbrev closes : tie.After-fixed-totals-arg6 → tie.Else2
+closes c = c .before .before .before .before .before .before
+
+abbrev totalled : tie.After-write-closing-arg2 → tie.After-fixed-totals
+totalled c = c .before .before .before .before .before .before .before .before .before
+
+abbrev closed : tie.After-slice-known20 → tie.After-write-closing
+closed c = c .before .before
 
 prepare-requires : tie.Need-prepare-requires
 prepare-requires c κs = search needs
@@ -30,41 +58,34 @@ same-length-4 c = search needs
 
 returns : tie.Need-returns
 returns c =
-    let filled = c .before .before .before .before .before .before .before .before .before .before .before in
-    let pre = entry filled .pre in
-    list-unknown _ _ _ _ (filled .prepare .ensures .spaces-are) (pre .1 .0) (c .if1 .taken)
+    let tables = filled (c .before) in
+    list-unknown _ _ _ _ (tables .prepare .ensures .spaces-are) (start tables .pre .1 .0) (c .if1 .taken)
 
 analyse-space-requires : tie.Need-analyse-space-requires
 analyse-space-requires c κs =
-    let filled = c .before .before .before .before .before .before .before .before .before .before .before .before .before .before .before .before .before .before .before in
-    let pre = entry filled .pre in
-    let kept = filled .prepare .kept .1 in
-    let given = given-filled (pre .0 .checked) (pre .1 .1 .0) (pre .1 .1 .1 .0) (filled .prepare .ensures)
-    (kept .0, (kept .1 .0, (kept .1 .1 .0, kept .1 .1 .1 .0))) in
-    analysable-given given (pre .1 .1 .1 .1) (c .before .before .before .before .before .before .if2 .taken)
+    let tables = filled-for (asked c .before) in
+    let given = tables-given (start tables .pre) (tables .prepare .ensures) (tables .prepare .kept .1) in
+    analysable-given given (start tables .pre .1 .1 .1 .1) (asked c .if2 .taken)
 
 write-space-section-requires : tie.Need-write-space-section-requires
 write-space-section-requires c κs =
-    let filled = c .before .before .before .before .before .before .before .before .before .before .before .before .before .before .before .before .before .before .before .before .before .before .before .before .before .before .before .before in
-    let pre = entry filled .pre in
-    let kept = filled .prepare .kept .1 in
-    let given = given-filled (pre .0 .checked) (pre .1 .1 .0) (pre .1 .1 .1 .0) (filled .prepare .ensures)
-    (kept .0, (kept .1 .0, (kept .1 .1 .0, kept .1 .1 .1 .0))) in
-    let found = c .before .before .before .before .before .before .before .before .analyse-space in
-    let h = analysable-given given (pre .1 .1 .1 .1) (c .before .before .before .before .before .before .before .before .before .before .before .before .before .before .before .if2 .taken) in
-    (record { task = h .task; of = found-of h (found .ensures) (found .kept .1 .1 .1 .1 .1 .1 .1 .0) }, pre .1 .0)
+    let tables = filled-for (asked (analysed c .before) .before) in
+    let given = tables-given (start tables .pre) (tables .prepare .ensures) (tables .prepare .kept .1) in
+    let h = analysable-given given (start tables .pre .1 .1 .1 .1) (asked (analysed c .before) .if2 .taken) in
+    let found = analysed c .analyse-space in
+    (record { task = h .task; of = found-of h (found .ensures) (found .kept .1 .1 .1 .1 .1 .1 .1 .0) }, start tables .pre .1 .0)
 
 same-length-5 : tie.Need-same-length-5
 same-length-5 c = search needs
 
 same-length-6 : tie.Need-same-length-6
-same-length-6 c = c .before .before .before .before .before .before .before .before .before .before .before .before .before .before .before .before .before .before .before .before .before .before .before .before .before .before .before .before .before .before .before .prepare .kept .1 .0
+same-length-6 c = filled-for (asked (analysed (written c .before) .before) .before) .prepare .kept .1 .0
 
 same-length-7 : tie.Need-same-length-7
-same-length-7 c = c .before .before .before .before .before .before .before .before .before .before .before .before .before .before .before .before .before .before .before .before .before .before .before .before .before .before .before .before .before .before .before .prepare .kept .1 .1 .0
+same-length-7 c = filled-for (asked (analysed (written c .before) .before) .before) .prepare .kept .1 .1 .0
 
 same-length-8 : tie.Need-same-length-8
-same-length-8 c = c .before .before .before .before .before .before .before .before .before .before .before .before .before .before .before .before .before .before .before .before .before .before .before .before .before .before .before .before .before .before .before .prepare .kept .1 .1 .1 .0
+same-length-8 c = filled-for (asked (analysed (written c .before) .before) .before) .prepare .kept .1 .1 .1 .0
 
 same-length-9 : tie.Need-same-length-9
 same-length-9 c = search needs
@@ -80,36 +101,34 @@ same-length-12 c = search needs
 
 returns-2 : tie.Need-returns-2
 returns-2 c =
-    let filled = c .before .before .before .before .before .before .before .before .before .before .before .before .before .before .before .before .before .before .before .before .before .before .before .before .before .before .before .before .before .before .before in
-    let pre = entry filled .pre in
-    let kept = filled .prepare .kept .1 in
-    let given = given-filled (pre .0 .checked) (pre .1 .1 .0) (pre .1 .1 .1 .0) (filled .prepare .ensures)
-    (kept .0, (kept .1 .0, (kept .1 .1 .0, kept .1 .1 .1 .0))) in
-    let found = c .before .before .before .before .before .before .before .before .before .before .before .analyse-space in
-    let h = analysable-given given (pre .1 .1 .1 .1) (c .before .before .before .before .before .before .before .before .before .before .before .before .before .before .before .before .before .before .if2 .taken) in
-    list-written _ _ _ _ (filled .prepare .ensures .spaces-are) (pre .1 .0) (c .before .before .before .before .before .before .before .before .before .before .before .before .before .before .before .before .before .before .before .before .if1 .left) _ _
-    (space-listed (found-for h (found .ensures) (found .kept .1 .1 .1 .1 .1 .1 .1 .0) given) (c .before .before .write-space-section .ensures))
+    let found = analysed (written c .before) in
+    let space = asked (found .before) in
+    let tables = filled-for (space .before) in
+    let given = tables-given (start tables .pre) (tables .prepare .ensures) (tables .prepare .kept .1) in
+    let h = analysable-given given (start tables .pre .1 .1 .1 .1) (space .if2 .taken) in
+    list-written _ _ _ _ (tables .prepare .ensures .spaces-are) (start tables .pre .1 .0) (known (space .before) .if1 .left) _ _
+    (space-listed (found-for h (found .analyse-space .ensures) (found .analyse-space .kept .1 .1 .1 .1 .1 .1 .1 .0) given)
+    (written c .write-space-section .ensures))
 
 fixed-totals-requires : tie.Need-fixed-totals-requires
 fixed-totals-requires c κs =
-    let filled = c .before .before .before .before .before .before .before .before .before .before .before .before .before .before .before .before .before .before .before in
-    let pre = entry filled .pre in
-    let kept = filled .prepare .kept .1 in
-    let given = given-filled (pre .0 .checked) (pre .1 .1 .0) (pre .1 .1 .1 .0) (filled .prepare .ensures)
-    (kept .0, (kept .1 .0, (kept .1 .1 .0, kept .1 .1 .1 .0))) in
-    λ number known. analysable-given given (pre .1 .1 .1 .1) known
+    let tables = filled-for (closes c .before) in
+    λ number here.
+    analysable-given (tables-given (start tables .pre) (tables .prepare .ensures) (tables .prepare .kept .1)) (start tables .pre .1 .1 .1 .1) here
 
 slice-aggregate-write-closing : tie.Need-slice-aggregate-write-closing
 slice-aggregate-write-closing c = search needs
 
 write-closing-requires : tie.Need-write-closing-requires
 write-closing-requires c κs =
-    let filled = c .before .before .before .before .before .before .before .before .before .before .before .before .before .before .before .before .before .before .before .before .before .before .before .before .before .before .before .before .before in
-    let pre = entry filled .pre in
-    let kept = filled .prepare .kept .1 in
-    let given = given-filled (pre .0 .checked) (pre .1 .1 .0) (pre .1 .1 .1 .0) (filled .prepare .ensures)
-    (kept .0, (kept .1 .0, (kept .1 .1 .0, kept .1 .1 .1 .0))) in
-    (pre .0, (filled .prepare .ensures .spaces-are, (c .before .before .before .before .before .before .before .before .before .fixed-totals .ensures _ _ given, (preconditions-given given, pre .1 .0))))
+    let tables = filled-for (closes (totalled c .before) .before) in
+    let given = tables-given (start tables .pre) (tables .prepare .ensures) (tables .prepare .kept .1) in (
+      start tables .pre .0,
+      (
+        tables .prepare .ensures .spaces-are,
+        (totalled c .fixed-totals .ensures _ _ given, (preconditions-given given, start tables .pre .1 .0)),
+      ),
+    )
 
 same-length-13 : tie.Need-same-length-13
 same-length-13 c = search needs
@@ -137,10 +156,11 @@ same-length-20 c = search needs
 
 returns-3 : tie.Need-returns-3
 returns-3 c =
-    let filled = c .before .before .before .before .before .before .before .before .before .before .before .before .before .before .before .before .before .before .before .before .before .before .before .before .before .before .before .before .before .before .before .before in
-    let pre = entry filled .pre in
-    list-written _ _ _ _ (filled .prepare .ensures .spaces-are) (pre .1 .0) (c .before .before .before .before .before .before .before .before .before .before .before .before .before .before .before .before .before .before .before .before .before .if1 .left) _ _
-    (closing-listed _ (filled .prepare .ensures .spaces-are) (c .before .before .before .before .before .before .before .before .before .before .before .before .before .before .before .before .before .before .before .before .before .if1 .left) (c .before .before .before .before .before .before .before .before .before .before .before .before .before .before .before .before .before .before .before .if2 .left) (c .before .before .write-closing .ensures))
+    let choice = closes (totalled (closed c .before) .before) in
+    let tables = filled-for (choice .before) in
+    let reached = known (choice .before) .if1 .left in
+    list-written _ _ _ _ (tables .prepare .ensures .spaces-are) (start tables .pre .1 .0) reached _ _
+    (closing-listed _ (tables .prepare .ensures .spaces-are) reached (choice .if2 .left) (closed c .write-closing .ensures))
 
 pub list-with-spec : {M : Type 1} → statement M
 list-with-spec =
