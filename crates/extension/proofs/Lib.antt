@@ -1,6 +1,7 @@
 pub mod PlaceLists
 pub mod Signatures
-pub mod Insides
+pub mod Outsides
+pub mod Comparing
 pub mod Learning
 pub mod Remaining
 pub mod Choosing

@@ -1,6 +1,7 @@
 pub mod Moves
 pub mod Places
 pub mod Known
+pub mod Mixed
 pub mod Choosing
 pub mod Expanding
 pub mod Searching
