@@ -11,6 +11,7 @@ pub mod Searching
 pub mod Repeats
 pub mod Judging
 pub mod Replaying
+pub mod PlaceRows
 pub mod Arriving
 pub mod Expanding
 pub mod Trying
