@@ -79,7 +79,7 @@ module _ {task : code.Task} {sp : code-spaces.Spaces} {masks : List ℕ} {size :
     unfolding parameters
     parameters-next = count-next _ counted long size-is
 
-    within : first + getD (task .schemas .schemas) i d .parameters ≤ parametersIn (taskOf task)
+    within : first + getD (task .schemas .schemas) i d .parameters ≤ parametersIn (taskOf task .schemas)
     unfolding parameters parametersIn sizesOf
     within = count-within _ counted long size-is
 

@@ -27,10 +27,10 @@ use Rattle.model.specs.Lines.{types, typesOf}
 use Rattle.model.proofs.Closing.{groups, labels, propertiesAt, spaceWith, spacesWith, belongs, spaces-alone}
 use Rattle.model.proofs.Grouping.{length-grouping}
 use Rattle.model.proofs.Grouping.{length-bagOf}
-use Rattle.properties.specs.Parameters.{parametersIn, parameterBags}
+use Rattle.properties.specs.Parameters.{parametersIn}
 use Rattle.properties.specs.Tables.{bagAt}
 use Rattle.properties.proofs.RowTables.{getD-bagsIn}
-use Rattle.properties.proofs.ParameterRows.{sizesOf, together, bagsOf, length-sizes, sizes-long, size-at, bag-of-parameter, Counted, count-within}
+use Rattle.properties.proofs.ParameterRows.{sizesOf, length-sizes, sizes-long, size-at, bag-of-parameter, Counted, count-within}
 use Rattle.spaces.specs.declared.Spaces as code
 use Rattle.spaces.specs.SpaceTable.{SpacesOf, groupsOf, lowestOf}
 use Rattle.spaces.specs.Steps.{enabledBy}
@@ -167,13 +167,13 @@ module _ (t : Task) (sp : code.Spaces) (of : SpacesOf t sp) (narrow : length (pr
       row-is : (k : ℕ) → k < getD (t .schemas) n d .parameters
           → bagAt (length (properties t)) preconditions (sum (take n (sizesOf (t .schemas))) + k)
           ≡ bagOf (properties t) (getD (t .schemas) n d .preconditions) k
-      unfolding bagsOf parameterBags parametersIn sizesOf together
+      unfolding parametersIn sizesOf
       row-is k l =
           let first = sum (take n (sizesOf (t .schemas))) in
           let counted : Counted (sizesOf (t .schemas)) n first = record { inside = omega (arith, length-sizes (t .schemas)); is = refl } in
-          let inside : first + k < parametersIn t =
+          let inside : first + k < parametersIn (t .schemas) =
           omega (arith, l, count-within (sizesOf (t .schemas)) counted (sizes-long (t .schemas) h) (size-at (t .schemas) d h)) in
-          sym (getD-bagsIn (length (properties t)) (parametersIn t) preconditions (first + k) inside)
+          sym (getD-bagsIn (length (properties t)) (parametersIn (t .schemas)) preconditions (first + k) inside)
           ∙ ap (λ (l : List Bag). getD l (first + k) []) (held .rows-are)
           ∙ bag-of-parameter (properties t) (λ s. s .preconditions) (t .schemas) n k d h l
 

@@ -31,5 +31,6 @@ pub record MembersGiven (size : ℕ) (groups masks : List ℕ) (objects : ℕ) :
 
 -- The table begins with the bags P of a task's parameters.
 pub record PreconditionRows (t : Task) (preconditions : List ℕ) : Type 0 where
-  pub rows-there : stride * parametersIn t ≤ length preconditions
-  pub rows-are : bagsIn (length (properties t)) (parametersIn t) preconditions ≡ parameterBags (λ s. s .preconditions) t
+  pub rows-there : stride * parametersIn (t .schemas) ≤ length preconditions
+  pub rows-are :
+      bagsIn (length (properties t)) (parametersIn (t .schemas)) preconditions ≡ parameterBags (properties t) (λ s. s .preconditions) (t .schemas)

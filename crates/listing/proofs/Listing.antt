@@ -23,7 +23,7 @@ use Rattle.prepared.proofs.SectionsOf.{section-of-space, section-closing}
 
 -- the tables lent for a task, and lent on to be filled, are given to what follows
 pub tables-given : {task : Kept} {r : Prepared} {preconditions deletes adds counts p d a c : List ℕ} {B E F : Type 0}
-    → Represented task (taskOf task) × (B × (RoomForBags (parametersIn (taskOf task)) preconditions deletes adds × ((3840 ≤ length counts) × E)))
+    → Represented task (taskOf task) × (B × (RoomForBags (parametersIn (taskOf task .schemas)) preconditions deletes adds × ((3840 ≤ length counts) × E)))
     → PreparedOf (taskOf task) r preconditions deletes adds counts p d a c
     → (length p ≡ length preconditions)
     × ((length d ≡ length deletes) × ((length a ≡ length adds) × ((length c ≡ length counts) × F)))

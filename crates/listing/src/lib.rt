@@ -87,7 +87,7 @@ fn list_with(
 ) -> Listed
     requires { ⌜ Represented task (taskOf task) ⌝ }
     requires { ⌜ outputBytes ≤ length (now out) ⌝ }
-    requires { ⌜ RoomForBags (parametersIn (taskOf task)) (now preconditions) (now deletes) (now adds) ⌝ }
+    requires { ⌜ RoomForBags (parametersIn (taskOf task .schemas)) (now preconditions) (now deletes) (now adds) ⌝ }
     requires { ⌜ 3840 ≤ length (now counts) ⌝ }
     requires { ⌜ RoomForMoves (rowsAtMost (taskOf task)) (now starts) (now finishes) (now conditions) ⌝ }
     ensures { λ r. ⌜ TaskLists (taskOf task) number (now (out .entry)) (now (out .exit)) r ⌝ }
@@ -186,7 +186,7 @@ fn list_task(task: Task, number: usize, out: &mut [u8]) -> Listed
     if out.len() < OUTPUT_BYTES {
         return Listed::OutputShort;
     }
-    if rows_at_most(task) <= 32 {
+    if rows_at_most(task.predicates, task.schemas) <= 32 {
         return list_small(task, number, out);
     }
     list_large(task, number, out)

@@ -1,15 +1,20 @@
 -- The tables that are lent for a task: filled they are given to what follows, and cleared they have room for it.
 use Prim.Native.Nat.{ℕ, _*_, _≤_, _<_}
 use native.Mathlib.Omega.{arith}
-use mathlib.Core.Path.{_≡_, sym}
+use mathlib.Core.Path.{_≡_, refl, sym}
 use mathlib.Core.List.{List}
 use lib.ListN.{length}
 use Rattle.model.specs.Answer.{accepted}
 use Rattle.model.specs.Card.{Task}
 use Rattle.model.specs.Writer.{checkTask}
 use Rattle.model.proofs.RuleCount.{properties-few}
+use Rattle.card.specs.declared.Task as code
+use Rattle.card.specs.Represents.{aritiesOf, schemasOf, taskOf, Represented}
+use Rattle.properties.specs.Represented.{AritiesRight, SchemasSmall}
 use Rattle.properties.specs.Parameters.{parametersIn, RoomForBags}
 use Rattle.properties.specs.Tables.{stride}
+use Rattle.properties.proofs.TaskParts.{arities-right, schemas-right}
+use Rattle.properties.proofs.SchemaLists.{right-small}
 use Rattle.properties.proofs.ParameterRows.{rows-few}
 use Rattle.prepared.specs.declared.Prepared.{Prepared}
 use Rattle.prepared.specs.Prepared.{rowsAtMost, RoomForMoves, PreparedOf, Given}
@@ -18,7 +23,7 @@ use Rattle.prepared.proofs.Cleared.{cleared, cleared-length, cleared-lo
 
 -- tables with room that were filled, and kept their lengths
 pub given-filled : {t : Task} {r : Prepared} {preconditions deletes adds counts p d a c : List ℕ} → checkTask t ≡ accepted tt
-    → RoomForBags (parametersIn t) preconditions deletes adds → 3840 ≤ length counts
+    → RoomForBags (parametersIn (t .schemas)) preconditions deletes adds → 3840 ≤ length counts
     → PreparedOf t r preconditions deletes adds counts p d a c
     → (length p ≡ length preconditions) × ((length d ≡ length deletes) × ((length a ≡ length adds) × (length c ≡ length counts)))
     → Given t r p d a c
@@ -53,8 +58,19 @@ analysable-given {t} {p = p} given room known = record {
   conditions-long = room .conditions-room;
 }
 
+-- what counting the rows of a task asks, and what it says
+module _ (task : code.Task) where
+  pub rows-asked : Represented task (taskOf task) → AritiesRight (task .predicates) × SchemasSmall (task .schemas)
+  rows-asked r = (arities-right task r, right-small (schemas-right task r))
+
+  pub rows-counted : {rows : ℕ}
+      → ((t : Task) → t .arities ≡ aritiesOf (task .predicates) → t .schemas ≡ schemasOf (aritiesOf (task .predicates)) (task .schemas) → rows ≡ rowsAtMost t)
+      → rows ≡ rowsAtMost (taskOf task)
+  unfolding taskOf
+  rows-counted counted = counted (taskOf task) refl refl
+
 -- how many parameters and rows a task has
-pub parameters-fewer : (t : Task) → parametersIn t ≤ rowsAtMost t
+pub parameters-fewer : (t : Task) → parametersIn (t .schemas) ≤ rowsAtMost t
 unfolding rowsAtMost
 parameters-fewer t = omega arith
 

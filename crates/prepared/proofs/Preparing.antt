@@ -5,19 +5,35 @@ use mathlib.Core.Path.{_≡_, sym, subst}
 use mathlib.Core.List.{List}
 use lib.ListN.{length}
 use Rattle.model.specs.Card as model
-use Rattle.model.specs.Transitions.{properties}
+use Rattle.model.specs.Transitions.{properties, propertiesFrom}
 use Rattle.model.proofs.Checked.{checked}
 use Rattle.model.proofs.RuleCount.{properties-few}
 use Rattle.card.specs.declared.Task.{Task}
-use Rattle.card.specs.Represents.{taskOf, aritiesOf, Represented}
+use Rattle.card.specs.Represents.{taskOf, aritiesOf, schemasOf, factsOf, Represented}
 use Rattle.properties.specs.declared.Numbering.{Numbering}
 use Rattle.properties.specs.Represented.{Numbers, objectBags}
 use Rattle.properties.specs.Tables.{rowsBefore}
-use Rattle.properties.specs.Parameters.{parametersIn, RoomForBags, ParameterTables}
+use Rattle.properties.specs.Parameters.{parametersIn, bagsOver, RoomForBags, ParameterTables}
 use Rattle.spaces.specs.SpaceTable.{spacesIn, SpacesOf}
 use Rattle.spaces.specs.Tabled.{TablesOf}
 use Rattle.spaces.proofs.Held.{tables-held}
 use Rattle.spaces.proofs.Found.{spaces-of-task}
+
+-- tables that are filled from a task's lists are the task's
+module _ (task : Task) where
+  pub tables-are : {count : ℕ} {preconditions deletes adds p d a : List ℕ}
+      → ParameterTables (propertiesFrom 0 (aritiesOf (task .predicates))) (schemasOf (aritiesOf (task .predicates)) (task .schemas)) count
+      preconditions deletes adds p d a
+      → ParameterTables (properties (taskOf task)) (taskOf task .schemas) count preconditions deletes adds p d a
+  unfolding taskOf properties
+  tables-are written = written
+
+  pub bags-are : (counts : List ℕ) {c : List ℕ}
+      → c ≡ rowsBefore (bagsOver (propertiesFrom 0 (aritiesOf (task .predicates))) (factsOf (aritiesOf (task .predicates)) (task .facts)) (task .objects))
+      counts
+      → c ≡ rowsBefore (objectBags (taskOf task)) counts
+  unfolding taskOf properties objectBags
+  bags-are counts bags = bags
 
 -- the properties are counted
 pub properties-counted : (task : Task) {r : Numbering} → Numbers (aritiesOf (task .predicates)) r → r .count ≡ length (properties (taskOf task))
@@ -25,7 +41,7 @@ unfolding taskOf properties
 properties-counted task n = n .counted
 
 module _ (task : Task) (r : Represented task (taskOf task)) {count size : ℕ} {preconditions deletes adds p d a c : List ℕ} (counts : List ℕ)
-    (written : ParameterTables (taskOf task) count preconditions deletes adds p d a) (bags : c ≡ rowsBefore (objectBags (taskOf task)) counts)
+    (written : ParameterTables (properties (taskOf task)) (taskOf task .schemas) count preconditions deletes adds p d a) (bags : c ≡ rowsBefore (objectBags (taskOf task)) counts)
     (counted : size ≡ length (properties (taskOf task))) where
   abbrev t : model.Task
   t = taskOf task
@@ -38,7 +54,7 @@ module _ (task : Task) (r : Represented task (taskOf task)) {count size : ℕ} {
   unfolding taskOf
   sizes-few = (omega (arith, counted, few), checked t (r .checked) .few-objects)
 
-  pub room-for : RoomForBags (parametersIn t) preconditions deletes adds → length p ≡ length preconditions → length d ≡ length deletes
+  pub room-for : RoomForBags (parametersIn (t .schemas)) preconditions deletes adds → length p ≡ length preconditions → length d ≡ length deletes
       → length a ≡ length adds → RoomForBags count p d a
   room-for room k l m = record {
     preconditions-room = omega (arith, room .preconditions-room, written .counted);

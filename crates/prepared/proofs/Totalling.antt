@@ -57,5 +57,5 @@ module _ {t : Task} {r : Prepared} {p d a c : List ℕ} (given : Given t r p d a
   -- the table of preconditions begins with the task's
   pub preconditions-given : PreconditionRows t p
   preconditions-given =
-      preconditions-held (properties-few t (given .checked)) (given .prepared .tables)
+      preconditions-held t (properties-few t (given .checked)) (given .prepared .tables)
       (omega (arith, given .room .preconditions-room, given .prepared .tables .counted))

@@ -16,7 +16,7 @@ use Rattle.prepared.specs.declared.Prepared.{Prepared}
 
 -- as many rows as the tables of a task's parameters, or of the moves of one of its spaces, take at most
 unfoldable pub rowsAtMost : Task → ℕ
-rowsAtMost t = parametersIn t + length (properties t)
+rowsAtMost t = parametersIn (t .schemas) + length (properties t)
 
 -- Tables that are lent for the analysis of spaces have room for so many moves, and for 64 conditions.
 pub record RoomForMoves (rows : ℕ) (starts finishes conditions : List ℕ) : Type 0 where
@@ -26,7 +26,7 @@ pub record RoomForMoves (rows : ℕ) (starts finishes conditions : List ℕ) : T
 
 -- The answer of `prepare` for a task, and every number of the four tables, before and after.
 pub record PreparedOf (t : Task) (r : Prepared) (preconditions deletes adds counts p d a c : List ℕ) : Type 0 where
-  pub tables : ParameterTables t (r .parameters) preconditions deletes adds p d a
+  pub tables : ParameterTables (properties t) (t .schemas) (r .parameters) preconditions deletes adds p d a
   pub counts-are : c ≡ rowsBefore (objectBags t) counts
   pub properties-counted : r .properties ≡ length (properties t)
   pub arities-are : r .arities ≡ padded 60 0 (propertyArities (t .arities))

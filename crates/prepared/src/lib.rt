@@ -1,6 +1,8 @@
 // A task with its tables filled, and each of its sections as text: those of its spaces, and the closing one behind them.
 use analysis::Analysed;
 use analysis::analyse;
+use card::ArityList;
+use card::SchemaList;
 use card::Task;
 use properties::arities::property_arities;
 use properties::numbered;
@@ -16,9 +18,11 @@ use totals::enter_totals;
 ghost use mathlib.Core.Path.{_≡_};
 ghost use Prim.Native.Nat.{_≤_};
 ghost use lib.ListN.{length};
+ghost use Rattle.model.specs.Card as model;
 ghost use Rattle.model.specs.Calls.{outputBytes};
 ghost use Rattle.model.specs.Text.{text};
-ghost use Rattle.card.specs.Represents.{taskOf, Represented};
+ghost use Rattle.card.specs.Represents.{aritiesOf, schemasOf, taskOf, Represented};
+ghost use Rattle.properties.specs.Represented.{AritiesRight, SchemasSmall};
 ghost use Rattle.properties.specs.Parameters.{parametersIn, RoomForBags};
 ghost use Rattle.text.specs.Written.{Writes};
 ghost use Rattle.prepared.specs.Prepared.{rowsAtMost, PreparedOf};
@@ -33,14 +37,20 @@ pub struct Prepared {
     pub spaces: Spaces,
 }
 
-// How many rows the tables of a task's parameters, and of the moves of one of its spaces, take at most.
-pub fn rows_at_most(task: Task) -> usize
-    requires { ⌜ Represented task (taskOf task) ⌝ }
-    ensures { λ r. ⌜ r ≡ rowsAtMost (taskOf task) ⌝ }
+// How many rows the tables of a task's parameters, and of the moves of one of its spaces, take at most: by its predicates and schemas.
+pub fn rows_at_most(predicates: ArityList, schemas: SchemaList) -> usize
+    requires { ⌜ AritiesRight predicates ⌝ }
+    requires { ⌜ SchemasSmall schemas ⌝ }
+    ensures { λ r. ⌜
+        ((t : model.Task)
+        → t .arities ≡ aritiesOf predicates
+        → t .schemas ≡ schemasOf (aritiesOf predicates) schemas
+        → r ≡ rowsAtMost t)
+        ⌝ }
 {
-    let numbers = numbered(task.predicates);
+    let numbers = numbered(predicates);
     let properties = numbers.count;
-    let parameters = parameters_of(task);
+    let parameters = parameters_of(schemas);
     parameters + properties
 }
 
@@ -53,7 +63,7 @@ pub fn prepare(
     counts: &mut [u16],
 ) -> Prepared
     requires { ⌜ Represented task (taskOf task) ⌝ }
-    requires { ⌜ RoomForBags (parametersIn (taskOf task)) (now preconditions) (now deletes) (now adds) ⌝ }
+    requires { ⌜ RoomForBags (parametersIn (taskOf task .schemas)) (now preconditions) (now deletes) (now adds) ⌝ }
     requires { ⌜ 3840 ≤ length (now counts) ⌝ }
     ensures { λ r. ⌜
         PreparedOf
@@ -69,8 +79,8 @@ pub fn prepare(
         (now (counts .exit))
         ⌝ }
 {
-    let parameters = parameter_bags(task, preconditions, deletes, adds);
-    object_bags(task, counts);
+    let parameters = parameter_bags(task.predicates, task.schemas, preconditions, deletes, adds);
+    object_bags(task.predicates, task.objects, task.facts, counts);
     let numbers = numbered(task.predicates);
     let properties = numbers.count;
     let arities = property_arities(task.predicates);

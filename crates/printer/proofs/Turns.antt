@@ -12,6 +12,7 @@ use Rattle.model.specs.Card.{Task}
 use Rattle.model.specs.Calls.{output}
 use Rattle.model.specs.Lines.{Line, analysis, closingLines, sections}
 use Rattle.model.specs.Text.{text}
+use Rattle.model.specs.Transitions.{properties}
 use Rattle.model.proofs.RuleCount.{properties-few}
 use Rattle.properties.specs.Parameters.{ParameterTables}
 use Rattle.properties.specs.Tables.{stride}
@@ -142,6 +143,6 @@ cut-off e = record { whole = λ w. never (sym w ∙ e) }
 pub filled : {t : Task} {r : Prepared} {preconditions deletes adds counts p d a c : List ℕ} → PreparedOf t r preconditions deletes adds counts p d a c
     → Filled t preconditions deletes adds counts p d a c
 filled {t} {preconditions = preconditions} {deletes} {adds} {p = p} {d} {a} of = record {
-  parameters-are = subst (λ (n : ℕ). ParameterTables t n preconditions deletes adds p d a) (of .tables .counted) (of .tables);
+  parameters-are = subst (λ (n : ℕ). ParameterTables (properties t) (t .schemas) n preconditions deletes adds p d a) (of .tables .counted) (of .tables);
   counts-are = of .counts-are;
 }

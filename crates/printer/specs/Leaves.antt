@@ -9,6 +9,7 @@ use Rattle.model.specs.Card.{Task, decode}
 use Rattle.model.specs.Lines.{Line, analysis, sections}
 use Rattle.model.specs.Text.{text}
 use Rattle.model.specs.Calls.{output}
+use Rattle.model.specs.Transitions.{properties}
 use Rattle.properties.specs.Tables.{rowsBefore}
 use Rattle.properties.specs.Represented.{objectBags}
 use Rattle.properties.specs.Parameters.{parametersIn, ParameterTables}
@@ -61,5 +62,5 @@ pub record SpacePrinted (number : ℕ) (p : Prepared) (deletes adds counts fixed
 
 -- The tables of a task were filled: every number of them, before and after.
 pub record Filled (t : Task) (preconditions deletes adds counts p d a c : List ℕ) : Type 0 where
-  pub parameters-are : ParameterTables t (parametersIn t) preconditions deletes adds p d a
+  pub parameters-are : ParameterTables (properties t) (t .schemas) (parametersIn (t .schemas)) preconditions deletes adds p d a
   pub counts-are : c ≡ rowsBefore (objectBags t) counts

@@ -167,7 +167,7 @@ fn print_with(
 ) -> Printing
     requires { ⌜ Represented task (taskOf task) ⌝ }
     requires { ⌜ outputBytes ≤ length (now out) ⌝ }
-    requires { ⌜ RoomForBags (parametersIn (taskOf task)) (now preconditions) (now deletes) (now adds) ⌝ }
+    requires { ⌜ RoomForBags (parametersIn (taskOf task .schemas)) (now preconditions) (now deletes) (now adds) ⌝ }
     requires { ⌜ 3840 ≤ length (now counts) ⌝ }
     requires { ⌜ RoomForMoves (rowsAtMost (taskOf task)) (now starts) (now finishes) (now conditions) ⌝ }
     ensures { λ _. ⌜
@@ -260,7 +260,7 @@ pub fn print_listing(task: Task, out: &mut [u8; OUTPUT_BYTES]) -> Printing
     ensures { λ r. ⌜ Reaches (sections (taskOf task)) r ⌝ }
     ensures { λ r. ⌜ now (out .exit) ≡ inTurn (take (r .sections) (sections (taskOf task))) (now (out .entry)) ⌝ }
 {
-    if rows_at_most(task) <= 32 {
+    if rows_at_most(task.predicates, task.schemas) <= 32 {
         return print_small(task, out);
     }
     print_large(task, out)

@@ -8,5 +8,6 @@ pub mod TaskParts
 pub mod Entering
 pub mod AtomByAtom
 pub mod ParameterRows
+pub mod SchemaLists
 pub mod ArityTable
 pub mod ParameterRules

@@ -3,7 +3,7 @@ use Prim.Native.Nat.{ℕ, suc, _+_, _-_, _*_, _≤_, _<_}
 use native.Mathlib.Numerals.{add-one}
 use native.Mathlib.Omega.{arith}
 use mathlib.Core.Path.{_≡_, refl, sym, ap, _∙_, subst}
-use mathlib.Core.List.{List, [], _∷_, _++_, map, flatMap, append-assoc, append-nil, Memᴰ·of-map}
+use mathlib.Core.List.{List, [], _∷_, _++_, map, flatMap, append-assoc, append-nil, List·Memᴰ, Memᴰ·of-map}
 use lib.ListN.{length, getD, take, drop, length-map, length-append, length-take, length-drop, take-append-drop, List·getD-append}
 use lib.Seq.{take-all, take-at, drop-at, drop-drop, drop-length, drop-cons, take-suc, getD-append-add}
 use Rattle.laws.specs.Lists.{sum, upTo}
@@ -19,7 +19,7 @@ use Rattle.model.specs.Transitions.{Property, bagOf}
 use Rattle.model.proofs.Checked.{checked}
 use Rattle.model.proofs.Grouping.{length-bagOf}
 use Rattle.properties.specs.Tables.{stride, rows, rowsBefore}
-use Rattle.properties.specs.Parameters.{mostParameters, parametersIn, bagsOver}
+use Rattle.properties.specs.Parameters.{mostParameters, parametersIn, bagsOver, parameterBags}
 use Rattle.properties.specs.Entered.{rowsFrom, SchemaEntered}
 use Rattle.properties.proofs.Rows.{Narrow, length-rows, rows-join}
 use Rattle.properties.proofs.RowTables.{Sized, sized-narrow, rows-before-none, length-rows-before}
@@ -61,15 +61,9 @@ rows-after xs ys before narrow =
 
 -- ---- the parameters of the schemas passed
 
--- how many parameters each of some schemas has, how many they have together, and their bags over one list of each schema
+-- how many parameters each of some schemas has
 unfoldable pub sizesOf : List Schema → List ℕ
 sizesOf schemas = map (λ s. s .parameters) schemas
-
-unfoldable pub together : List Schema → ℕ
-together schemas = sum (sizesOf schemas)
-
-unfoldable pub bagsOf : List Property → (Schema → List Atom) → List Schema → List Bag
-bagsOf cs list schemas = flatMap (λ s. bagsOver cs (list s) (s .parameters)) schemas
 
 pub length-sizes : (schemas : List Schema) → length (sizesOf schemas) ≡ length schemas
 unfolding sizesOf
@@ -87,14 +81,14 @@ pub length-bags-over : (cs : List Property) (atoms : List Atom) (parameters : �
 unfolding bagsOver
 length-bags-over cs atoms parameters = length-map (upTo parameters) (bagOf cs atoms) ∙ length-upTo parameters
 
-pub length-bags : (cs : List Property) (list : Schema → List Atom) (schemas : List Schema) → length (bagsOf cs list schemas) ≡ together schemas
-unfolding bagsOf together sizesOf
+pub length-bags : (cs : List Property) (list : Schema → List Atom) (schemas : List Schema) → length (parameterBags cs list schemas) ≡ parametersIn schemas
+unfolding parameterBags parametersIn sizesOf
 length-bags cs list schemas =
     length-flatMap (λ s. bagsOver cs (list s) (s .parameters)) schemas
     ∙ (λ i. sum (map (λ s. length-bags-over cs (list s) (s .parameters) i) schemas))
 
-pub bags-sized : (cs : List Property) (list : Schema → List Atom) (schemas : List Schema) → Sized (length cs) (bagsOf cs list schemas)
-unfolding bagsOf bagsOver
+pub bags-sized : (cs : List Property) (list : Schema → List Atom) (schemas : List Schema) → Sized (length cs) (parameterBags cs list schemas)
+unfolding parameterBags bagsOver
 bags-sized cs list schemas b m =
     let s = flatMap-at (λ s. bagsOver cs (list s) (s .parameters)) schemas b m in
     let k = Memᴰ·of-map (bagOf cs (list (s .0))) (upTo (s .0 .parameters)) (s .2) in
@@ -103,24 +97,24 @@ bags-sized cs list schemas b m =
 -- the bag of parameter k of schema i stands behind those of the schemas before it
 pub bag-of-parameter : (cs : List Property) (list : Schema → List Atom) (schemas : List Schema) (i k : ℕ) (s : Schema) → i < length schemas
     → k < getD schemas i s .parameters
-    → getD (bagsOf cs list schemas) (sum (take i (sizesOf schemas)) + k) [] ≡ bagOf cs (list (getD schemas i s)) k
-unfolding bagsOf flatMap
+    → getD (parameterBags cs list schemas) (sum (take i (sizesOf schemas)) + k) [] ≡ bagOf cs (list (getD schemas i s)) k
+unfolding parameterBags flatMap
 bag-of-parameter cs list schemas i k s h l =
     let here = getD schemas i s in
     let next = bagsOver cs (list here) (here .parameters) in
-    let front = bagsOf cs list (take i schemas) in
-    let back = bagsOf cs list (drop (suc i) schemas) in
-    ap (λ (n : ℕ). getD (bagsOf cs list schemas) (n + k) []) (sym (passed i))
-    ∙ ap (λ (l : List Schema). getD (bagsOf cs list l) (length front + k) []) (sym (take-append-drop i schemas))
-    ∙ ap (λ (l : List Schema). getD (bagsOf cs list (take i schemas ++ l)) (length front + k) []) (drop-cons schemas i s h)
+    let front = parameterBags cs list (take i schemas) in
+    let back = parameterBags cs list (drop (suc i) schemas) in
+    ap (λ (n : ℕ). getD (parameterBags cs list schemas) (n + k) []) (sym (passed i))
+    ∙ ap (λ (l : List Schema). getD (parameterBags cs list l) (length front + k) []) (sym (take-append-drop i schemas))
+    ∙ ap (λ (l : List Schema). getD (parameterBags cs list (take i schemas ++ l)) (length front + k) []) (drop-cons schemas i s h)
     ∙ ap (λ (l : List Bag). getD l (length front + k) [])
     (flatMap-append (λ q. bagsOver cs (list q) (q .parameters)) (take i schemas) (here ∷ drop (suc i) schemas))
     ∙ getD-append-add front (next ++ back) k []
     ∙ List·getD-append next back [] k (omega (arith, length-bags-over cs (list here) (here .parameters)))
     ∙ place
   where
-    passed : (i : ℕ) → length (bagsOf cs list (take i schemas)) ≡ sum (take i (sizesOf schemas))
-    passed i = unfold together sizesOf in length-bags cs list (take i schemas) ∙ ap sum (sym (take-map i (λ q. q .parameters) schemas))
+    passed : (i : ℕ) → length (parameterBags cs list (take i schemas)) ≡ sum (take i (sizesOf schemas))
+    passed i = unfold parametersIn sizesOf in length-bags cs list (take i schemas) ∙ ap sum (sym (take-map i (λ q. q .parameters) schemas))
 
     place : getD (bagsOver cs (list (getD schemas i s)) (getD schemas i s .parameters)) k [] ≡ bagOf cs (list (getD schemas i s)) k
     place =
@@ -136,11 +130,13 @@ as-schema {arities} {at = at} {preconditions} {deletes} {adds} {p} {d} {a} e r =
     subst (λ (x : Schema). SchemaEntered arities x at preconditions deletes adds p d a) e r
 
 -- at most 192
-pub rows-few : (t : Task) → checkTask t ≡ accepted tt → parametersIn t ≤ mostParameters
+pub parameters-few : (schemas : List Schema) → length schemas ≤ 32 → ((s : Schema) → List·Memᴰ s schemas → s .parameters ≤ 6)
+    → parametersIn schemas ≤ mostParameters
 unfolding parametersIn
-rows-few t ok =
-    let c = checked t ok in
-    omega (arith, sum-at-most (λ s. s .parameters) 6 (t .schemas) (λ s m. c .schemas-right s m .few-parameters), c .few-schemas)
+parameters-few schemas few few-parameters = omega (arith, sum-at-most (λ s. s .parameters) 6 schemas few-parameters)
+
+pub rows-few : (t : Task) → checkTask t ≡ accepted tt → parametersIn (t .schemas) ≤ mostParameters
+rows-few t ok = let c = checked t ok in parameters-few (t .schemas) (c .few-schemas) (λ s m. c .schemas-right s m .few-parameters)
 
 -- What a loop over sizes has before place i: the sum of those passed.
 pub record Counted (sizes : List ℕ) (i count : ℕ) : Type 0 where
@@ -173,47 +169,47 @@ module _ (sizes : List ℕ) where
 -- What the loop is given: at most 60 properties, and room for the bags of all schemas.
 pub record BagsGiven (schemas : List Schema) (cs : List Property) (list : Schema → List Atom) (before : List ℕ) : Type 0 where
   pub few : length cs ≤ stride
-  pub room : stride * together schemas ≤ length before
+  pub room : stride * parametersIn schemas ≤ length before
 
 -- What it has before schema i: the bags of the schemas passed.
 pub record BagsPassed (schemas : List Schema) (cs : List Property) (list : Schema → List Atom) (i : ℕ) (before table : List ℕ) : Type 0 where
-  pub is : table ≡ rowsBefore (bagsOf cs list (take i schemas)) before
+  pub is : table ≡ rowsBefore (parameterBags cs list (take i schemas)) before
 
 module _ {schemas : List Schema} {cs : List Property} {list : Schema → List Atom} {before : List ℕ} (given : BagsGiven schemas cs list before) where
   pub bags-start : BagsPassed schemas cs list 0 before before
-  unfolding bagsOf flatMap
+  unfolding parameterBags flatMap
   bags-start = record { is = rows-before-none before }
 
-  narrow : (i : ℕ) → Narrow (bagsOf cs list (take i schemas))
-  narrow i = sized-narrow (length cs) (bagsOf cs list (take i schemas)) (given .few) (bags-sized cs list (take i schemas))
+  narrow : (i : ℕ) → Narrow (parameterBags cs list (take i schemas))
+  narrow i = sized-narrow (length cs) (parameterBags cs list (take i schemas)) (given .few) (bags-sized cs list (take i schemas))
 
-  passed : (i : ℕ) → length (bagsOf cs list (take i schemas)) ≡ sum (take i (sizesOf schemas))
-  unfolding together sizesOf
+  passed : (i : ℕ) → length (parameterBags cs list (take i schemas)) ≡ sum (take i (sizesOf schemas))
+  unfolding parametersIn sizesOf
   passed i = length-bags cs list (take i schemas) ∙ ap sum (sym (take-map i (λ s. s .parameters) schemas))
 
   module _ {i : ℕ} {table : List ℕ} (so-far : BagsPassed schemas cs list i before table) where
     -- the table keeps its length
     pub bags-kept : length table ≡ length before
-    unfolding together
+    unfolding parametersIn sizesOf
     bags-kept =
         ap length (so-far .is)
-        ∙ length-rows-before (bagsOf cs list (take i schemas)) before (narrow i)
+        ∙ length-rows-before (parameterBags cs list (take i schemas)) before (narrow i)
         (omega (arith, given .room, passed i, sum-take-all i (sizesOf schemas)))
 
     module _ {count : ℕ} (counted : Counted (sizesOf schemas) i count) (s : Schema) (h : i < length schemas) where
       -- there is room for the next schema's bags
       pub bags-room : stride * count + stride * getD schemas i s .parameters ≤ length table
-      unfolding together
+      unfolding parametersIn sizesOf
       bags-room = omega (arith, bags-kept, given .room, count-within (sizesOf schemas) counted (sizes-long schemas h) (size-at schemas s h))
 
       -- and they are written
       pub bags-next : {later : List ℕ}
           → later ≡ rowsFrom (stride * count) (bagsOver cs (list (getD schemas i s)) (getD schemas i s .parameters)) table
           → BagsPassed schemas cs list (i + 1) before later
-      unfolding bagsOf flatMap
+      unfolding parameterBags flatMap
       bags-next {later} e =
           let next = bagsOver cs (list (getD schemas i s)) (getD schemas i s .parameters) in
-          let front = bagsOf cs list (take i schemas) in
+          let front = parameterBags cs list (take i schemas) in
           record {
             is =
                 e
@@ -223,9 +219,9 @@ module _ {schemas : List Schema} {cs : List Property} {list : Schema → List At
                 ∙ ap (λ (l : List Bag). rowsBefore l before)
                 (ap (λ (l : List Bag). front ++ l) (sym (append-nil next))
                 ∙ sym (flatMap-append (λ q. bagsOver cs (list q) (q .parameters)) (take i schemas) (getD schemas i s ∷ []))
-                ∙ ap (bagsOf cs list) (sym (ap (λ (n : ℕ). take n schemas) (add-one i) ∙ take-suc schemas i s h)));
+                ∙ ap (parameterBags cs list) (sym (ap (λ (n : ℕ). take n schemas) (add-one i) ∙ take-suc schemas i s h)));
           }
 
     -- after the last schema
-    pub bags-end : length schemas ≤ i → table ≡ rowsBefore (bagsOf cs list schemas) before
-    bags-end h = so-far .is ∙ ap (λ (l : List Schema). rowsBefore (bagsOf cs list l) before) (take-all i schemas h)
+    pub bags-end : length schemas ≤ i → table ≡ rowsBefore (parameterBags cs list schemas) before
+    bags-end h = so-far .is ∙ ap (λ (l : List Schema). rowsBefore (parameterBags cs list l) before) (take-all i schemas h)

@@ -20,7 +20,7 @@ use Rattle.model.proofs.RuleCount.{AtMost, bag-at-most}
 use Rattle.properties.specs.Tables.{stride, rowsBefore, bagAt}
 use Rattle.properties.specs.Parameters.{parametersIn, bagsOver, parameterBags, ParameterTables, rulesIn}
 use Rattle.properties.proofs.RowTables.{bag-held}
-use Rattle.properties.proofs.ParameterRows.{sizesOf, together, bagsOf, length-bags, bags-sized}
+use Rattle.properties.proofs.ParameterRows.{length-bags, bags-sized}
 
 -- A parameter of a task: its schema, and its place there.
 pub record Parameter : Type 0 where
@@ -79,33 +79,34 @@ module _ (t : Task) (narrow : length (properties t) ≤ stride) where
   parameterAt i = getD (parametersOf (t .schemas)) i noParameter
 
   bags-are : (list : Schema → List Atom)
-      → parameterBags list t ≡ map (λ x. bagOf (properties t) (list (x .schema)) (x .index)) (parametersOf (t .schemas))
+      → parameterBags (properties t) list (t .schemas) ≡ map (λ x. bagOf (properties t) (list (x .schema)) (x .index)) (parametersOf (t .schemas))
   unfolding parameterBags bagsOver
   bags-are list = one-by-one (λ s k. bagOf (properties t) (list s) k) (t .schemas)
 
-  many : length (parametersOf (t .schemas)) ≡ parametersIn t
-  unfolding parametersIn together sizesOf bagsOf parameterBags
+  many : length (parametersOf (t .schemas)) ≡ parametersIn (t .schemas)
   many =
       sym (ap length (bags-are (λ s. s .adds)) ∙ length-map (parametersOf (t .schemas)) (λ x. bagOf (properties t) (x .schema .adds) (x .index)))
       ∙ length-bags (properties t) (λ s. s .adds) (t .schemas)
 
   -- the bag in a row of a list's table
-  row-of : (list : Schema → List Atom) (before : List ℕ) {table : List ℕ} → table ≡ rowsBefore (parameterBags list t) before → {i : ℕ} → i < parametersIn t
+  row-of : (list : Schema → List Atom) (before : List ℕ) {table : List ℕ} → table ≡ rowsBefore (parameterBags (properties t) list (t .schemas)) before
+      → {i : ℕ} → i < parametersIn (t .schemas)
       → bagAt (length (properties t)) table i ≡ bagOf (properties t) (list (parameterAt i .schema)) (parameterAt i .index)
-  unfolding parameterAt bagsOf parameterBags
+  unfolding parameterAt
   row-of list before {table} e {i} h =
       let inside : i < length (parametersOf (t .schemas)) = omega (arith, many) in
       ap (λ (l : List ℕ). bagAt (length (properties t)) l i) e
-      ∙ bag-held (length (properties t)) narrow (parameterBags list t) (bags-sized (properties t) list (t .schemas)) before i
+      ∙ bag-held (length (properties t)) narrow (parameterBags (properties t) list (t .schemas)) (bags-sized (properties t) list (t .schemas)) before i
       (subst (λ (l : List Bag). i < length l) (sym (bags-are list))
       (omega (arith, length-map (parametersOf (t .schemas)) (λ x. bagOf (properties t) (list (x .schema)) (x .index)))))
       ∙ ap (λ (l : List Bag). getD l i []) (bags-are list)
       ∙ getD-map (λ x. bagOf (properties t) (list (x .schema)) (x .index)) (parametersOf (t .schemas)) i noParameter [] inside
 
-  module _ {count : ℕ} {preconditions deletes adds p d a : List ℕ} (written : ParameterTables t count preconditions deletes adds p d a) where
+  module _ {count : ℕ} {preconditions deletes adds p d a : List ℕ}
+      (written : ParameterTables (properties t) (t .schemas) count preconditions deletes adds p d a) where
     -- the three rows of a parameter
     module _ {i : ℕ} (h : i < count) where
-      inside : i < parametersIn t
+      inside : i < parametersIn (t .schemas)
       inside = subst (λ (n : ℕ). i < n) (written .counted) h
 
       pub preconditions-row : bagAt (length (properties t)) p i ≡ bagOf (properties t) (parameterAt i .schema .preconditions) (parameterAt i .index)

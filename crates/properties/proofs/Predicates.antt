@@ -15,7 +15,8 @@ use Rattle.model.specs.Card as model
 use Rattle.model.specs.Card.{between}
 use Rattle.model.specs.Writer.{known}
 use Rattle.model.proofs.Checked.{between-low, between-high}
-use Rattle.model.proofs.RuleCount.{sum-all}
+use Rattle.model.specs.Transitions.{propertiesFrom}
+use Rattle.model.proofs.RuleCount.{sum-all, length-properties}
 use Rattle.card.specs.declared.Atom.{Atom}
 use Rattle.card.specs.declared.ArityList.{ArityList}
 use Rattle.card.specs.Represents.{blankAtom, entries, aritiesOf, atomOf}
@@ -35,6 +36,9 @@ pub record Placed (predicates : ArityList) (firsts : List ℕ) (p : ℕ) : Type 
 pub sum-arities : (predicates : ArityList) → AritiesRight predicates → sum (aritiesOf predicates) ≤ 60
 sum-arities predicates right =
     omega (arith, sum-all 3 (aritiesOf predicates) (right .in-range), length-arities predicates, right .few)
+
+pub few-properties : (predicates : ArityList) → AritiesRight predicates → length (propertiesFrom 0 (aritiesOf predicates)) ≤ 60
+few-properties predicates right = omega (arith, sum-arities predicates right, length-properties 0 (aritiesOf predicates))
 
 module _ (predicates : ArityList) (firsts : List ℕ) (right : AritiesRight predicates)
     (numbered : firsts ≡ padded 20 0 (firstProperties (aritiesOf predicates))) where

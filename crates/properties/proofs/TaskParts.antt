@@ -12,12 +12,13 @@ use Rattle.model.specs.Writer.{known}
 use Rattle.model.proofs.Checked.{CheckedSchema, CheckedList}
 use Rattle.card.specs.declared.Schema.{Schema}
 use Rattle.card.specs.declared.AtomList.{AtomList}
+use Rattle.card.specs.declared.FactList.{FactList}
 use Rattle.card.specs.declared.Task.{Task}
 use Rattle.card.specs.Represents.{blankAtom, atomOf, Represented}
 use Rattle.card.specs.Represents.{taskOf, aritiesOf, schemaOf, atomsOf, factsOf}
 use Rattle.card.proofs.Entries.{schemas-within, length-atoms}
-use Rattle.card.proofs.Counts.{right, predicates-few, schema-count, schemas-inside}
-use Rattle.properties.specs.Represented.{AritiesRight, AtomsRight, SchemaRight}
+use Rattle.card.proofs.Counts.{right, predicates-few, objects-few, schema-count, schemas-few, schemas-inside, facts-few}
+use Rattle.properties.specs.Represented.{AritiesRight, AtomsRight, SchemaRight, SchemasRight, FactsRight}
 use Rattle.properties.proofs.Predicates.{atom-known}
 
 -- a list of atoms that passed
@@ -63,11 +64,17 @@ module _ (task : Task) (r : Represented task (taskOf task)) where
           adds-right = atoms-right arities _ _ (s .adds) (passed .adds-right);
         }
 
--- the facts
+-- the lists of schemas and of facts
 module _ (task : Task) (r : Represented task (taskOf task)) where
-  -- each is a known atom
-  pub fact-known : (i : ℕ) → i < task .facts .count
-      → known (aritiesOf (task .predicates)) (task .objects) (atomOf (aritiesOf (task .predicates)) (getD (task .facts .facts) i blankAtom)) ≡ true
-  unfolding taskOf factsOf
-  fact-known =
-      atom-known (aritiesOf (task .predicates)) (task .facts .facts) (task .facts .count) (task .objects) (right task r .facts-right .facts-known)
+  pub schemas-right : SchemasRight (aritiesOf (task .predicates)) (task .schemas)
+  schemas-right = record { few = schemas-few task r; each-right = schema-right task r }
+
+  pub facts-right : FactsRight (aritiesOf (task .predicates)) (task .objects) (task .facts)
+  unfolding taskOf
+  facts-right = record { few-objects = objects-few task r; few = facts-few task r; facts-known = right task r .facts-right .facts-known }
+
+-- each fact is a known atom
+pub fact-known : {arities : List ℕ} {objects : ℕ} {l : FactList} → FactsRight arities objects l → (i : ℕ) → i < l .count
+    → known arities objects (atomOf arities (getD (l .facts) i blankAtom)) ≡ true
+unfolding factsOf
+fact-known {arities} {objects} {l} facts = atom-known arities (l .facts) (l .count) objects (facts .facts-known)

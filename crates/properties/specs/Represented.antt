@@ -1,24 +1,27 @@
 -- The parts of a task as the code has it: its properties numbered, its objects' bags, and what is asked of its lists.
-use Prim.Native.Nat.{ℕ, _≤_}
+use Prim.Native.Nat.{ℕ, _≤_, _<_}
 use mathlib.Core.Path.{_≡_}
 use mathlib.Core.Bool.{true}
 use mathlib.Core.List.{List, map, flatMap}
-use lib.ListN.{length, take, replicate}
+use lib.ListN.{length, getD, take, replicate}
 use Rattle.laws.specs.Lists.{all, sum, upTo, padded}
 use Rattle.laws.specs.Bags.{Bag}
 use Rattle.model.specs.Card as model
 use Rattle.model.specs.Card.{between}
 use Rattle.model.specs.Writer.{known}
-use Rattle.model.specs.Transitions.{propertiesFrom, properties, bagOf}
+use Rattle.model.specs.Transitions.{propertiesFrom, properties}
 use Rattle.card.specs.declared.ArityList.{ArityList}
 use Rattle.card.specs.declared.AtomList.{AtomList}
 use Rattle.card.specs.declared.Schema.{Schema}
-use Rattle.card.specs.Represents.{aritiesOf, atomsOf}
+use Rattle.card.specs.declared.SchemaList.{SchemaList}
+use Rattle.card.specs.declared.FactList.{FactList}
+use Rattle.card.specs.Represents.{aritiesOf, atomsOf, factsOf}
 use Rattle.properties.specs.declared.Numbering.{Numbering}
+use Rattle.properties.specs.Parameters.{bagsOver}
 
 -- the bags of all objects over the task's facts, object by object
 unfoldable pub objectBags : model.Task → List Bag
-objectBags t = map (bagOf (properties t) (t .facts)) (upTo (t .objects))
+objectBags t = bagsOver (properties t) (t .facts) (t .objects)
 
 -- the number of each predicate's first property
 unfoldable pub firstProperties : List ℕ → List ℕ
@@ -50,3 +53,19 @@ pub record SchemaRight (arities : List ℕ) (s : Schema) : Type 0 where
   pub preconditions-right : AtomsRight arities (s .parameters) (s .preconditions)
   pub deletes-right : AtomsRight arities (s .parameters) (s .deletes)
   pub adds-right : AtomsRight arities (s .parameters) (s .adds)
+
+-- a list of schemas that have few parameters
+pub record SchemasSmall (l : SchemaList) : Type 0 where
+  pub few : l .count ≤ 32
+  pub few-parameters : (i : ℕ) (d : Schema) → i < l .count → getD (l .schemas) i d .parameters ≤ 6
+
+-- a list of schemas over such predicates
+pub record SchemasRight (arities : List ℕ) (l : SchemaList) : Type 0 where
+  pub few : l .count ≤ 32
+  pub each-right : (i : ℕ) (d : Schema) → i < l .count → SchemaRight arities (getD (l .schemas) i d)
+
+-- a list of facts of such predicates over so many objects
+pub record FactsRight (arities : List ℕ) (objects : ℕ) (l : FactList) : Type 0 where
+  pub few-objects : objects ≤ 64
+  pub few : l .count ≤ 512
+  pub facts-known : all (known arities objects) (factsOf arities l) ≡ true

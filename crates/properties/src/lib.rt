@@ -4,13 +4,15 @@ pub mod parameters;
 
 use card::ArityList;
 use card::Atom;
-use card::Task;
+use card::FactList;
 ghost use mathlib.Core.List.{[], _∷_, _++_};
 ghost use mathlib.Core.Path.{_≡_};
 ghost use Prim.Native.Nat.{_+_, _*_, _≤_, _<_};
 ghost use lib.ListN.{length, getD, take, drop, replicate};
-ghost use Rattle.card.specs.Represents.{aritiesOf, taskOf, Represented};
-ghost use Rattle.properties.specs.Represented.{objectBags, Numbers};
+ghost use Rattle.model.specs.Transitions.{propertiesFrom};
+ghost use Rattle.card.specs.Represents.{aritiesOf, factsOf};
+ghost use Rattle.properties.specs.Represented.{AritiesRight, FactsRight, Numbers};
+ghost use Rattle.properties.specs.Parameters.{bagsOver};
 ghost use Rattle.properties.specs.Tables.{rowsBefore};
 ghost use Rattle.properties.specs.Tallies.{raised, talliedRows, Talliable};
 
@@ -85,18 +87,19 @@ fn enter_fact(counts: &mut [u16], first: usize, fact: Atom, arity: usize)
     enter_argument(counts, fact.third, first + 2);
 }
 
-// The bags of all objects over the task's facts: one row an object.
-pub fn object_bags(task: Task, counts: &mut [u16])
-    requires { ⌜ Represented task (taskOf task) ⌝ }
+// The bags of all objects of a task over its facts: one row an object.
+pub fn object_bags(predicates: ArityList, objects: usize, facts: FactList, counts: &mut [u16])
+    requires { ⌜ AritiesRight predicates ⌝ }
+    requires { ⌜ FactsRight (aritiesOf predicates) objects facts ⌝ }
     requires { ⌜ 3840 ≤ length (now counts) ⌝ }
-    ensures { λ _. ⌜ now (counts .exit) ≡ rowsBefore (objectBags (taskOf task)) (now (counts .entry)) ⌝ }
+    ensures { λ _. ⌜
+        now (counts .exit)
+        ≡ rowsBefore (bagsOver (propertiesFrom 0 (aritiesOf predicates)) (factsOf (aritiesOf predicates) facts) objects) (now (counts .entry))
+        ⌝ }
 {
-    let predicates = task.predicates;
-    let facts = task.facts;
     let numbers = numbered(predicates);
     let firsts = numbers.firsts;
     let m = facts.count;
-    let objects = task.objects;
     clear_rows(counts, objects);
     let mut i: usize = 0;
     while i < m {

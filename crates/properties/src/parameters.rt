@@ -6,15 +6,15 @@ use card::ArityList;
 use card::Atom;
 use card::AtomList;
 use card::Schema;
-use card::Task;
-ghost use mathlib.Core.List.{[], _∷_, _++_};
+use card::SchemaList;
+ghost use mathlib.Core.List.{List, [], _∷_, _++_};
 ghost use mathlib.Core.Path.{_≡_};
-ghost use Prim.Native.Nat.{_+_, _*_, _≤_, _<_};
+ghost use Prim.Native.Nat.{ℕ, _+_, _*_, _≤_, _<_};
 ghost use lib.ListN.{length, getD, take, drop, replicate};
 ghost use Rattle.laws.specs.Lists.{padded};
 ghost use Rattle.model.specs.Transitions.{propertiesFrom};
-ghost use Rattle.card.specs.Represents.{aritiesOf, atomsOf, schemaOf, taskOf, Represented};
-ghost use Rattle.properties.specs.Represented.{AritiesRight, AtomsRight, SchemaRight, firstProperties};
+ghost use Rattle.card.specs.Represents.{aritiesOf, atomsOf, schemaOf, schemasOf};
+ghost use Rattle.properties.specs.Represented.{AritiesRight, AtomsRight, SchemaRight, SchemasRight, SchemasSmall, firstProperties};
 ghost use Rattle.properties.specs.Parameters.{parametersIn, bagsOver, RoomForBags, ParameterTables};
 ghost use Rattle.properties.specs.Entered.{RoomFrom, SchemaEntered};
 ghost use Rattle.properties.specs.Tables.{rowsBefore};
@@ -126,22 +126,24 @@ fn enter_schema(
     enter_list(&mut adds[at..], parameters, schema.adds, predicates, firsts);
 }
 
-// The bags of all parameters of a task, from the start of the three tables, and how many there are.
+// The bags of all parameters of a task's schemas, from the start of the three tables, and how many there are.
 pub fn parameter_bags(
-    task: Task,
+    predicates: ArityList,
+    schemas: SchemaList,
     preconditions: &mut [u8],
     deletes: &mut [u8],
     adds: &mut [u8],
 ) -> usize
-    requires { ⌜ Represented task (taskOf task) ⌝ }
-    requires { ⌜ RoomForBags (parametersIn (taskOf task)) (now preconditions) (now deletes) (now adds) ⌝ }
+    requires { ⌜ AritiesRight predicates ⌝ }
+    requires { ⌜ SchemasRight (aritiesOf predicates) schemas ⌝ }
+    requires { ⌜
+        RoomForBags (parametersIn (schemasOf (aritiesOf predicates) schemas)) (now preconditions) (now deletes) (now adds)
+        ⌝ }
     ensures { λ r. ⌜
-        ParameterTables (taskOf task) r (now (preconditions .entry)) (now (deletes .entry)) (now (adds .entry)) (now (preconditions .exit))
-        (now (deletes .exit)) (now (adds .exit))
+        ParameterTables (propertiesFrom 0 (aritiesOf predicates)) (schemasOf (aritiesOf predicates) schemas) r (now (preconditions .entry))
+        (now (deletes .entry)) (now (adds .entry)) (now (preconditions .exit)) (now (deletes .exit)) (now (adds .exit))
         ⌝ }
 {
-    let predicates = task.predicates;
-    let schemas = task.schemas;
     let numbers = numbered(predicates);
     let firsts = numbers.firsts;
     let m = schemas.count;
@@ -164,12 +166,11 @@ pub fn parameter_bags(
     count
 }
 
-// How many parameters the schemas of a task have together.
-pub fn parameters_of(task: Task) -> usize
-    requires { ⌜ Represented task (taskOf task) ⌝ }
-    ensures { λ r. ⌜ r ≡ parametersIn (taskOf task) ⌝ }
+// How many parameters the schemas of a task have together; the arities of its predicates play no part.
+pub fn parameters_of(schemas: SchemaList) -> usize
+    requires { ⌜ SchemasSmall schemas ⌝ }
+    ensures { λ r. ⌜ ((arities : List ℕ) → r ≡ parametersIn (schemasOf arities schemas)) ⌝ }
 {
-    let schemas = task.schemas;
     let m = schemas.count;
     let mut parameters: usize = 0;
     let mut i: usize = 0;

@@ -1,6 +1,8 @@
 -- A short buffer is refused; otherwise the section is listed with tables of the one size or the other.
 use Rattle.listing.proofs.Answering.{list-short}
+use native.Mathlib.Omega.{arith}
 use borrow.Author.Needs.{needs}
+use Rattle.prepared.proofs.Lending.{rows-asked, rows-counted}
 use Rattle.listing.proofs.list_task.Statement.{statement}
 use Rattle.listing.proofs.list_task.Tie as tie
 
@@ -8,10 +10,13 @@ returns : tie.Need-returns
 returns c = list-short _ _ _ (c .if1 .taken)
 
 rows-at-most-requires : tie.Need-rows-at-most-requires
-rows-at-most-requires c κs = search needs
+rows-at-most-requires c κs = rows-asked _ (c .before .before .pre)
 
 list-small-requires : tie.Need-list-small-requires
-list-small-requires c κs = search needs
+list-small-requires c κs =
+    let counted = c .before .before in
+    let s = counted .before .before .before in
+    (s .pre, (omega (arith, c .before .if2 .taken, rows-counted (s .args .task) (counted .rows-at-most .ensures)), search needs))
 
 same-length : tie.Need-same-length
 same-length c = search needs

@@ -3,8 +3,8 @@ use native.Mathlib.Omega.{arith}
 use mathlib.Core.Path.{sym, subst}
 use Rattle.card.specs.Represents.{taskOf}
 use Rattle.spaces.specs.SpaceTable.{SpacesOf}
-use Rattle.properties.proofs.TaskParts.{arities-right}
-use Rattle.prepared.proofs.Preparing.{properties-counted, sizes-few, room-for, spaces-are}
+use Rattle.properties.proofs.TaskParts.{arities-right, schemas-right, facts-right}
+use Rattle.prepared.proofs.Preparing.{tables-are, bags-are, properties-counted, sizes-few, room-for, spaces-are}
 use borrow.Author.Needs.{needs}
 use Rattle.prepared.proofs.prepare.Statement.{statement}
 use Rattle.prepared.proofs.prepare.Tie as tie
@@ -20,10 +20,15 @@ abbrev objects : tie.After-numbered → tie.After-object-bags
 objects c = c .before .before .before
 
 parameter-bags-requires : tie.Need-parameter-bags-requires
-parameter-bags-requires c κs = search needs
+unfolding taskOf
+parameter-bags-requires c κs =
+    let pre = c .before .before .before .before .before .before .before .pre in
+    (arities-right _ (pre .0), (schemas-right _ (pre .0), pre .1 .0))
 
 object-bags-requires : tie.Need-object-bags-requires
-object-bags-requires c κs = search needs
+object-bags-requires c κs =
+    let pre = entry (c .before .before .before .before .before .before .before) .pre in
+    (arities-right _ (pre .0), (facts-right _ (pre .0), search needs))
 
 numbered-requires : tie.Need-numbered-requires
 numbered-requires c κs = arities-right _ (entry (parameters (c .before .before)) .pre .0) .few
@@ -38,13 +43,15 @@ spaces-of-requires c κs =
     let called = parameters (objects numbered) in
     let written = called .parameter-bags in
     let pre = entry called .pre in
+    let tables = tables-are _ (written .ensures) in
+    let counts = bags-are _ _ (bags .ensures) in
     let counted = properties-counted _ (numbered .numbered .ensures) in
-    let few = sizes-few _ (pre .0) _ (written .ensures) (bags .ensures) counted in (
+    let few = sizes-few _ (pre .0) _ tables counts counted in (
       few,
       (
-        room-for _ (pre .0) _ (written .ensures) (bags .ensures) counted (pre .1 .0)
-            (written .kept .1 .0) (written .kept .1 .1 .0) (written .kept .1 .1 .1 .0),
-        omega (arith, pre .1 .1, bags .kept .1 .0, few .1),
+        room-for _ (pre .0) _ tables counts counted (pre .1 .0)
+            (written .kept .1 .1 .0) (written .kept .1 .1 .1 .0) (written .kept .1 .1 .1 .1 .0),
+        omega (arith, pre .1 .1, bags .kept .1 .1 .1 .0, few .1),
       ),
     )
 
@@ -68,17 +75,19 @@ returns c =
     let called = parameters (objects numbered) in
     let written = called .parameter-bags in
     let pre = entry called .pre in
+    let tables = tables-are _ (written .ensures) in
+    let counts = bags-are _ _ (bags .ensures) in
     let counted = properties-counted _ (numbered .numbered .ensures) in
-    let room = room-for _ (pre .0) _ (written .ensures) (bags .ensures) counted (pre .1 .0)
-    (written .kept .1 .0) (written .kept .1 .1 .0) (written .kept .1 .1 .1 .0) in
+    let room = room-for _ (pre .0) _ tables counts counted (pre .1 .0)
+    (written .kept .1 .1 .0) (written .kept .1 .1 .1 .0) (written .kept .1 .1 .1 .1 .0) in
     record {
-      tables = written .ensures;
-      counts-are = bags .ensures;
+      tables = tables;
+      counts-are = counts;
       properties-counted = counted;
       arities-are = c .before .before .before .before .before .property-arities .ensures;
       spaces-are =
           subst (SpacesOf (taskOf (entry called .args .task))) (sym (c .spaces-of .ensures))
-          (spaces-are _ (pre .0) _ (written .ensures) (bags .ensures) counted room);
+          (spaces-are _ (pre .0) _ tables counts counted room);
     }
 
 pub prepare-spec : {M : Type 1} → statement M

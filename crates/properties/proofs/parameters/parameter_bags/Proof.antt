@@ -6,17 +6,16 @@ use mathlib.Core.Path.{_≡_, sym, ap, _∙_, subst}
 use mathlib.Core.List.{List}
 use lib.ListN.{length, getD}
 use Rattle.model.specs.Card as model
-use Rattle.model.specs.Transitions.{properties, propertiesFrom}
-use Rattle.model.proofs.RuleCount.{properties-few}
+use Rattle.model.specs.Transitions.{propertiesFrom}
 use Rattle.card.specs.declared.ArityList.{ArityList}
 use Rattle.card.specs.declared.SchemaList.{SchemaList}
 use Rattle.card.specs.declared.Schema.{Schema}
-use Rattle.card.specs.Represents.{aritiesOf, schemaOf, schemasOf, taskOf}
-use Rattle.card.proofs.Counts.{schema-count, schemas-few}
-use Rattle.card.proofs.Entries.{noSchema}
-use Rattle.properties.specs.Parameters.{parametersIn, parameterBags}
-use Rattle.properties.proofs.TaskParts.{arities-right, schema-at, schema-right}
-use Rattle.properties.proofs.ParameterRows.{sizesOf, together, bagsOf, length-sizes, sizes-long, size-at, as-schema, rows-few}
+use Rattle.card.specs.Represents.{aritiesOf, schemaOf, schemasOf}
+use Rattle.card.proofs.Entries.{noSchema, length-schemas}
+use Rattle.properties.specs.Parameters.{parametersIn}
+use Rattle.properties.proofs.Predicates.{few-properties}
+use Rattle.properties.proofs.SchemaLists.{schema-read, small-few, right-small}
+use Rattle.properties.proofs.ParameterRows.{sizesOf, length-sizes, sizes-long, size-at, as-schema}
 use Rattle.properties.proofs.ParameterRows.{Counted, count-start, count-next, count-within, count-end}
 use Rattle.properties.proofs.ParameterRows.{BagsGiven, BagsPassed, bags-start, bags-kept, bags-room, bags-next, bags-end}
 use Rattle.properties.proofs.parameters.parameter_bags.Statement.{statement}
@@ -34,15 +33,15 @@ record Passed (predicates : ArityList) (schemas : SchemaList) (count i : ℕ) (p
   adds-passed : BagsPassed (those predicates schemas) (propertiesFrom 0 (aritiesOf predicates)) (λ s. s .adds) i adds a
 
 abbrev Inv-loop : tie.InvT-loop
-Inv-loop preconditions₀ deletes₀ adds₀ predicates schemas firsts m count₀ i₀ preconditions deletes adds count i =
+Inv-loop predicates preconditions₀ deletes₀ adds₀ schemas firsts m count₀ i₀ preconditions deletes adds count i =
     Passed predicates schemas count i preconditions₀ deletes₀ adds₀ preconditions deletes adds
 
 abbrev μ-loop : tie.MeasureT-loop
-μ-loop preconditions₀ deletes₀ adds₀ predicates schemas firsts m count₀ i₀ preconditions deletes adds count i = m - i
+μ-loop predicates preconditions₀ deletes₀ adds₀ schemas firsts m count₀ i₀ preconditions deletes adds count i = m - i
 
 -- what is given, from the numbering of the properties; this, from the loop on; and the loop, from the call in it
 abbrev entry : tie.After-numbered Inv-loop μ-loop → tie.Start Inv-loop μ-loop
-entry c = c .before .before .before .before .before .before
+entry c = c .before .before .before .before
 
 abbrev numbering : tie.At-loop Inv-loop μ-loop → tie.After-numbered Inv-loop μ-loop
 numbering c = c .before .before
@@ -56,69 +55,67 @@ in-loop c = c .before .before .before .before .before
 -- what the loop is given for a table
 abbrev Given : tie.Start Inv-loop μ-loop → (model.Schema → List model.Atom) → List ℕ → Type 0
 Given s list before =
-    BagsGiven (those (s .args .task .predicates) (s .args .task .schemas)) (propertiesFrom 0 (aritiesOf (s .args .task .predicates))) list before
+    BagsGiven (those (s .args .predicates) (s .args .t2)) (propertiesFrom 0 (aritiesOf (s .args .predicates))) list before
 
 given : (s : tie.Start Inv-loop μ-loop) (list : model.Schema → List model.Atom) (before : List ℕ)
-    → 60 * parametersIn (taskOf (s .args .task)) ≤ length before → Given s list before
-unfolding taskOf properties parametersIn together sizesOf
-given s list before room = record { few = properties-few (taskOf (s .args .task)) (s .pre .0 .checked); room = room }
+    → 60 * parametersIn (those (s .args .predicates) (s .args .t2)) ≤ length before → Given s list before
+given s list before room = record { few = few-properties (s .args .predicates) (s .pre .0); room = room }
 
 given-preconditions : (s : tie.Start Inv-loop μ-loop) → Given s (λ q. q .preconditions) (now (s .args .preconditions))
-given-preconditions s = given s (λ q. q .preconditions) (now (s .args .preconditions)) (s .pre .1 .preconditions-room)
+given-preconditions s = given s (λ q. q .preconditions) (now (s .args .preconditions)) (s .pre .1 .1 .preconditions-room)
 
 given-deletes : (s : tie.Start Inv-loop μ-loop) → Given s (λ q. q .deletes) (now (s .args .deletes))
-given-deletes s = given s (λ q. q .deletes) (now (s .args .deletes)) (s .pre .1 .deletes-room)
+given-deletes s = given s (λ q. q .deletes) (now (s .args .deletes)) (s .pre .1 .1 .deletes-room)
 
 given-adds : (s : tie.Start Inv-loop μ-loop) → Given s (λ q. q .adds) (now (s .args .adds))
-given-adds s = given s (λ q. q .adds) (now (s .args .adds)) (s .pre .1 .adds-room)
+given-adds s = given s (λ q. q .adds) (now (s .args .adds)) (s .pre .1 .1 .adds-room)
 
 -- the schema that a turn takes, of the code and of the model
 taken : tie.In-loop Inv-loop μ-loop → Schema
-taken c = getD (entry (numbering (c .before)) .args .task .schemas .schemas) (c .before .loop .i) noSchema
+taken c = getD (entry (numbering (c .before)) .args .t2 .schemas) (c .before .loop .i) noSchema
 
 blank : tie.Start Inv-loop μ-loop → model.Schema
-blank s = schemaOf (aritiesOf (s .args .task .predicates)) noSchema
+blank s = schemaOf (aritiesOf (s .args .predicates)) noSchema
 
 here : (c : tie.In-loop Inv-loop μ-loop)
-    → c .before .loop .i < length (those (entry (numbering (c .before)) .args .task .predicates) (entry (numbering (c .before)) .args .task .schemas))
-unfolding taskOf
-here c = let s = entry (numbering (c .before)) in omega (arith, c .loop-test .taken, schema-count (s .args .task) (s .pre .0))
+    → c .before .loop .i < length (those (entry (numbering (c .before)) .args .predicates) (entry (numbering (c .before)) .args .t2))
+here c = let s = entry (numbering (c .before)) in omega (arith, c .loop-test .taken, length-schemas (aritiesOf (s .args .predicates)) (s .args .t2))
 
 same : (c : tie.In-loop Inv-loop μ-loop)
-    → getD (those (entry (numbering (c .before)) .args .task .predicates) (entry (numbering (c .before)) .args .task .schemas)) (c .before .loop .i)
+    → getD (those (entry (numbering (c .before)) .args .predicates) (entry (numbering (c .before)) .args .t2)) (c .before .loop .i)
     (blank (entry (numbering (c .before))))
-    ≡ schemaOf (aritiesOf (entry (numbering (c .before)) .args .task .predicates)) (taken c)
-unfolding taskOf taken blank
-same c = let s = entry (numbering (c .before)) in schema-at (s .args .task) (s .pre .0) _ noSchema (c .loop-test .taken)
+    ≡ schemaOf (aritiesOf (entry (numbering (c .before)) .args .predicates)) (taken c)
+unfolding taken blank
+same c = let s = entry (numbering (c .before)) in schema-read (aritiesOf (s .args .predicates)) (s .args .t2) (c .loop-test .taken)
 
 -- its parameters
 size-is : (c : tie.In-loop Inv-loop μ-loop)
     → taken c .parameters
-    ≡ getD (sizesOf (those (entry (numbering (c .before)) .args .task .predicates) (entry (numbering (c .before)) .args .task .schemas)))
+    ≡ getD (sizesOf (those (entry (numbering (c .before)) .args .predicates) (entry (numbering (c .before)) .args .t2)))
     (c .before .loop .i) 0
 unfolding schemaOf
 size-is c = ap (λ (q : model.Schema). q .parameters) (sym (same c)) ∙ size-at _ (blank (entry (numbering (c .before)))) (here c)
 
 inside : (c : tie.In-loop Inv-loop μ-loop)
     → c .before .loop .i
-    < length (sizesOf (those (entry (numbering (c .before)) .args .task .predicates) (entry (numbering (c .before)) .args .task .schemas)))
+    < length (sizesOf (those (entry (numbering (c .before)) .args .predicates) (entry (numbering (c .before)) .args .t2)))
 inside c = sizes-long _ (here c)
 
 few : (c : tie.In-loop Inv-loop μ-loop) → c .before .loop .count + taken c .parameters ≤ 192
-unfolding taskOf parametersIn sizesOf
+unfolding parametersIn sizesOf
 few c =
     let s = entry (numbering (c .before)) in
     omega (
       arith,
       count-within _ (c .before .loop .inv .counted) (inside c) (size-is c),
-      rows-few (taskOf (s .args .task)) (s .pre .0 .checked),
+      small-few (aritiesOf (s .args .predicates)) (s .args .t2) (right-small (s .pre .1 .0)),
     )
 
 -- room for its rows in a table
 room : (c : tie.In-loop Inv-loop μ-loop) {list : model.Schema → List model.Atom} {before table : List ℕ}
     → Given (entry (numbering (c .before))) list before
-    → BagsPassed (those (entry (numbering (c .before)) .args .task .predicates) (entry (numbering (c .before)) .args .task .schemas))
-    (propertiesFrom 0 (aritiesOf (entry (numbering (c .before)) .args .task .predicates))) list (c .before .loop .i) before table
+    → BagsPassed (those (entry (numbering (c .before)) .args .predicates) (entry (numbering (c .before)) .args .t2))
+    (propertiesFrom 0 (aritiesOf (entry (numbering (c .before)) .args .predicates))) list (c .before .loop .i) before table
     → 60 * c .before .loop .count + 60 * taken c .parameters ≤ length table
 unfolding schemaOf
 room c {table = table} g p =
@@ -126,7 +123,7 @@ room c {table = table} g p =
     (bags-room g p (c .before .loop .inv .counted) (blank (entry (numbering (c .before)))) (here c))
 
 numbered-requires : tie.Need-numbered-requires Inv-loop μ-loop
-numbered-requires c κs = arities-right _ (c .before .before .before .before .before .pre .0) .few
+numbered-requires c κs = c .before .before .before .pre .0 .few
 
 loop-holds : tie.Need-loop-holds Inv-loop μ-loop
 loop-holds c =
@@ -139,10 +136,10 @@ loop-holds c =
     }
 
 mul-schema : tie.Need-mul-schema Inv-loop μ-loop
-mul-schema c = let few = schemas-few _ (entry (numbering (c .before)) .pre .0) in omega arith
+mul-schema c = let few = entry (numbering (c .before)) .pre .1 .0 .few in omega arith
 
 element-copy-out-schema : tie.Need-element-copy-out-schema Inv-loop μ-loop
-element-copy-out-schema c = let few = schemas-few _ (entry (numbering (c .before)) .pre .0) in omega arith
+element-copy-out-schema c = let few = entry (numbering (c .before)) .pre .1 .0 .few in omega arith
 
 mul-enter-schema : tie.Need-mul-enter-schema Inv-loop μ-loop
 mul-enter-schema c = let tested = c .before .before .before .before in omega (arith, few tested)
@@ -153,9 +150,9 @@ enter-schema-requires c κs =
     let tested = c .before .before .before .before in
     let loop = tested .before in
     let s = entry (numbering loop) in (
-      arities-right _ (s .pre .0),
+      s .pre .0,
       (
-        schema-right _ (s .pre .0) _ noSchema (tested .loop-test .taken),
+        s .pre .1 .0 .each-right _ noSchema (tested .loop-test .taken),
         (
           numbering loop .numbered .ensures .firsts,
           record {
@@ -174,7 +171,7 @@ add-count c = omega (arith, few (in-loop (called c)))
 add-i : tie.Need-add-i Inv-loop μ-loop
 add-i c =
     let tested = in-loop (called c) in
-    omega (arith, tested .loop-test .taken, schemas-few _ (entry (numbering (tested .before)) .pre .0))
+    omega (arith, tested .loop-test .taken, entry (numbering (tested .before)) .pre .1 .0 .few)
 
 loop-less : tie.Need-loop-less Inv-loop μ-loop
 loop-less c = omega (arith, in-loop (called c) .loop-test .taken)
@@ -205,13 +202,13 @@ same-length-3 : tie.Need-same-length-3 Inv-loop μ-loop
 same-length-3 c = bags-kept (given-adds (entry (numbering (c .before)))) (c .before .loop .inv .adds-passed)
 
 returns : tie.Need-returns Inv-loop μ-loop
-unfolding taskOf properties parametersIn parameterBags sizesOf bagsOf
+unfolding parametersIn sizesOf
 returns c =
     let s = entry (numbering (c .before)) in
     let inv = c .before .loop .inv in
-    let all = schema-count (s .args .task) (s .pre .0) in
+    let all = length-schemas (aritiesOf (s .args .predicates)) (s .args .t2) in
     record {
-      counted = count-end _ (inv .counted) (omega (arith, c .loop-test .left, all, length-sizes (taskOf (s .args .task) .schemas)));
+      counted = count-end _ (inv .counted) (omega (arith, c .loop-test .left, all, length-sizes (those (s .args .predicates) (s .args .t2))));
       preconditions-are = bags-end (given-preconditions s) (inv .preconditions-passed) (omega (arith, c .loop-test .left, all));
       deletes-are = bags-end (given-deletes s) (inv .deletes-passed) (omega (arith, c .loop-test .left, all));
       adds-are = bags-end (given-adds s) (inv .adds-passed) (omega (arith, c .loop-test .left, all));

@@ -2,16 +2,15 @@
 use Prim.Native.Nat.{ℕ, _-_, _<_}
 use native.Mathlib.Omega.{arith}
 use mathlib.Core.Path.{_≡_, refl, sym, ap, _∙_}
-use mathlib.Core.List.{List, map, map-map}
+use mathlib.Core.List.{List, [], map, map-map}
 use lib.ListN.{length, getD}
 use Rattle.laws.specs.Lists.{sum}
 use Rattle.card.specs.declared.SchemaList.{SchemaList}
-use Rattle.card.specs.declared.Task.{Task}
-use Rattle.card.specs.Represents.{blankSchema, entries, taskOf, schemasOf, schemaOf, aritiesOf}
+use Rattle.card.specs.Represents.{blankSchema, entries, schemasOf, schemaOf}
 use Rattle.card.proofs.Entries.{length-table, item-at, default-alike, noSchema}
-use Rattle.card.proofs.Counts.{schemas-few}
 use Rattle.properties.specs.Parameters.{parametersIn}
-use Rattle.properties.proofs.ParameterRows.{rows-few, Counted, count-start, count-next, count-within, count-end}
+use Rattle.properties.proofs.SchemaLists.{small-few}
+use Rattle.properties.proofs.ParameterRows.{Counted, count-start, count-next, count-within, count-end}
 use Rattle.properties.proofs.parameters.parameters_of.Statement.{statement}
 use Rattle.properties.proofs.parameters.parameters_of.Tie as tie
 
@@ -27,32 +26,31 @@ abbrev μ-loop : tie.MeasureT-loop
 
 -- what is given, from the loop on; and the loop, from the schema that a turn takes
 abbrev entry : tie.At-loop Inv-loop μ-loop → tie.Start Inv-loop μ-loop
-entry c = c .before .before
+entry c = c .before
 
 abbrev in-loop : tie.After-struct-known Inv-loop μ-loop → tie.In-loop Inv-loop μ-loop
 in-loop c = c .before .before
 
--- they are those of the task
-sizes-are : (task : Task) → sum (sizes (task .schemas)) ≡ parametersIn (taskOf task)
-unfolding sizes parametersIn taskOf schemasOf schemaOf
-sizes-are task =
-    ap sum (sym (map-map (λ s. s .parameters) (schemaOf (aritiesOf (task .predicates))) (entries (task .schemas .count) blankSchema (task .schemas .schemas))))
+-- they are those of the model's schemas, whatever the arities
+sizes-are : (arities : List ℕ) (l : SchemaList) → sum (sizes l) ≡ parametersIn (schemasOf arities l)
+unfolding sizes parametersIn schemasOf schemaOf
+sizes-are arities l = ap sum (sym (map-map (λ s. s .parameters) (schemaOf arities) (entries (l .count) blankSchema (l .schemas))))
 
-many : (s : tie.Start Inv-loop μ-loop) → length (sizes (s .args .task .schemas)) ≡ s .args .task .schemas .count
+many : (s : tie.Start Inv-loop μ-loop) → length (sizes (s .args .t1)) ≡ s .args .t1 .count
 unfolding sizes
 many s =
-    let l = s .args .task .schemas in length-table (λ s. s .parameters) (l .count) blankSchema (l .schemas)
+    let l = s .args .t1 in length-table (λ s. s .parameters) (l .count) blankSchema (l .schemas)
 
 -- the schema that a turn takes
-here : (c : tie.In-loop Inv-loop μ-loop) → c .before .loop .i < length (sizes (entry (c .before) .args .task .schemas))
+here : (c : tie.In-loop Inv-loop μ-loop) → c .before .loop .i < length (sizes (entry (c .before) .args .t1))
 here c = omega (arith, c .loop-test .taken, many (entry (c .before)))
 
 size-is : (c : tie.In-loop Inv-loop μ-loop)
-    → getD (entry (c .before) .args .task .schemas .schemas) (c .before .loop .i) noSchema .parameters
-    ≡ getD (sizes (entry (c .before) .args .task .schemas)) (c .before .loop .i) 0
+    → getD (entry (c .before) .args .t1 .schemas) (c .before .loop .i) noSchema .parameters
+    ≡ getD (sizes (entry (c .before) .args .t1)) (c .before .loop .i) 0
 unfolding sizes blankSchema
 size-is c =
-    let l = entry (c .before) .args .task .schemas in
+    let l = entry (c .before) .args .t1 in
     default-alike (λ s. s .parameters) noSchema blankSchema refl (l .schemas) (c .before .loop .i)
     ∙ sym (item-at (λ s. s .parameters) (l .count) blankSchema (l .schemas) (c .before .loop .i) (c .loop-test .taken))
 
@@ -60,10 +58,10 @@ loop-holds : tie.Need-loop-holds Inv-loop μ-loop
 loop-holds c = count-start _
 
 mul-schema : tie.Need-mul-schema Inv-loop μ-loop
-mul-schema c = omega (arith, c .loop-test .taken, schemas-few _ (entry (c .before) .pre))
+mul-schema c = omega (arith, c .loop-test .taken, entry (c .before) .pre .few)
 
 element-copy-out-schema : tie.Need-element-copy-out-schema Inv-loop μ-loop
-element-copy-out-schema c = omega (arith, c .loop-test .taken, schemas-few _ (entry (c .before) .pre))
+element-copy-out-schema c = omega (arith, c .loop-test .taken, entry (c .before) .pre .few)
 
 add-parameters : tie.Need-add-parameters Inv-loop μ-loop
 add-parameters c =
@@ -72,12 +70,12 @@ add-parameters c =
     omega (
       arith,
       count-within _ (turn .before .loop .inv) (here turn) (size-is turn),
-      sizes-are (s .args .task),
-      rows-few _ (s .pre .checked),
+      sizes-are [] (s .args .t1),
+      small-few [] (s .args .t1) (s .pre),
     )
 
 add-i : tie.Need-add-i Inv-loop μ-loop
-add-i c = omega (arith, in-loop c .loop-test .taken, schemas-few _ (entry (in-loop c .before) .pre))
+add-i c = omega (arith, in-loop c .loop-test .taken, entry (in-loop c .before) .pre .few)
 
 loop-less : tie.Need-loop-less Inv-loop μ-loop
 loop-less c = omega (arith, in-loop c .loop-test .taken)
@@ -86,9 +84,9 @@ loop-again : tie.Need-loop-again Inv-loop μ-loop
 loop-again c = let turn = in-loop c in count-next _ (turn .before .loop .inv) (here turn) (size-is turn)
 
 returns : tie.Need-returns Inv-loop μ-loop
-returns c =
+returns c arities =
     let s = entry (c .before) in
-    count-end _ (c .before .loop .inv) (omega (arith, c .loop-test .left, many s)) ∙ sizes-are (s .args .task)
+    count-end _ (c .before .loop .inv) (omega (arith, c .loop-test .left, many s)) ∙ sizes-are arities (s .args .t1)
 
 pub parameters-of-spec : {M : Type 1} → statement M
 parameters-of-spec =
