@@ -3,13 +3,17 @@ use Prim.Native.Nat.{ℕ, suc, _+_, _≤_, _<_}
 use native.Mathlib.Nat.{zero-add}
 use native.Mathlib.Numerals.{add-one}
 use native.Mathlib.Omega.{arith}
-use mathlib.Core.Path.{_≡_, sym, ap, _∙_}
-use mathlib.Core.Bool.{Bool, true, false}
+use mathlib.Core.Path.{_≡_, refl, sym, ap, _∙_, subst}
+use mathlib.Core.Bool.{Bool, true, false, _&&_}
 use mathlib.Core.List.{List, [], _∷_}
-use lib.ListN.{length, getD, take, drop, drop-of-length-le}
-use lib.Seq.{drop-cons, getD-take, length-take-le}
+use lib.Dec.{eqb}
+use lib.ListN.{length, getD, set, take, drop, replicate, length-set, getD-replicate, drop-of-length-le}
+use lib.Seq.{drop-cons, getD-take, length-take-le, getD-set-same, getD-set-other}
+use borrow.Author.Tests.{eqb-true, eqb-false}
 use Rattle.laws.specs.Lists.{all, count}
-use Rattle.card.specs.Represents.{entries}
+use Rattle.laws.proofs.Tests.{by-test}
+use Rattle.card.specs.declared.Atom.{Atom}
+use Rattle.card.specs.Represents.{blankAtom, entries}
 use Rattle.card.proofs.Entries.{next-entry, no-entry}
 
 module _ {A : Type 0} (size : ℕ) (xs : List A) (within : size ≤ length xs) (i : ℕ) where
@@ -57,22 +61,63 @@ module _ {A : Type 0} {test : A → Bool} {size : ℕ} {blank : A} {xs : List A}
     tally-end h =
         let none : count test (drop i (entries size blank xs)) ≡ 0 = ap (count test) (no-entry size blank xs i h) in omega (arith, t .whole)
 
--- A test of every entry: what those from place i on say is what all say.
+-- A table of tallies: at each predicate the number of its atoms before place i.
+pub record Tallies (size : ℕ) (xs : List Atom) (counts : List ℕ) (i : ℕ) : Type 0 where
+  pub long : length counts ≡ 20
+  pub each : (p : ℕ) → p < 20 → Tally (λ a. eqb p (a .predicate)) size blankAtom xs (getD counts p 0) i
+
+module _ {size : ℕ} {xs : List Atom} where
+  pub tallies-start : Tallies size xs (replicate 20 0) 0
+  tallies-start = record {
+    long = refl;
+    each =
+        λ p h. subst (λ (n : ℕ). Tally (λ a. eqb p (a .predicate)) size blankAtom xs n 0) (sym (getD-replicate 20 p 0 0 h)) tally-start;
+  }
+
+  -- the entry of the next atom's predicate is raised
+  pub tallies-next : {counts : List ℕ} {i : ℕ} → Tallies size xs counts i → i < size → {q : ℕ} → q ≡ getD xs i blankAtom .predicate
+      → Tallies size xs (set counts q (getD counts q 0 + 1)) (i + 1)
+  tallies-next {counts} so-far h {q} q-is = record {
+    long = length-set counts q (getD counts q 0 + 1) ∙ so-far .long;
+    each =
+        λ p k. by-test (eqb p q)
+        (λ e.
+        tally-passes (so-far .each p k) h (ap (eqb p) (sym q-is) ∙ e)
+        (subst (λ (n : ℕ). getD (set counts n (getD counts n 0 + 1)) p 0 ≡ getD counts p 0 + 1) (eqb-true p q e)
+        (getD-set-same counts p (getD counts p 0 + 1) 0 (omega (arith, k, so-far .long)))))
+        (λ e.
+        tally-fails (so-far .each p k) h (ap (eqb p) (sym q-is) ∙ e) (getD-set-other counts q p (getD counts q 0 + 1) 0 (eqb-false p q e)));
+  }
+
+-- A test of every entry: what those before place i say, and those from there on, is what all say.
+and-swap : (t b rest : Bool) → ((t && b) && rest) ≡ (b && (t && rest))
+and-swap true b rest = refl
+and-swap false true rest = refl
+and-swap false false rest = refl
+
+and-true : (b : Bool) → (b && true) ≡ b
+and-true true = refl
+and-true false = refl
+
 module _ {A : Type 0} (test : A → Bool) (size : ℕ) (blank : A) (xs : List A) where
-  abbrev pub Decides : ℕ → Type 0
-  Decides i = all test (drop i (entries size blank xs)) ≡ all test (entries size blank xs)
+  abbrev pub Decides : Bool → ℕ → Type 0
+  Decides b i = (b && all test (drop i (entries size blank xs))) ≡ all test (entries size blank xs)
 
-  module _ (i : ℕ) (so-far : Decides i) where
-    -- one that fails decides, another leaves it to those behind it
-    pub one-fails : i < size → test (getD xs i blank) ≡ false → false ≡ all test (entries size blank xs)
-    unfolding all
-    one-fails h e = sym (ap (all test) (next-entry size blank xs i h) ∙ rw e) ∙ so-far
+  pub decides-start : (b : Bool) → b ≡ true → Decides b 0
+  decides-start b e = ap (λ (x : Bool). x && all test (entries size blank xs)) e
 
-    pub one-passes : i < size → test (getD xs i blank) ≡ true → Decides (i + 1)
+  module _ (b : Bool) (i : ℕ) (so-far : Decides b i) where
+    -- the next entry
+    pub decides-next : i < size → (c : Bool) → c ≡ (test (getD xs i blank) && b) → Decides c (i + 1)
     unfolding all
-    one-passes h e = sym (ap (all test) (next-entry size blank xs i h) ∙ rw e) ∙ so-far
+    decides-next h c e =
+        let rest = all test (drop (i + 1) (entries size blank xs)) in
+        ap (λ (x : Bool). x && rest) e
+        ∙ and-swap (test (getD xs i blank)) b rest
+        ∙ ap (λ (l : List A). b && all test l) (sym (next-entry size blank xs i h))
+        ∙ so-far
 
-    -- after the last all have passed
-    pub all-pass : size ≤ i → true ≡ all test (entries size blank xs)
+    -- after the last all are told
+    pub decides-end : size ≤ i → b ≡ all test (entries size blank xs)
     unfolding all
-    all-pass h = sym (ap (all test) (no-entry size blank xs i h)) ∙ so-far
+    decides-end h = sym (and-true b) ∙ ap (λ (l : List A). b && all test l) (sym (no-entry size blank xs i h)) ∙ so-far

@@ -64,7 +64,8 @@ module _ (task : code.Task) where
   rows-asked r = (arities-right task r, right-small (schemas-right task r))
 
   pub rows-counted : {rows : ℕ}
-      → ((t : Task) → t .arities ≡ aritiesOf (task .predicates) → t .schemas ≡ schemasOf (aritiesOf (task .predicates)) (task .schemas) → rows ≡ rowsAtMost t)
+      → ((t : Task) → t .arities ≡ aritiesOf (task .predicates) → t .schemas ≡ schemasOf (aritiesOf (task .predicates)) (task .schemas)
+      → rows ≡ rowsAtMost t)
       → rows ≡ rowsAtMost (taskOf task)
   unfolding taskOf
   rows-counted counted = counted (taskOf task) refl refl

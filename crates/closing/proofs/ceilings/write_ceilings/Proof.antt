@@ -1,60 +1,82 @@
 -- `ceilings::write_ceilings` meets its contract.
-use Prim.Native.Nat.{_-_, _≤_}
-use mathlib.Core.List.{flatMap}
+use Prim.Native.Nat.{_-_, _≤_, _<_}
+use mathlib.Core.Path.{_≡_}
+use mathlib.Core.List.{[], _∷_, flatMap}
 use native.Mathlib.Omega.{arith}
-use lib.ListN.{length}
+use lib.Dec.{eqb}
+use lib.ListN.{length, getD}
+use Rattle.laws.proofs.Counting.{count-most}
 use Rattle.laws.specs.Lists.{upTo}
 use Rattle.laws.proofs.Tests.{not-true, not-false}
-use Rattle.model.specs.Lines.{ceilings}
+use Rattle.model.specs.Lines.{ofPredicate, ceiling, ceilings}
 use Rattle.model.specs.Text.{text}
-use Rattle.card.specs.Represents.{taskOf}
+use Rattle.card.specs.Represents.{taskOf, factsOf}
+use Rattle.card.proofs.Entries.{length-facts}
 use Rattle.card.proofs.Counts.{predicate-count, predicates-few, facts-few}
 use Rattle.text.proofs.Writing.{Remains, remains-as, start, next-fits, next, finish}
 use Rattle.closing.proofs.Capping.{capped-line, uncapped}
 use Rattle.closing.proofs.LineLoops.{linesLeft, lines-start, line-next, no-line, lines-end}
-use Rattle.closing.proofs.Parts.{schemas-fit}
+use Rattle.closing.proofs.Parts.{schemas-fit, facts-fit}
 use borrow.Author.Needs.{needs}
 use Rattle.closing.proofs.ceilings.write_ceilings.Statement.{statement}
 use Rattle.closing.proofs.ceilings.write_ceilings.Tie as tie
 
 abbrev Inv-loop : tie.InvT-loop
-Inv-loop out₀ task at₀ p₀ out at p =
+Inv-loop out₀ task capped counts at₀ p₀ out at p =
     Remains (text (flatMap (ceilings (taskOf task)) (upTo (length (taskOf task .arities)))))
     (linesLeft (ceilings (taskOf task)) (task .predicates .count) p) out₀ out at
     × (p ≤ task .predicates .count)
 
 abbrev μ-loop : tie.MeasureT-loop
-μ-loop out₀ task at₀ p₀ out at p = task .predicates .count - p
+μ-loop out₀ task capped counts at₀ p₀ out at p = task .predicates .count - p
 
--- what is given, from the test of a predicate on; and this test, from the predicate's facts
-abbrev entry : tie.Then1 Inv-loop μ-loop → tie.Start Inv-loop μ-loop
-entry c = c .before .before .before .before
+-- earlier points of the function, each reached from the next: start, facts counted, a predicate's turn
+abbrev entry : tie.After-fact-counts Inv-loop μ-loop → tie.Start Inv-loop μ-loop
+entry c = c .before .before .before
 
-abbrev tested : tie.After-facts-of Inv-loop μ-loop → tie.After-is-capped Inv-loop μ-loop
-tested c = c .before .before .before
+abbrev counted : tie.Then1 Inv-loop μ-loop → tie.After-fact-counts Inv-loop μ-loop
+counted c = c .before .before .before
+
+abbrev turn : tie.After-write-ceiling-arg Inv-loop μ-loop → tie.Then1 Inv-loop μ-loop
+turn c = c .before .before
+
+few : (c : tie.Then1 Inv-loop μ-loop) → c .before .before .loop .p < 20
+few c = omega (arith, c .if1 .taken, predicates-few _ (entry (counted c) .pre .0))
+
+-- the line of the predicate whose turn it is, if it is capped
+line : (c : tie.After-write-ceiling-arg Inv-loop μ-loop)
+    → ceilings (taskOf (entry (counted (turn c)) .args .task)) (turn c .before .before .loop .p)
+    ≡ ceiling (turn c .before .before .loop .p) (getD (counted (turn c) .fact-counts .result) (turn c .before .before .loop .p) 0) ∷ []
+line c =
+    let p = turn c .before .before .loop .p in
+    capped-line _ p (counted (turn c) .before .capped-predicates .ensures p (turn c .if1 .taken)) (not-false _ (c .before .if2 .left))
+    (counted (turn c) .fact-counts .ensures p (few (turn c)))
+
+capped-predicates-requires : tie.Need-capped-predicates-requires Inv-loop μ-loop
+capped-predicates-requires c κs = let r = c .before .pre .0 in (schemas-fit _ r, predicates-few _ r)
+
+fact-counts-requires : tie.Need-fact-counts-requires Inv-loop μ-loop
+fact-counts-requires c κs = facts-fit _ (c .before .before .pre .0)
 
 loop-holds : tie.Need-loop-holds Inv-loop μ-loop
 loop-holds c =
-    let s = c .before in
+    let s = entry c in
     (remains-as (rw (← predicate-count (s .args .task) (s .pre .0)) (lines-start _ _)) (start (s .pre .1)), omega arith)
 
 add-p : tie.Need-add-p Inv-loop μ-loop
-add-p c = omega (arith, predicates-few _ (entry c .pre .0))
+add-p c = omega (arith, few c)
 
-cast-is-capped : tie.Need-cast-is-capped Inv-loop μ-loop
-cast-is-capped c = omega (arith, predicates-few _ (entry c .pre .0))
-
-is-capped-requires : tie.Need-is-capped-requires Inv-loop μ-loop
-is-capped-requires c κs = schemas-fit _ (entry c .pre .0)
+array-read-if2 : tie.Need-array-read-if2 Inv-loop μ-loop
+array-read-if2 c = few c
 
 loop-less : tie.Need-loop-less Inv-loop μ-loop
 loop-less c = search needs
 
 loop-again : tie.Need-loop-again Inv-loop μ-loop
 loop-again c =
-    let l = c .before .before .before .before .loop in (
-      remains-as (no-line _ _ (l .p) (c .before .before .if1 .taken) (uncapped _ (l .p) (c .before .is-capped .ensures) (not-true _ (c .if2 .taken))))
-          (l .inv .0),
+    let l = c .before .before .before .loop in
+    let told = counted (c .before) .before .capped-predicates .ensures (l .p) (c .before .if1 .taken) in (
+      remains-as (no-line _ _ (l .p) (c .before .if1 .taken) (uncapped _ (l .p) told (not-true _ (c .if2 .taken)))) (l .inv .0),
       search needs,
     )
 
@@ -67,32 +89,36 @@ part-write-ceiling-start c = search needs
 part-write-ceiling-end : tie.Need-part-write-ceiling-end Inv-loop μ-loop
 part-write-ceiling-end c = search needs
 
-cast-facts-of : tie.Need-cast-facts-of Inv-loop μ-loop
-cast-facts-of c = omega (arith, predicates-few _ (entry (c .before .before .before) .pre .0))
+mul-write-ceiling : tie.Need-mul-write-ceiling Inv-loop μ-loop
+mul-write-ceiling c = omega (arith, few (turn c))
 
-facts-of-requires : tie.Need-facts-of-requires Inv-loop μ-loop
-facts-of-requires c κs = facts-few _ (entry (c .before .before .before) .pre .0)
+array-read-write-ceiling : tie.Need-array-read-write-ceiling Inv-loop μ-loop
+array-read-write-ceiling c = few (turn c)
+
+cast-write-ceiling : tie.Need-cast-write-ceiling Inv-loop μ-loop
+unfolding ofPredicate
+cast-write-ceiling c =
+    let s = entry (counted (turn c)) in
+    omega (
+      arith,
+      counted (turn c) .fact-counts .ensures _ (few (turn c)) [],
+      count-most (λ a. eqb (turn c .before .before .loop .p) (a .predicate)) (factsOf [] (s .args .task .facts)),
+      length-facts [] (s .args .task .facts),
+      facts-few _ (s .pre .0),
+    )
 
 write-ceiling-requires : tie.Need-write-ceiling-requires Inv-loop μ-loop
 write-ceiling-requires c κs =
-    let more = tested c .before in
-    let l = more .before .before .loop in
-    next-fits (l .inv .0)
-    (line-next _ _ (l .p) (more .if1 .taken)
-    (capped-line _ (l .p) (tested c .is-capped .ensures) (not-false _ (c .before .before .if2 .left)) (c .facts-of .ensures)))
+    let l = turn c .before .before .loop in next-fits (l .inv .0) (line-next _ _ (l .p) (turn c .if1 .taken) (line c))
 
 loop-less-2 : tie.Need-loop-less-2 Inv-loop μ-loop
 loop-less-2 c = search needs
 
 loop-again-2 : tie.Need-loop-again-2 Inv-loop μ-loop
 loop-again-2 c =
-    let counted = c .before .before .before in
-    let more = tested counted .before in
-    let l = more .before .before .loop in (
-      next (l .inv .0)
-          (line-next _ _ (l .p) (more .if1 .taken)
-          (capped-line _ (l .p) (tested counted .is-capped .ensures) (not-false _ (counted .before .before .if2 .left)) (counted .facts-of .ensures)))
-          (c .before .before .write-ceiling .ensures),
+    let asked = c .before .before .before in
+    let l = turn asked .before .before .loop in (
+      next (l .inv .0) (line-next _ _ (l .p) (turn asked .if1 .taken) (line asked)) (c .before .before .write-ceiling .ensures),
       search needs,
     )
 
@@ -111,17 +137,19 @@ write-ceilings-spec =
     (tie.spec
     Inv-loop
     μ-loop
+    capped-predicates-requires
+    fact-counts-requires
     loop-holds
     add-p
-    cast-is-capped
-    is-capped-requires
+    array-read-if2
     loop-less
     loop-again
     sub-write-ceiling
     part-write-ceiling-start
     part-write-ceiling-end
-    cast-facts-of
-    facts-of-requires
+    mul-write-ceiling
+    array-read-write-ceiling
+    cast-write-ceiling
     write-ceiling-requires
     add-at
     loop-less-2
