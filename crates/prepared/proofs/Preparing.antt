@@ -41,7 +41,8 @@ unfolding taskOf properties
 properties-counted task n = n .counted
 
 module _ (task : Task) (r : Represented task (taskOf task)) {count size : ℕ} {preconditions deletes adds p d a c : List ℕ} (counts : List ℕ)
-    (written : ParameterTables (properties (taskOf task)) (taskOf task .schemas) count preconditions deletes adds p d a) (bags : c ≡ rowsBefore (objectBags (taskOf task)) counts)
+    (written : ParameterTables (properties (taskOf task)) (taskOf task .schemas) count preconditions deletes adds p d a)
+    (bags : c ≡ rowsBefore (objectBags (taskOf task)) counts)
     (counted : size ≡ length (properties (taskOf task))) where
   abbrev t : model.Task
   t = taskOf task
