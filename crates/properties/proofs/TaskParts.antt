@@ -18,7 +18,7 @@ use Rattle.card.specs.Represents.{blankAtom, atomOf, Represented}
 use Rattle.card.specs.Represents.{taskOf, aritiesOf, schemaOf, atomsOf, factsOf}
 use Rattle.card.proofs.Entries.{schemas-within, length-atoms}
 use Rattle.card.proofs.Counts.{right, predicates-few, objects-few, schema-count, schemas-few, schemas-inside, facts-few}
-use Rattle.properties.specs.Represented.{AritiesRight, AtomsRight, SchemaRight, SchemasRight, FactsRight}
+use Rattle.properties.specs.Represented.{AritiesRight, AtomsRight, SchemaRight, SchemasRight, FactsKnown}
 use Rattle.properties.proofs.Predicates.{atom-known}
 
 -- a list of atoms that passed
@@ -69,12 +69,12 @@ module _ (task : Task) (r : Represented task (taskOf task)) where
   pub schemas-right : SchemasRight (aritiesOf (task .predicates)) (task .schemas)
   schemas-right = record { few = schemas-few task r; each-right = schema-right task r }
 
-  pub facts-right : FactsRight (aritiesOf (task .predicates)) (task .objects) (task .facts)
+  pub facts-right : FactsKnown (aritiesOf (task .predicates)) (task .objects) (task .facts)
   unfolding taskOf
   facts-right = record { few-objects = objects-few task r; few = facts-few task r; facts-known = right task r .facts-right .facts-known }
 
 -- each fact is a known atom
-pub fact-known : {arities : List ℕ} {objects : ℕ} {l : FactList} → FactsRight arities objects l → (i : ℕ) → i < l .count
+pub fact-known : {arities : List ℕ} {objects : ℕ} {l : FactList} → FactsKnown arities objects l → (i : ℕ) → i < l .count
     → known arities objects (atomOf arities (getD (l .facts) i blankAtom)) ≡ true
 unfolding factsOf
 fact-known {arities} {objects} {l} facts = atom-known arities (l .facts) (l .count) objects (facts .facts-known)

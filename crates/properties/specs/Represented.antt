@@ -65,7 +65,7 @@ pub record SchemasRight (arities : List ℕ) (l : SchemaList) : Type 0 where
   pub each-right : (i : ℕ) (d : Schema) → i < l .count → SchemaRight arities (getD (l .schemas) i d)
 
 -- a list of facts of such predicates over so many objects
-pub record FactsRight (arities : List ℕ) (objects : ℕ) (l : FactList) : Type 0 where
+pub record FactsKnown (arities : List ℕ) (objects : ℕ) (l : FactList) : Type 0 where
   pub few-objects : objects ≤ 64
   pub few : l .count ≤ 512
   pub facts-known : all (known arities objects) (factsOf arities l) ≡ true

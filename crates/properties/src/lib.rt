@@ -11,7 +11,7 @@ ghost use Prim.Native.Nat.{_+_, _*_, _≤_, _<_};
 ghost use lib.ListN.{length, getD, take, drop, replicate};
 ghost use Rattle.model.specs.Transitions.{propertiesFrom};
 ghost use Rattle.card.specs.Represents.{aritiesOf, factsOf};
-ghost use Rattle.properties.specs.Represented.{AritiesRight, FactsRight, Numbers};
+ghost use Rattle.properties.specs.Represented.{AritiesRight, FactsKnown, Numbers};
 ghost use Rattle.properties.specs.Parameters.{bagsOver};
 ghost use Rattle.properties.specs.Tables.{rowsBefore};
 ghost use Rattle.properties.specs.Tallies.{raised, talliedRows, Talliable};
@@ -90,7 +90,7 @@ fn enter_fact(counts: &mut [u16], first: usize, fact: Atom, arity: usize)
 // The bags of all objects of a task over its facts: one row an object.
 pub fn object_bags(predicates: ArityList, objects: usize, facts: FactList, counts: &mut [u16])
     requires { ⌜ AritiesRight predicates ⌝ }
-    requires { ⌜ FactsRight (aritiesOf predicates) objects facts ⌝ }
+    requires { ⌜ FactsKnown (aritiesOf predicates) objects facts ⌝ }
     requires { ⌜ 3840 ≤ length (now counts) ⌝ }
     ensures { λ _. ⌜
         now (counts .exit)
