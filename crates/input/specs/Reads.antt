@@ -6,9 +6,9 @@ use lib.ListN.{length}
 use Rattle.input.specs.declared.Reading.{Reading}
 use Rattle.input.specs.declared.Reading.the-variants.{Front, Failed}
 
-abbrev pub Reads : Reading → List ℕ → Type 0
-Reads (Front n) window = n ≤ length window
-Reads Failed window = Unit {0}
+abbrev pub FrontRead : Reading → List ℕ → Type 0
+FrontRead (Front n) window = n ≤ length window
+FrontRead Failed window = Unit {0}
 
 -- so many bytes are kept, or a read has failed
 abbrev pub Keeps : ℕ → Reading → Type 0

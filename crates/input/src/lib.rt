@@ -1,5 +1,5 @@
 // An open input read to its end, of which the first bytes are kept in a window.
-ghost use Rattle.input.specs.Reads.{Reads, Keeps};
+ghost use Rattle.input.specs.Reads.{FrontRead, Keeps};
 
 // What reading an input answers: how many bytes of the window were read, or that a read failed.
 pub enum Reading {
@@ -9,7 +9,7 @@ pub enum Reading {
 
 // Reads until the window is full, the input ends or a read fails. The end is met once, so that a terminal is asked for it once.
 fn fill(input: i32, window: &mut [u8]) -> Reading
-    ensures { λ r. ⌜ Reads r (now (window .exit)) ⌝ }
+    ensures { λ r. ⌜ FrontRead r (now (window .exit)) ⌝ }
 {
     let mut kept: usize = 0;
     while kept < window.len() {
@@ -48,7 +48,7 @@ fn read_on(input: i32, kept: usize) -> Reading
 
 // Reads an input to its end and keeps as many bytes as the window holds. What is behind them is read only where the window is full.
 pub fn read_front(input: i32, window: &mut [u8]) -> Reading
-    ensures { λ r. ⌜ Reads r (now (window .exit)) ⌝ }
+    ensures { λ r. ⌜ FrontRead r (now (window .exit)) ⌝ }
 {
     let reading = fill(input, window);
     let Reading::Front(kept) = reading else {
