@@ -136,7 +136,7 @@ pieces header schemas facts a b c d = simp append-assoc
 
 -- the whole card
 pub whole-card : (t : Task) (x : List ℕ) → Fits t → length (t .predicates .arities) ≡ 20 → cardRoom ≤ length x
-    → (y₁ y₂ y₃ y₄ : List ℕ) (n₁ n₂ n₃ n₄ : ℕ)
+    → {y₁ y₂ y₃ y₄ : List ℕ} {n₁ n₂ n₃ n₄ : ℕ}
     → let arities = take (t .predicates .count - 0) (drop 0 (t .predicates .arities)) in
     WritesAt headerRoom 0 (length arities ∷ arities ++ (t .objects ∷ t .schemas .count ∷ [])) x y₁ n₁
     → WritesAt (schemaRoom * t .schemas .count) n₁
@@ -146,7 +146,7 @@ pub whole-card : (t : Task) (x : List ℕ) → Fits t → length (t .predicates 
     (flatMap atomBytes (factsOf arities (t .facts))) y₃ y₄ n₄
     → WritesAt cardRoom 0 (taskBytes (taskOf t)) x y₄ n₄
 unfolding taskBytes taskOf
-whole-card t x fits twenty enough y₁ y₂ y₃ y₄ n₁ n₂ n₃ n₄ w₁ w₂ w₃ w₄ =
+whole-card t x fits twenty enough {y₁} {y₂} {y₃} {y₄} {n₁} {n₂} {n₃} {n₄} w₁ w₂ w₃ w₄ =
     let schemas = t .schemas .count in
     let facts = t .facts .count in
     let arities : List ℕ = aritiesOf (t .predicates) in

@@ -88,11 +88,11 @@ module _ {A B : Type 0} (bytesOf : B → List ℕ) (f : A → B) (count : ℕ) (
         append-nil,
       )
 
-  pub item-written : (i : ℕ) (y z : List ℕ) (m n : ℕ) → i < count → at + room * count ≤ length x
+  pub item-written : (i : ℕ) {y z : List ℕ} {m n : ℕ} → i < count → at + room * count ≤ length x
       → WritesAt (room * i) at (flatMap bytesOf (take i (map f (entries count blank xs)))) x y m
       → WritesAt room m (bytesOf (f (getD xs i blank))) y z n
       → WritesAt (room * (i + 1)) at (flatMap bytesOf (take (i + 1) (map f (entries count blank xs)))) x z n
-  item-written i y z m n h fits v w =
+  item-written i {y} {z} {m} {n} h fits v w =
       rw (one-more i h, rooms) (writes-then (room * i) room at _ _ x y z m n v w room-so-far)
     where
       rooms : room * (i + 1) ≡ room * i + room
@@ -101,10 +101,10 @@ module _ {A B : Type 0} (bytesOf : B → List ℕ) (f : A → B) (count : ℕ) (
       room-so-far : at + room * i ≤ length x
       room-so-far = omega (arith, mul-le-mul-left {m = i} {n = count} room (omega arith))
 
-  pub items-written : (i : ℕ) (y : List ℕ) (m : ℕ) → count ≤ i → i ≤ count
+  pub items-written : (i : ℕ) {y : List ℕ} {m : ℕ} → count ≤ i → i ≤ count
       → WritesAt (room * i) at (flatMap bytesOf (take i (map f (entries count blank xs)))) x y m
       → WritesAt (room * count) at (flatMap bytesOf (map f (entries count blank xs))) x y m
-  items-written i y m h k w = rw (there, take-all count (map f (entries count blank xs)) all-taken) at w
+  items-written i h k w = rw (there, take-all count (map f (entries count blank xs)) all-taken) at w
     where
       there : i ≡ count
       there = omega arith

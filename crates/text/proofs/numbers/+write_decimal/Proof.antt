@@ -89,4 +89,7 @@ module _ (t : ℕ) where
 pub +write-decimal-spec : {M : Type 1} → statement M
 +write-decimal-spec =
     close number λ t.
-    lts.spec (called t, write-decimal.Post) (given t) write-decimal.Post (cast-out t) (add-out t) (slice-write-out t) (same-length t) (returns t) (cast-out-2 t) (add-out-2 t) (slice-write-out-2 t) (cast-out-3 t) (add-out-3 t) (slice-write-out-3 t) (same-length-2 t) (returns-2 t) (write-decimal-requires t) (cast-out-4 t) (add-out-4 t) (slice-write-out-4 t) (add-result t) (same-length-3 t) (returns-3 t)
+    lts.spec (called t, write-decimal.Post) (given t) write-decimal.Post
+    (cast-out t) (add-out t) (slice-write-out t) (same-length t) (returns t)
+    (cast-out-2 t) (add-out-2 t) (slice-write-out-2 t) (cast-out-3 t) (add-out-3 t) (slice-write-out-3 t) (same-length-2 t) (returns-2 t)
+    (write-decimal-requires t) (cast-out-4 t) (add-out-4 t) (slice-write-out-4 t) (add-result t) (same-length-3 t) (returns-3 t)

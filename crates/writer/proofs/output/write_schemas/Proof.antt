@@ -24,7 +24,7 @@ schema-written : (arities : List ℕ) (list : SchemaList) (at i : ℕ) (x y z : 
     → WritesAt schemaRoom m (schemaBytes (schemaOf arities (getD (list .schemas) i noSchema))) y z n → Written arities list at x (i + 1) z n
 unfolding schemasOf
 schema-written arities list at i x y z m n h fits v w =
-    item-written schemaBytes (schemaOf arities) (list .count) blankSchema (list .schemas) schemaRoom at x i y z m n h fits v
+    item-written schemaBytes (schemaOf arities) (list .count) blankSchema (list .schemas) schemaRoom at x i h fits v
     (rw (default-alike (schemaOf arities) noSchema blankSchema (no-schema-blank arities) (list .schemas) i) at w)
 
 abbrev Inv-loop : tie.InvT-loop
@@ -63,7 +63,7 @@ same-length c = omega arith
 
 returns : tie.Need-returns Inv-loop μ-loop
 unfolding schemasOf
-returns c = items-written _ _ _ _ _ schemaRoom _ _ _ _ _ (c .loop-test .left) (c .before .loop .inv .0) (c .before .loop .inv .2)
+returns c = items-written schemaBytes _ _ _ _ schemaRoom _ _ _ (c .loop-test .left) (c .before .loop .inv .0) (c .before .loop .inv .2)
 
 pub write-schemas-spec : {M : Type 1} → statement M
 write-schemas-spec =

@@ -42,7 +42,7 @@ returns c =
     let schemas = count .before .before .before .before in
     let header = schemas .before .before .before .before in
     let start = header .before .before .before .before .before .before .before .before .before in
-    whole-card _ _ (start .pre .0) (twenty (header .before .before .before)) (start .pre .1) _ _ _ _ _ _ _ _
+    whole-card _ _ (start .pre .0) (twenty (header .before .before .before)) (start .pre .1)
     (header .write-header .ensures) (schemas .write-schemas .ensures)
     (count .write-count .ensures) (facts .write-facts .ensures)
 

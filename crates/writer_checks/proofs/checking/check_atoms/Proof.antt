@@ -61,7 +61,7 @@ unfolding atomsOf blankAtom
 loop-again c =
     let at-loop = c .before .before .before .before .before in (
       omega arith,
-      item-passed _ _ _ _ _ _ _ (at-loop .loop .inv .1) (c .before .before .before .before .loop-test .taken) _
+      item-passed _ _ _ blankAtom _ _ _ (at-loop .loop .inv .1) (c .before .before .before .before .loop-test .taken) _
           (c .before .before .check-schema-atom .ensures) (c .enum-told .given .1),
     )
 

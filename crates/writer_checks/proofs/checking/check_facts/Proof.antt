@@ -59,7 +59,7 @@ unfolding checkFact checkOrdered refusalNumber blankAtom factsOf
 loop-again c =
     let at-loop = c .before .before .before .before .before in (
       omega arith,
-      item-passed _ _ _ _ _ _ _ (at-loop .loop .inv .1) (c .before .before .before .before .loop-test .taken) _
+      item-passed _ _ _ blankAtom _ _ _ (at-loop .loop .inv .1) (c .before .before .before .before .loop-test .taken) _
           (c .before .before .check-atom .ensures) (c .enum-told .given .1),
     )
 

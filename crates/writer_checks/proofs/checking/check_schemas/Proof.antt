@@ -38,7 +38,7 @@ module _ (arities : List ℕ) (list : SchemaList) (i : ℕ) (left : Left arities
 
   schema-refused : (r : Refusal) → c ≡ Refused r → checkedSays c ≡ each (λ before. checkSchema arities) none (schemasOf arities list)
   unfolding schemasOf
-  schema-refused r e = item-refused _ _ _ _ _ i none left at c says-of-item r e
+  schema-refused r e = item-refused _ _ _ blankSchema _ i none left at c says-of-item r e
 
   schema-passed : c ≡ Passed → Left arities list (i + 1)
   unfolding schemasOf
