@@ -111,7 +111,7 @@ module _ (arities own : List ℕ) (count : ℕ) (table : List ℕ) where
   limits-end k h = ap (limitsOf arities own bags) (drop-of-length-le own h) ∙ limits-none arities own bags
 
 -- and none without a condition
-pub no-limits : (arities properties : List ℕ) (size : ℕ) {count : ℕ} (table before : List ℕ) → count ≡ 0
+pub no-limits : (arities properties : List ℕ) (size : ℕ) {count : ℕ} (table : List ℕ) {before : List ℕ} → count ≡ 0
     → Writes (text (limitsBy arities properties (bagsIn size count table))) before before 0
 unfolding limitsBy bagsIn upTo from
-no-limits arities properties size table before e = rw (e, no-lines) (nothing before)
+no-limits arities properties size table {before} e = rw (e, no-lines) (nothing before)

@@ -57,7 +57,8 @@ module _ (size count : ℕ) (table : List ℕ) (most : count ≤ 64) {r : Minima
   indices-lent : take (r .count - 0) (r .indices) ≡ minimal bags
   unfolding padded
   indices-lent =
-      ap (λ (n : ℕ). take n (r .indices)) (sub-zero (r .count)) ∙ ap (take (r .count)) (found .indices) ∙ take-at (minimal bags) _ (r .count) (sym (found .count))
+      ap (λ (n : ℕ). take n (r .indices)) (sub-zero (r .count)) ∙ ap (take (r .count)) (found .indices)
+      ∙ take-at (minimal bags) _ (r .count) (sym (found .count))
 
   pub indices-inside : r .count ≤ length (r .indices)
   indices-inside =

@@ -171,7 +171,8 @@ module _ (t : Task) where
   totals-are ok =
       let few = properties-few t ok in
       let entries = map (fixedOf (analysis t)) (upTo (length (properties t))) in
-      let counted : length entries ≡ length (properties t) = length-map (upTo (length (properties t))) (fixedOf (analysis t)) ∙ length-upTo (length (properties t)) in
+      let all = upTo (length (properties t)) in
+      let counted : length entries ≡ length (properties t) = length-map all (fixedOf (analysis t)) ∙ length-upTo (length (properties t)) in
       ext-getD 0 (totalsOf (analysis t)) (row entries) (length-totals (analysis t) ∙ sym (length-row entries (omega arith)))
       (λ c k.
       let inside : c < 60 = subst (λ (n : ℕ). c < n) (length-totals (analysis t)) k in

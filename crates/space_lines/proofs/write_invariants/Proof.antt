@@ -11,7 +11,9 @@ abbrev entry : tie.After-write-limits → tie.Start
 entry c = c .before .before .before .before .before .before
 
 write-limits-requires : tie.Need-write-limits-requires
-write-limits-requires c κs = let pre = c .before .before .before .before .before .pre in (pre .0 .rows, pre .0 .apart, pre .0 .known, first-fits (limits-first _ _ _) (pre .1))
+write-limits-requires c κs =
+    let pre = c .before .before .before .before .before .pre in
+    (pre .0 .rows, pre .0 .apart, pre .0 .known, first-fits (limits-first _ _ _) (pre .1))
 
 sub-write-minimal : tie.Need-sub-write-minimal
 sub-write-minimal c =

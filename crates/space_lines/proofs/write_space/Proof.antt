@@ -11,11 +11,15 @@ abbrev entry : tie.After-write-space → tie.Start
 entry c = c .before .before .before .before .before .before
 
 write-space-requires : tie.Need-write-space-requires
-write-space-requires c κs = let pre = c .before .before .before .before .before .pre in first-fits (space-first _ _ _ _ _ _) (pre .1)
+write-space-requires c κs =
+    let s = c .before .before .before .before .before in
+    first-fits (space-first _ _ _ (s .args .number) _ _) (s .pre .1)
 
 sub-write-conditions : tie.Need-sub-write-conditions
 sub-write-conditions c =
-    let written = c .before .before in rest-inside (space-first _ _ _ _ _ _) (entry written .pre .1) (written .write-space .ensures)
+    let written = c .before .before in
+    let s = entry written in
+    rest-inside (space-first _ _ _ (s .args .number) _ _) (s .pre .1) (written .write-space .ensures)
 
 part-write-conditions-start : tie.Need-part-write-conditions-start
 part-write-conditions-start c = sub-write-conditions c
@@ -26,8 +30,8 @@ part-write-conditions-end c = search needs
 write-conditions-requires : tie.Need-write-conditions-requires
 write-conditions-requires c κs =
     let written = c .before .before .before in
-    let pre = entry written .pre in
-    (pre .0, second-fits (space-first _ _ _ _ _ _) (pre .1) (written .write-space .ensures))
+    let s = entry written in
+    (s .pre .0, second-fits (space-first _ _ _ (s .args .number) _ _) (s .pre .1) (written .write-space .ensures))
 
 same-length : tie.Need-same-length
 same-length c = search needs
@@ -35,7 +39,8 @@ same-length c = search needs
 returns : tie.Need-returns
 returns c =
     let written = c .before .before .before .before .before .before in
-    both (space-first _ _ _ _ _ _) (entry written .pre .1) (written .write-space .ensures) (c .before .before .write-conditions .ensures)
+    let s = entry written in
+    both (space-first _ _ _ (s .args .number) _ _) (s .pre .1) (written .write-space .ensures) (c .before .before .write-conditions .ensures)
 
 add-result : tie.Need-add-result
 add-result c = let whole = returns c in omega arith

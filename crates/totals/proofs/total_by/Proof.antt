@@ -40,8 +40,9 @@ shared-slice-read-if2 c = search needs
 
 returns-2 : tie.Need-returns-2 Inv-loop μ-loop
 returns-2 c =
-    let l = c .before .before .before .loop in
-    another _ _ _ _ _ (l .i) (c .before .before .loop-test .taken) (c .if2 .taken) (l .inv .0)
+    let at-loop = c .before .before .before in
+    let l = at-loop .loop in
+    another _ _ _ (at-loop .before .before .before .args .members) _ (l .i) (c .before .before .loop-test .taken) (c .if2 .taken) (l .inv .0)
 
 add-i : tie.Need-add-i Inv-loop μ-loop
 add-i c = search needs
@@ -73,7 +74,9 @@ add-result : tie.Need-add-result Inv-loop μ-loop
 add-result c = omega (arith, small (c .before))
 
 returns-3 : tie.Need-returns-3 Inv-loop μ-loop
-returns-3 c = let l = c .before .loop in one-number _ _ _ _ _ (l .i) (c .loop-test .left) (l .inv .0)
+returns-3 c =
+    let l = c .before .loop in
+    one-number _ _ _ (c .before .before .before .before .args .members) _ (l .i) (c .loop-test .left) (l .inv .0)
 
 pub total-by-spec : {M : Type 1} → statement M
 total-by-spec =

@@ -21,7 +21,7 @@ abbrev μ-loop : tie.MeasureT-loop
 μ-loop out₀ table count own arities at₀ column₀ out at column = length own - column
 
 returns : tie.Need-returns Inv-loop μ-loop
-returns c = no-limits _ _ _ _ _ (c .if1 .taken)
+returns c = no-limits _ _ _ _ (c .if1 .taken)
 
 loop-holds : tie.Need-loop-holds Inv-loop μ-loop
 loop-holds c =
@@ -43,7 +43,9 @@ part-write-limit-of-end : tie.Need-part-write-limit-of-end Inv-loop μ-loop
 part-write-limit-of-end c = search needs
 
 shared-slice-read-write-limit-of : tie.Need-shared-slice-read-write-limit-of Inv-loop μ-loop
-shared-slice-read-write-limit-of c = index-below _ _ _ (c .before .before .before .before .before .before .before .before .before .before .pre .2) (c .before .before .before .loop-test .taken)
+shared-slice-read-write-limit-of c =
+    let pre = c .before .before .before .before .before .before .before .before .before .before .pre in
+    index-below _ _ _ (pre .2) (c .before .before .before .loop-test .taken)
 
 write-limit-of-requires : tie.Need-write-limit-of-requires Inv-loop μ-loop
 write-limit-of-requires c κs =
@@ -72,7 +74,7 @@ same-length : tie.Need-same-length Inv-loop μ-loop
 same-length c = search needs
 
 returns-2 : tie.Need-returns-2 Inv-loop μ-loop
-returns-2 c = finish (c .before .loop .inv .0) (limits-end _ _ _ _ _ (c .loop-test .left))
+returns-2 c = finish (c .before .loop .inv .0) (limits-end _ _ _ _ (c .before .loop .column) (c .loop-test .left))
 
 pub write-limits-spec : {M : Type 1} → statement M
 write-limits-spec =

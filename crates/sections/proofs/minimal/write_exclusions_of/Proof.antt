@@ -43,7 +43,8 @@ mul-common : tie.Need-mul-common Inv-loop μ-loop
 mul-common c = omega (arith, c .shared-slice-known4 .given (c .before .before .loop .k))
 
 shared-slice-read-common : tie.Need-shared-slice-read-common Inv-loop μ-loop
-shared-slice-read-common c = index-below _ _ _ (c .before .before .before .before .before .before .before .before .pre .1) (c .before .before .loop-test .taken)
+shared-slice-read-common c =
+    index-below _ _ _ (c .before .before .before .before .before .before .before .before .pre .1) (c .before .before .loop-test .taken)
 
 common-requires : tie.Need-common-requires Inv-loop μ-loop
 common-requires c κs = search needs
@@ -54,7 +55,8 @@ loop-less c = search needs
 loop-again : tie.Need-loop-again Inv-loop μ-loop
 loop-again c =
     let l = c .before .before .before .before .before .loop in
-    (remains-as (exclusion-skipped _ _ _ (l .k) (c .before .before .before .before .loop-test .taken) (c .before .common .ensures) (c .if1 .taken)) (l .inv .0), search needs)
+    let known = c .before .before .before .before .loop-test .taken in
+    (remains-as (exclusion-skipped _ _ _ (l .k) known (c .before .common .ensures) (c .if1 .taken)) (l .inv .0), search needs)
 
 sub-write-exclusion : tie.Need-sub-write-exclusion Inv-loop μ-loop
 sub-write-exclusion c = search needs
@@ -68,17 +70,18 @@ part-write-exclusion-end c = search needs
 write-exclusion-requires : tie.Need-write-exclusion-requires Inv-loop μ-loop
 write-exclusion-requires c κs =
     let l = c .before .before .before .before .before .before .loop in
-    next-fits (l .inv .0) (exclusion-next _ _ _ (l .k) (c .before .before .before .before .before .loop-test .taken) (c .before .before .common .ensures) (c .before .if1 .left))
+    let known = c .before .before .before .before .before .loop-test .taken in
+    next-fits (l .inv .0) (exclusion-next _ _ _ (l .k) known (c .before .before .common .ensures) (c .before .if1 .left))
 
 loop-less-2 : tie.Need-loop-less-2 Inv-loop μ-loop
 loop-less-2 c = search needs
 
 loop-again-2 : tie.Need-loop-again-2 Inv-loop μ-loop
 loop-again-2 c =
-    let l = c .before .before .before .before .before .before .before .before .before .loop in (
-      next (l .inv .0)
-          (exclusion-next _ _ _ (l .k) (c .before .before .before .before .before .before .before .before .loop-test .taken) (c .before .before .before .before .before .common .ensures) (c .before .before .before .before .if1 .left))
-          (c .before .before .write-exclusion .ensures),
+    let apart = c .before .before .before .before in
+    let known = apart .before .before .before .before .loop-test .taken in
+    let l = apart .before .before .before .before .before .loop in (
+      next (l .inv .0) (exclusion-next _ _ _ (l .k) known (apart .before .common .ensures) (apart .if1 .left)) (c .before .before .write-exclusion .ensures),
       search needs,
     )
 
