@@ -69,7 +69,7 @@ module _ {p : Prepared} {deletes adds counts : List ℕ} where
         is ∙ ap (foundTotals number p f nowConditions) (entered t preconditions given) ∙ totals-with (found-for given)
 
 -- after the last space they are the task's
-pub entered-all : (p : Prepared) (deletes adds counts : List ℕ) {number : ℕ} (fixed : List ℕ) → p .spaces .count ≤ number
+pub entered-all : {p : Prepared} {deletes adds counts : List ℕ} {number : ℕ} {fixed : List ℕ} → p .spaces .count ≤ number
     → Entered p deletes adds counts number fixed
     → (t : Task) (preconditions : List ℕ) → Given t p preconditions deletes adds counts → fixed ≡ fixedTable t
-entered-all p deletes adds counts fixed h entered t preconditions given = entered t preconditions given ∙ totals-all given h
+entered-all h entered t preconditions given = entered t preconditions given ∙ totals-all given h

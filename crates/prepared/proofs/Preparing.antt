@@ -14,6 +14,7 @@ use Rattle.properties.specs.declared.Numbering.{Numbering}
 use Rattle.properties.specs.Represented.{Numbers, objectBags}
 use Rattle.properties.specs.Tables.{rowsBefore}
 use Rattle.properties.specs.Parameters.{parametersIn, bagsOver, RoomForBags, ParameterTables}
+use Rattle.spaces.specs.declared.Spaces.{Spaces}
 use Rattle.spaces.specs.SpaceTable.{spacesIn, SpacesOf}
 use Rattle.spaces.specs.Tabled.{TablesOf}
 use Rattle.spaces.proofs.Held.{tables-held}
@@ -68,5 +69,6 @@ module _ (task : Task) (r : Represented task (taskOf task)) {count size : ℕ} {
   unfolding taskOf
   holds = subst (λ (n : ℕ). TablesOf t n count (t .objects) p d a c) (sym counted) (tables-held t few counts written bags)
 
-  pub spaces-are : RoomForBags count p d a → SpacesOf t (spacesIn size count (task .objects) p d a c)
-  spaces-are room = spaces-of-task holds (sizes-few .0) room
+  -- and its spaces are found in them
+  pub spaces-are : {found : Spaces} → found ≡ spacesIn size count (task .objects) p d a c → RoomForBags count p d a → SpacesOf t found
+  spaces-are is room = subst (SpacesOf t) (sym is) (spaces-of-task holds (sizes-few .0) room)

@@ -95,7 +95,7 @@ same-length-3 : tie.Need-same-length-3 Inv-loop μ-loop
 same-length-3 c = c .before .loop .inv .2 .conditions-kept
 
 returns : tie.Need-returns Inv-loop μ-loop
-returns c = entered-all _ _ _ _ _ (c .loop-test .left) (c .before .loop .inv .0)
+returns c = entered-all (c .loop-test .left) (c .before .loop .inv .0)
 
 pub fixed-totals-spec : {M : Type 1} → statement M
 fixed-totals-spec =

@@ -41,20 +41,33 @@ totalled c = c .before .before .before .before .before .before .before .before .
 abbrev closed : tie.After-slice-known20 → tie.After-write-closing
 closed c = c .before .before
 
+-- and from the end of each: the space analysed or the totals entered, and the tables filled
+abbrev space-found : tie.After-slice-known16 → tie.After-analyse-space
+space-found c = analysed (written c .before)
+
+abbrev space-tables : tie.After-slice-known16 → tie.After-prepare
+space-tables c = filled-for (asked (space-found c .before) .before)
+
+abbrev closing-totals : tie.After-slice-known20 → tie.After-fixed-totals
+closing-totals c = totalled (closed c .before)
+
+abbrev closing-tables : tie.After-slice-known20 → tie.After-prepare
+closing-tables c = filled-for (closes (closing-totals c .before) .before)
+
 prepare-requires : tie.Need-prepare-requires
 prepare-requires c κs = search needs
 
 same-length : tie.Need-same-length
-same-length c = search needs
+same-length c = filled (c .before) .prepare .kept .1 .0
 
 same-length-2 : tie.Need-same-length-2
-same-length-2 c = search needs
+same-length-2 c = filled (c .before) .prepare .kept .1 .1 .0
 
 same-length-3 : tie.Need-same-length-3
-same-length-3 c = search needs
+same-length-3 c = filled (c .before) .prepare .kept .1 .1 .1 .0
 
 same-length-4 : tie.Need-same-length-4
-same-length-4 c = search needs
+same-length-4 c = filled (c .before) .prepare .kept .1 .1 .1 .1 .0
 
 returns : tie.Need-returns
 returns c =
@@ -76,34 +89,34 @@ write-space-section-requires c κs =
     (record { task = h .task; of = found-of h (found .ensures) (found .kept .1 .1 .1 .1 .1 .1 .1 .0) }, start tables .pre .1 .0)
 
 same-length-5 : tie.Need-same-length-5
-same-length-5 c = search needs
+same-length-5 c = written c .write-space-section .kept .0
 
 same-length-6 : tie.Need-same-length-6
-same-length-6 c = filled-for (asked (analysed (written c .before) .before) .before) .prepare .kept .1 .0
+same-length-6 c = space-tables c .prepare .kept .1 .0
 
 same-length-7 : tie.Need-same-length-7
-same-length-7 c = filled-for (asked (analysed (written c .before) .before) .before) .prepare .kept .1 .1 .0
+same-length-7 c = space-tables c .prepare .kept .1 .1 .0
 
 same-length-8 : tie.Need-same-length-8
-same-length-8 c = filled-for (asked (analysed (written c .before) .before) .before) .prepare .kept .1 .1 .1 .0
+same-length-8 c = space-tables c .prepare .kept .1 .1 .1 .0
 
 same-length-9 : tie.Need-same-length-9
-same-length-9 c = search needs
+same-length-9 c = space-tables c .prepare .kept .1 .1 .1 .1 .0
 
 same-length-10 : tie.Need-same-length-10
-same-length-10 c = search needs
+same-length-10 c = space-found c .analyse-space .kept .1 .1 .1 .1 .1 .0
 
 same-length-11 : tie.Need-same-length-11
-same-length-11 c = search needs
+same-length-11 c = space-found c .analyse-space .kept .1 .1 .1 .1 .1 .1 .0
 
 same-length-12 : tie.Need-same-length-12
-same-length-12 c = search needs
+same-length-12 c = space-found c .analyse-space .kept .1 .1 .1 .1 .1 .1 .1 .0
 
 returns-2 : tie.Need-returns-2
 returns-2 c =
-    let found = analysed (written c .before) in
+    let found = space-found c in
     let space = asked (found .before) in
-    let tables = filled-for (space .before) in
+    let tables = space-tables c in
     let given = tables-given (start tables .pre) (tables .prepare .ensures) (tables .prepare .kept .1) in
     let h = analysable-given given (start tables .pre .1 .1 .1 .1) (space .if2 .taken) in
     list-written _ _ _ _ (tables .prepare .ensures .spaces-are) (start tables .pre .1 .0) (known (space .before) .if1 .left) _ _
@@ -131,33 +144,33 @@ write-closing-requires c κs =
     )
 
 same-length-13 : tie.Need-same-length-13
-same-length-13 c = search needs
+same-length-13 c = closed c .write-closing .kept .0
 
 same-length-14 : tie.Need-same-length-14
-same-length-14 c = search needs
+same-length-14 c = closing-tables c .prepare .kept .1 .0
 
 same-length-15 : tie.Need-same-length-15
-same-length-15 c = search needs
+same-length-15 c = closing-tables c .prepare .kept .1 .1 .0
 
 same-length-16 : tie.Need-same-length-16
-same-length-16 c = search needs
+same-length-16 c = closing-tables c .prepare .kept .1 .1 .1 .0
 
 same-length-17 : tie.Need-same-length-17
-same-length-17 c = search needs
+same-length-17 c = closing-tables c .prepare .kept .1 .1 .1 .1 .0
 
 same-length-18 : tie.Need-same-length-18
-same-length-18 c = search needs
+same-length-18 c = closing-totals c .fixed-totals .kept .1 .1 .1 .1 .0
 
 same-length-19 : tie.Need-same-length-19
-same-length-19 c = search needs
+same-length-19 c = closing-totals c .fixed-totals .kept .1 .1 .1 .1 .1 .0
 
 same-length-20 : tie.Need-same-length-20
-same-length-20 c = search needs
+same-length-20 c = closing-totals c .fixed-totals .kept .1 .1 .1 .1 .1 .1 .0
 
 returns-3 : tie.Need-returns-3
 returns-3 c =
-    let choice = closes (totalled (closed c .before) .before) in
-    let tables = filled-for (choice .before) in
+    let choice = closes (closing-totals c .before) in
+    let tables = closing-tables c in
     let reached = known (choice .before) .if1 .left in
     list-written _ _ _ _ (tables .prepare .ensures .spaces-are) (start tables .pre .1 .0) reached _ _
     (closing-listed _ (tables .prepare .ensures .spaces-are) reached (choice .if2 .left) (closed c .write-closing .ensures))

@@ -14,6 +14,10 @@ use Rattle.prepared.proofs.analyse_space.Tie as tie
 abbrev entry : tie.After-own-properties → tie.Start
 entry c = c .before .before .before .before .before .before .before .before .before .before .before
 
+-- the analysis, from the end
+abbrev done : tie.After-slice-known6 → tie.After-analyse
+done c = c .before .before .before .before .before .before
+
 -- the own properties, as they are lent
 own-lent : (c : tie.After-own-properties)
     → take (c .own-properties .result .count - 0) (c .own-properties .result .properties)
@@ -58,19 +62,19 @@ analyse-requires c κs =
     analysable-space (entry own .pre) (own-lent own)
 
 same-length : tie.Need-same-length
-same-length c = search needs
+same-length c = done c .analyse .kept .1 .1 .1 .1 .1 .1 .0
 
 same-length-2 : tie.Need-same-length-2
-same-length-2 c = search needs
+same-length-2 c = done c .analyse .kept .1 .1 .1 .1 .1 .1 .1 .0
 
 same-length-3 : tie.Need-same-length-3
-same-length-3 c = search needs
+same-length-3 c = done c .analyse .kept .1 .1 .1 .1 .1 .1 .1 .1 .0
 
 returns : tie.Need-returns
 unfolding ownOfSpace
 returns c =
-    let own = c .before .before .before .before .before .before .before .before .before .before .before .before .before .before in
-    found-at (entry own .pre) (own-lent own) (own .own-properties .ensures) (c .before .before .before .before .before .before .analyse .ensures)
+    let own = done c .before .before .before .before .before .before .before .before in
+    found-at (entry own .pre) (own-lent own) (own .own-properties .ensures) (done c .analyse .ensures)
 
 pub analyse-space-spec : {M : Type 1} → statement M
 analyse-space-spec =

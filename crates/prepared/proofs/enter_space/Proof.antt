@@ -48,7 +48,7 @@ enter-totals-requires c κs =
     enterable-found (pre .0 .of) (own-lent (c .before)) (c .before .before .before .size .ensures) _ (pre .1)
 
 same-length : tie.Need-same-length
-same-length c = search needs
+same-length c = c .before .before .enter-totals .kept .0
 
 returns : tie.Need-returns
 returns c =

@@ -1,15 +1,14 @@
 -- The tables hold the task, and its spaces are those of the tables.
 use native.Mathlib.Omega.{arith}
-use mathlib.Core.Path.{sym, subst}
 use Rattle.card.specs.Represents.{taskOf}
-use Rattle.spaces.specs.SpaceTable.{SpacesOf}
 use Rattle.properties.proofs.TaskParts.{arities-right, schemas-right, facts-right}
 use Rattle.prepared.proofs.Preparing.{tables-are, bags-are, properties-counted, sizes-few, room-for, spaces-are}
 use borrow.Author.Needs.{needs}
 use Rattle.prepared.proofs.prepare.Statement.{statement}
 use Rattle.prepared.proofs.prepare.Tie as tie
 
--- earlier points of the function, each reached from the next: start, parameters' bags, objects' bags, properties counted
+-- earlier points of the function, each reached from the next: start, parameters' bags, objects' bags, properties counted; and the objects'
+-- bags from the end
 abbrev entry : tie.After-parameter-bags → tie.Start
 entry c = c .before .before .before .before .before .before .before .before
 
@@ -18,6 +17,9 @@ parameters c = c .before .before .before .before .before .before .before .before
 
 abbrev objects : tie.After-numbered → tie.After-object-bags
 objects c = c .before .before .before
+
+abbrev filled : tie.After-spaces-of → tie.After-object-bags
+filled c = objects (c .before .before .before .before .before .before)
 
 parameter-bags-requires : tie.Need-parameter-bags-requires
 unfolding taskOf
@@ -56,16 +58,16 @@ spaces-of-requires c κs =
     )
 
 same-length : tie.Need-same-length
-same-length c = search needs
+same-length c = parameters (filled c) .parameter-bags .kept .1 .1 .0
 
 same-length-2 : tie.Need-same-length-2
-same-length-2 c = search needs
+same-length-2 c = parameters (filled c) .parameter-bags .kept .1 .1 .1 .0
 
 same-length-3 : tie.Need-same-length-3
-same-length-3 c = search needs
+same-length-3 c = parameters (filled c) .parameter-bags .kept .1 .1 .1 .1 .0
 
 same-length-4 : tie.Need-same-length-4
-same-length-4 c = search needs
+same-length-4 c = filled c .object-bags .kept .1 .1 .1 .0
 
 returns : tie.Need-returns
 unfolding taskOf
@@ -85,9 +87,7 @@ returns c =
       counts-are = counts;
       properties-counted = counted;
       arities-are = c .before .before .before .before .before .property-arities .ensures;
-      spaces-are =
-          subst (SpacesOf (taskOf (entry called .args .task))) (sym (c .spaces-of .ensures))
-          (spaces-are _ (pre .0) _ tables counts counted room);
+      spaces-are = spaces-are _ (pre .0) _ tables counts counted (c .spaces-of .ensures) room;
     }
 
 pub prepare-spec : {M : Type 1} → statement M

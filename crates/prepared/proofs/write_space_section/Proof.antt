@@ -38,10 +38,11 @@ unfolding foundLines
 write-space-requires c κs =
     let s = entry (c .before .before .before) in
     let of = s .pre .0 .of in
-    rw (sub-zero (s .args .found .own .count)) (listable-found of, room-found of (λ i. omega (arith, c .before .before .before .before .before .before .before .before .before .before .shared-slice-known .given i)) _ (s .pre .1))
+    let table = c .before .before .before .before .before .before .before .before .before .before .shared-slice-known in
+    rw (sub-zero (s .args .found .own .count)) (listable-found of, room-found of (λ i. omega (arith, table .given i)) _ (s .pre .1))
 
 same-length : tie.Need-same-length
-same-length c = search needs
+same-length c = c .before .before .write-space .kept .0
 
 returns : tie.Need-returns
 unfolding foundLines
