@@ -24,6 +24,29 @@ abbrev listed : ℕ → List ℕ → Bool → Answer Task → Call
 listed number out room answer =
     finish out (answer >>= (λ t. need room 21 >> (need (ltb number (length (sections t))) 22 >> accepted (output (text (getD (sections t) number [])) out))))
 
+-- What is written to the first bytes of a buffer, and the bytes after them. This is stated for every number of bytes: at 65,536 the
+-- prover would count.
+module _ (size : ℕ) (out : List ℕ) (room : size ≤ length out) where
+  few-written : (bytes : List ℕ) → length (bytes ++ drop (length bytes) (take size out)) ≡ size → length bytes ≤ size
+  few-written bytes e = omega (arith, sym (length-append bytes (drop (length bytes) (take size out))) ∙ e)
+
+  offered-leaves : (there : Bool) (bytes : List ℕ) → length (offered (take size out) true there bytes .buffer) ≡ size
+      → offered (take size out) true there bytes .buffer ++ drop size out ≡ offered out true there bytes .buffer
+  unfolding finish _>>_ need output
+  offered-leaves true bytes l =
+      let few = few-written bytes l in
+      append-assoc bytes (drop (length bytes) (take size out)) (drop size out)
+      ∙ ap (λ (l : List ℕ). bytes ++ l)
+      (sym (drop-append-le (length bytes) (take size out) (drop size out) (omega (arith, length-take-le size out room)))
+      ∙ ap (drop (length bytes)) (take-append-drop size out))
+  offered-leaves false bytes l = take-append-drop size out
+
+  listed-leaves : (number : ℕ) (answer : Answer Task) → length (listed number (take size out) true answer .buffer) ≡ size
+      → listed number (take size out) true answer .buffer ++ drop size out ≡ listed number out true answer .buffer
+  listed-leaves number (refused k) l = unfold finish _>>=_ in take-append-drop size out
+  listed-leaves number (accepted t) l =
+      unfold _>>=_ in offered-leaves (ltb number (length (sections t))) (text (getD (sections t) number [])) (unfold _>>=_ in l)
+
 module _ (number : ℕ) where
   -- no section without room
   pub short-small : (card out : List ℕ) → length out < outputBytes → Small (section card number out .answer)
@@ -71,9 +94,6 @@ module _ (number : ℕ) where
       size : length (listed number first true (decode card) .buffer) ≡ outputBytes
       size = ap (λ (c : Call). length (c .buffer)) (sym on-first) ∙ ap length (sym written) ∙ kept ∙ first-length
 
-      within-first : (bytes : List ℕ) → length (bytes ++ drop (length bytes) first) ≡ outputBytes → length bytes ≤ outputBytes
-      within-first bytes e = omega (arith, sym (length-append bytes (drop (length bytes) first)) ∙ e)
-
       pub first-small : Small (section card number first .answer)
       first-small = record { within = λ n e. go (decode card) n size (ap (λ (c : Call). c .answer) (sym on-first) ∙ e) }
         where
@@ -81,7 +101,7 @@ module _ (number : ℕ) where
               → offered first true there bytes .answer ≡ accepted n → n ≤ outputBytes
           told true bytes n l e =
               let counted : length bytes ≡ n = one-value (unfold finish _>>_ need output in e) in
-              let few = within-first bytes (unfold finish _>>_ need output in l) in
+              let few = few-written outputBytes out room bytes (unfold finish _>>_ need output in l) in
               omega arith
           told false bytes n l e = not-accepted 22 n (unfold finish _>>_ need in e)
 
@@ -95,22 +115,4 @@ module _ (number : ℕ) where
       pub first-leaves : after ++ drop outputBytes out ≡ section card number out .buffer
       first-leaves =
           ap (λ (l : List ℕ). l ++ drop outputBytes out) (written ∙ ap (λ (c : Call). c .buffer) on-first)
-          ∙ go (decode card) size ∙ sym (ap (λ (c : Call). c .buffer) (has-room out room))
-        where
-          whole : first ++ drop outputBytes out ≡ out
-          whole = take-append-drop outputBytes out
-
-          told : (there : Bool) (bytes : List ℕ) → length (offered first true there bytes .buffer) ≡ outputBytes
-              → offered first true there bytes .buffer ++ drop outputBytes out ≡ offered out true there bytes .buffer
-          told true bytes l =
-              let few = within-first bytes (unfold finish _>>_ need output in l) in
-              unfold finish _>>_ need output in
-              append-assoc bytes (drop (length bytes) first) (drop outputBytes out)
-              ∙ ap (λ (l : List ℕ). bytes ++ l)
-              (sym (drop-append-le (length bytes) first (drop outputBytes out) (omega (arith, first-length))) ∙ ap (drop (length bytes)) whole)
-          told false bytes l = unfold finish _>>_ need in whole
-
-          go : (answer : Answer Task) → length (listed number first true answer .buffer) ≡ outputBytes
-              → listed number first true answer .buffer ++ drop outputBytes out ≡ listed number out true answer .buffer
-          go (refused k) l = unfold finish _>>=_ in whole
-          go (accepted t) l = unfold _>>=_ in told (ltb number (length (sections t))) (text (getD (sections t) number [])) (unfold _>>=_ in l)
+          ∙ listed-leaves outputBytes out room number (decode card) size ∙ sym (ap (λ (c : Call). c .buffer) (has-room out room))
