@@ -35,7 +35,7 @@ print-with-requires c κs =
     (pre .0, (pre .1, cleared-tables 11520 15120 (omega (arith, rows-few _ ok)) (omega (arith, rows-most _ ok))))
 
 same-length : tie.Need-same-length
-same-length c = search needs
+same-length c = c .before .before .before .before .before .before .before .before .before .print-with .kept .1 .1 .1 .1 .1 .1 .1 .1 .0
 
 returns : tie.Need-returns
 returns c = c .before .before .before .before .before .before .before .before .before .print-with .ensures .1

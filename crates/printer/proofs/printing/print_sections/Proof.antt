@@ -10,11 +10,11 @@ use Rattle.printer.proofs.printing.print_sections.Statement.{statement}
 use Rattle.printer.proofs.printing.print_sections.Tie as tie
 
 abbrev Inv-loop : tie.InvT-loop
-Inv-loop task prepared preconditions deletes adds counts starts₀ finishes₀ conditions₀ out₀ spaces last fixed₀ number₀ starts finishes conditions out fixed number =
+Inv-loop task prepared p d a c starts₀ finishes₀ conditions₀ out₀ spaces last fixed₀ number₀ starts finishes conditions out fixed number =
     (number ≤ last) × (Before (taskOf task) number fixed out₀ out × Kept starts₀ starts finishes₀ finishes conditions₀ conditions out₀ out)
 
 abbrev μ-loop : tie.MeasureT-loop
-μ-loop task prepared preconditions deletes adds counts starts₀ finishes₀ conditions₀ out₀ spaces last fixed₀ number₀ starts finishes conditions out fixed number =
+μ-loop task prepared p d a c starts₀ finishes₀ conditions₀ out₀ spaces last fixed₀ number₀ starts finishes conditions out fixed number =
     last - number
 
 -- earlier points of the function, each reached from the next: start, the loop; and the loop's test, from the call in it
@@ -37,7 +37,8 @@ print-space-requires c κs =
     let pre = entry loop .pre in
     let inv = loop .loop .inv .1 in
     let room = room-again (pre .1 .0) (inv .1) in
-    (analysable-given (pre .0 .given) room (c .before .before .before .before .before .loop-test .taken), (fixed-long (inv .0), omega (arith, pre .1 .1, inv .1 .out-kept)))
+    let known = c .before .before .before .before .before .loop-test .taken in
+    (analysable-given (pre .0 .given) room known, (fixed-long (inv .0), omega (arith, pre .1 .1, inv .1 .out-kept)))
 
 add-number : tie.Need-add-number Inv-loop μ-loop
 add-number c =

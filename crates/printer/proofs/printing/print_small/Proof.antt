@@ -36,7 +36,7 @@ print-with-requires c κs =
     (s .pre .0, (s .pre .1 .1, cleared-tables 1920 1920 (omega arith) (omega arith)))
 
 same-length : tie.Need-same-length
-same-length c = search needs
+same-length c = c .before .before .before .before .before .before .before .before .before .print-with .kept .1 .1 .1 .1 .1 .1 .1 .1 .0
 
 returns : tie.Need-returns
 returns c = c .before .before .before .before .before .before .before .before .before .print-with .ensures .1

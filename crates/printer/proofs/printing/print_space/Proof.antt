@@ -7,7 +7,7 @@ use Rattle.printer.proofs.Turns.{space-printed}
 use Rattle.printer.proofs.printing.print_space.Statement.{statement}
 use Rattle.printer.proofs.printing.print_space.Tie as tie
 
--- earlier points of the function, each reached from the next: start, the space analysed, its totals entered
+-- earlier points of the function, each reached from the next: start, the space analysed, its totals entered, its section written
 abbrev entry : tie.After-analyse-space → tie.Start
 entry c = c .before .before .before .before .before .before .before .before .before .before .before .before
 
@@ -16,6 +16,9 @@ analysed c = c .before .before .before .before .before .before .before .before .
 
 abbrev entered : tie.After-write-space-section → tie.After-enter-space
 entered c = c .before .before .before .before .before
+
+abbrev written : tie.After-write-all → tie.After-write-space-section
+written c = c .before .before .before .before .before
 
 analyse-space-requires : tie.Need-analyse-space-requires
 analyse-space-requires c κs = search needs
@@ -49,27 +52,26 @@ write-all-requires : tie.Need-write-all-requires
 write-all-requires c κs = search needs
 
 same-length : tie.Need-same-length
-same-length c = search needs
+same-length c = analysed (entered (written c)) .analyse-space .kept .1 .1 .1 .1 .1 .0
 
 same-length-2 : tie.Need-same-length-2
-same-length-2 c = search needs
+same-length-2 c = analysed (entered (written c)) .analyse-space .kept .1 .1 .1 .1 .1 .1 .0
 
 same-length-3 : tie.Need-same-length-3
-same-length-3 c = search needs
+same-length-3 c = analysed (entered (written c)) .analyse-space .kept .1 .1 .1 .1 .1 .1 .1 .0
 
 same-length-4 : tie.Need-same-length-4
-same-length-4 c = search needs
+same-length-4 c = entered (written c) .enter-space .kept .0
 
 same-length-5 : tie.Need-same-length-5
-same-length-5 c = search needs
+same-length-5 c = written c .write-space-section .kept .0
 
 returns : tie.Need-returns
 returns c =
-    let written = c .before .before .before .before .before in
-    let totalled = entered written in
+    let totalled = entered (written c) in
     let found = analysed totalled in
     space-printed (entry found .pre .0) (found .analyse-space .ensures) (found .analyse-space .kept .1 .1 .1 .1 .1 .1 .1 .0)
-    (totalled .enter-space .ensures) (written .write-space-section .ensures)
+    (totalled .enter-space .ensures) (written c .write-space-section .ensures)
 
 pub print-space-spec : {M : Type 1} → statement M
 print-space-spec =

@@ -5,7 +5,10 @@ use Rattle.printer.proofs.Turns.{filled}
 use Rattle.printer.proofs.printing.print_with.Statement.{statement}
 use Rattle.printer.proofs.printing.print_with.Tie as tie
 
--- the call of `prepare`, from the one that prints
+-- the call that prints, from the end, and the call of `prepare`, from there
+abbrev printed : tie.After-slice-known16 → tie.After-print-sections
+printed c = c .before .before .before .before .before .before .before .before
+
 abbrev preparing : tie.After-print-sections → tie.After-prepare
 preparing c = c .before .before .before .before .before .before .before .before .before .before .before .before .before .before .before .before .before
 
@@ -27,33 +30,31 @@ print-sections-requires c κs =
     )
 
 same-length : tie.Need-same-length
-same-length c = search needs
+same-length c = preparing (printed c) .prepare .kept .1 .0
 
 same-length-2 : tie.Need-same-length-2
-same-length-2 c = search needs
+same-length-2 c = preparing (printed c) .prepare .kept .1 .1 .0
 
 same-length-3 : tie.Need-same-length-3
-same-length-3 c = search needs
+same-length-3 c = preparing (printed c) .prepare .kept .1 .1 .1 .0
 
 same-length-4 : tie.Need-same-length-4
-same-length-4 c = search needs
+same-length-4 c = preparing (printed c) .prepare .kept .1 .1 .1 .1 .0
 
 same-length-5 : tie.Need-same-length-5
-same-length-5 c = search needs
+same-length-5 c = printed c .print-sections .kept .1 .1 .1 .1 .1 .1 .0
 
 same-length-6 : tie.Need-same-length-6
-same-length-6 c = search needs
+same-length-6 c = printed c .print-sections .kept .1 .1 .1 .1 .1 .1 .1 .0
 
 same-length-7 : tie.Need-same-length-7
-same-length-7 c = search needs
+same-length-7 c = printed c .print-sections .kept .1 .1 .1 .1 .1 .1 .1 .1 .0
 
 same-length-8 : tie.Need-same-length-8
-same-length-8 c = search needs
+same-length-8 c = printed c .print-sections .kept .1 .1 .1 .1 .1 .1 .1 .1 .1 .0
 
 returns : tie.Need-returns
-returns c =
-    let printed = c .before .before .before .before .before .before .before .before in
-    (filled (preparing printed .prepare .ensures), printed .print-sections .ensures)
+returns c = (filled (preparing (printed c) .prepare .ensures), printed c .print-sections .ensures)
 
 pub print-with-spec : {M : Type 1} → statement M
 print-with-spec =
