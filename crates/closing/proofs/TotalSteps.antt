@@ -16,7 +16,8 @@ use Rattle.properties.proofs.Predicates.{sum-arities}
 use Rattle.closing.specs.Fixed.{firstSome, totalLine, totalFound}
 use Rattle.closing.proofs.FirstTotals.{line-of, line-of-none}
 
-module _ (predicates : ArityList) (right : AritiesRight predicates) (p first : ℕ) (h : p < predicates .count) (begins : first ≡ sum (take p (aritiesOf predicates))) where
+module _ (predicates : ArityList) (right : AritiesRight predicates) (p first : ℕ) (h : p < predicates .count)
+    (begins : first ≡ sum (take p (aritiesOf predicates))) where
   arity-is : getD (aritiesOf predicates) p 0 ≡ getD (predicates .arities) p 0
   unfolding aritiesOf
   arity-is = getD-entries (predicates .count) 0 (predicates .arities) p h

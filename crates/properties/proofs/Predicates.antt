@@ -46,7 +46,8 @@ module _ (predicates : ArityList) (firsts : List ℕ) (right : AritiesRight pred
   placed p there =
       let arities = aritiesOf predicates in
       let few = right .few in
-      let is : getD (predicates .arities) p 0 ≡ getD arities p 0 = unfold aritiesOf in sym (getD-entries (predicates .count) 0 (predicates .arities) p inside) in
+      let is : getD (predicates .arities) p 0 ≡ getD arities p 0 =
+      unfold aritiesOf in sym (getD-entries (predicates .count) 0 (predicates .arities) p inside) in
       let range = all-at (between 1 3) arities (right .in-range) (getD arities p 0) (mem-getD arities p 0 there) in
       let low = between-low 1 3 (getD arities p 0) range in
       let high = between-high 1 3 (getD arities p 0) range in

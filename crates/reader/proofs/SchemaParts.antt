@@ -15,6 +15,7 @@ use Rattle.card.specs.Represents.{refusalNumber, entries, atomsOf, atomsFor, sc
 use Rattle.reader_bytes.specs.declared.Cursor.{Cursor}
 use Rattle.reader_bytes.specs.declared.Step.{Step}
 use Rattle.reader_bytes.specs.declared.Step.the-variants.{At}
+use Rattle.card.specs.declared.ListField.{ListField}
 use Rattle.card.specs.declared.ListField.the-variants.{Preconditions, Deletes, Adds}
 use Rattle.card.specs.Fields.{fieldTest}
 use Rattle.reader_bytes.specs.Reads.{Reads}
@@ -57,34 +58,46 @@ pub no-list-kept : (arities : List ℕ) {l : AtomList} → l ≡ atomsFor [] →
 unfolding atomsFor atomsOf entries
 no-list-kept arities e = subst⁻¹ (λ l. AtomsKept arities l) e (record { few = omega arith; kept = refl })
 
-module _ (arities : List ℕ) (bits parameters : ℕ) (none-yet : List model.Atom) (s : List ℕ) where
+-- what the lists of a schema are read by: its map of bits, its number of parameters, and the bytes from the first list on;
+-- the preconditions are read with no list before them
+pub record ListsRead : Type 0 where
+  pub arities : List ℕ
+  pub bits : ℕ
+  pub parameters : ℕ
+  pub none-yet : List model.Atom
+  pub bytes : List ℕ
+
+module _ (r : ListsRead) where
+  -- an atom of a list, and the answer
+  abbrev atom-of : ListField → List model.Atom → Option model.Atom → model.Reader model.Atom
+  atom-of = fieldAtom (r .arities) (r .parameters)
+
+  abbrev answer : Answer (model.Schema × List ℕ)
+  answer = model.schemaLists (r .arities) (r .bits) (r .parameters) (r .bytes)
+
   -- the preconditions are refused
-  pub preconditions-refused : {k : ℕ} → model.list (model.bit 1 bits) (fieldAtom arities parameters Preconditions none-yet) s ≡ refused k
-      → model.schemaLists arities bits parameters s ≡ refused k
+  pub preconditions-refused : {k : ℕ} → model.list (model.bit 1 (r .bits)) (atom-of Preconditions (r .none-yet)) (r .bytes) ≡ refused k → answer ≡ refused k
   unfolding model.schemaLists fieldAtom fieldTest refusalNumber
   preconditions-refused e = halts _ e
 
-  module _ {preconditions : List model.Atom} (s₁ : List ℕ)
-      (e : model.list (model.bit 1 bits) (fieldAtom arities parameters Preconditions none-yet) s ≡ accepted (preconditions, s₁)) where
+  module _ {preconditions : List model.Atom} {s₁ : List ℕ}
+      (e : model.list (model.bit 1 (r .bits)) (atom-of Preconditions (r .none-yet)) (r .bytes) ≡ accepted (preconditions, s₁)) where
     -- the deletes are refused
-    pub deletes-refused : {k : ℕ} → model.list (model.bit 2 bits) (fieldAtom arities parameters Deletes preconditions) s₁ ≡ refused k
-        → model.schemaLists arities bits parameters s ≡ refused k
+    pub deletes-refused : {k : ℕ} → model.list (model.bit 2 (r .bits)) (atom-of Deletes preconditions) s₁ ≡ refused k → answer ≡ refused k
     unfolding model.schemaLists fieldAtom fieldTest refusalNumber
     deletes-refused f = goes _ e ∙ halts _ f
 
-    module _ {deletes : List model.Atom} (s₂ : List ℕ)
-        (f : model.list (model.bit 2 bits) (fieldAtom arities parameters Deletes preconditions) s₁ ≡ accepted (deletes, s₂)) where
+    module _ {deletes : List model.Atom} {s₂ : List ℕ}
+        (f : model.list (model.bit 2 (r .bits)) (atom-of Deletes preconditions) s₁ ≡ accepted (deletes, s₂)) where
       -- the adds are refused
-      pub adds-refused : {k : ℕ} → model.list (model.bit 3 bits) (fieldAtom arities parameters Adds preconditions) s₂ ≡ refused k
-          → model.schemaLists arities bits parameters s ≡ refused k
+      pub adds-refused : {k : ℕ} → model.list (model.bit 3 (r .bits)) (atom-of Adds preconditions) s₂ ≡ refused k → answer ≡ refused k
       unfolding model.schemaLists fieldAtom fieldTest refusalNumber
       adds-refused g = goes _ e ∙ goes _ f ∙ halts _ g
 
       -- all three are read
       pub lists-read : {adds : List model.Atom} {s₃ : List ℕ}
-          → model.list (model.bit 3 bits) (fieldAtom arities parameters Adds preconditions) s₂ ≡ accepted (adds, s₃)
-          → model.schemaLists arities bits parameters s
-          ≡ accepted (record { parameters = parameters; preconditions = preconditions; deletes = deletes; adds = adds }, s₃)
+          → model.list (model.bit 3 (r .bits)) (atom-of Adds preconditions) s₂ ≡ accepted (adds, s₃)
+          → answer ≡ accepted (record { parameters = r .parameters; preconditions = preconditions; deletes = deletes; adds = adds }, s₃)
       unfolding model.schemaLists fieldAtom fieldTest refusalNumber
       lists-read g = goes _ e ∙ goes _ f ∙ goes _ g
 

@@ -8,7 +8,7 @@ use mathlib.Core.Path.{_≡_, refl, ap, _∙_, sym}
 use lib.ListN.{length, length-map}
 use Rattle.laws.proofs.Padded.{length-padded}
 use Rattle.laws.specs.Lists.{padded}
-use Rattle.model.specs.Answer.{refused, accepted}
+use Rattle.model.specs.Answer.{Answer, refused, accepted}
 use Rattle.model.specs.Card as model
 use Rattle.card.specs.declared.Atom.{Atom}
 use Rattle.card.specs.declared.AtomList.{AtomList}
@@ -62,27 +62,41 @@ belongs-bytes arities a Preconditions l ka k = refl
 belongs-bytes arities a Deletes l ka k = has-bytes arities a _ ka (list-exact k)
 belongs-bytes arities a Adds l ka k = ap not (has-bytes arities a _ ka (list-exact k))
 
-module _ (arities : List ℕ) (parameters : ℕ) (field : ListField) (preconditions : List model.Atom) (previous : Option model.Atom) (s : List ℕ) where
+-- what an atom of a schema's list is read by: the schema's own list before it, the atom before it, and the bytes from it on
+pub record FieldRead : Type 0 where
+  pub arities : List ℕ
+  pub parameters : ℕ
+  pub field : ListField
+  pub preconditions : List model.Atom
+  pub previous : Option model.Atom
+  pub bytes : List ℕ
+
+module _ (r : FieldRead) where
+  -- the atom as such, and the answer
+  abbrev bare : Answer (model.Atom × List ℕ)
+  bare = model.atom (r .arities) (r .parameters) 7 (r .bytes)
+
+  abbrev answer : Answer (model.Atom × List ℕ)
+  answer = fieldAtom (r .arities) (r .parameters) (r .field) (r .preconditions) (r .previous) (r .bytes)
+
   -- the atom is refused
-  pub field-ends : {k : ℕ} → model.atom arities parameters 7 s ≡ refused k
-      → fieldAtom arities parameters field preconditions previous s ≡ refused k
+  pub field-ends : {k : ℕ} → bare ≡ refused k → answer ≡ refused k
   unfolding fieldAtom model.schemaAtom
   field-ends e = halts _ e
 
-  module _ {a : model.Atom} {s₁ : List ℕ} (e : model.atom arities parameters 7 s ≡ accepted (a, s₁)) where
+  module _ {a : model.Atom} {s₁ : List ℕ} (e : bare ≡ accepted (a, s₁)) where
     -- 8: it is not above the one before
-    pub field-unordered : model.above previous a ≡ false → fieldAtom arities parameters field preconditions previous s ≡ refused 8
+    pub field-unordered : model.above (r .previous) a ≡ false → answer ≡ refused 8
     unfolding fieldAtom model.schemaAtom
     field-unordered o = goes _ e ∙ fails _ _ o
 
     -- 9, 10: its own list's check fails
-    pub field-strange : model.above previous a ≡ true → fieldTest field preconditions a ≡ false
-        → fieldAtom arities parameters field preconditions previous s ≡ refused (refusalNumber (fieldRefusal field))
+    pub field-strange : model.above (r .previous) a ≡ true → fieldTest (r .field) (r .preconditions) a ≡ false
+        → answer ≡ refused (refusalNumber (fieldRefusal (r .field)))
     unfolding fieldAtom model.schemaAtom
     field-strange o t = goes _ e ∙ need-both _ _ o ∙ fails _ _ t
 
-    pub field-passes : model.above previous a ≡ true → fieldTest field preconditions a ≡ true
-        → fieldAtom arities parameters field preconditions previous s ≡ accepted (a, s₁)
+    pub field-passes : model.above (r .previous) a ≡ true → fieldTest (r .field) (r .preconditions) a ≡ true → answer ≡ accepted (a, s₁)
     unfolding fieldAtom model.schemaAtom
     field-passes o t = goes _ e ∙ need-both _ _ o ∙ need-both _ _ t
 

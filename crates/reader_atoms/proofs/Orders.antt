@@ -90,7 +90,8 @@ module _
     (a b : Atom) where
   same-arity : (n : ℕ) → Filled n a → Filled n b → f (take n (argumentPlaces a)) (take n (argumentPlaces b)) ≡ f (argumentPlaces a) (argumentPlaces b)
   same-arity n ka kb =
-      let l : length (take n (argumentPlaces a)) ≡ length (take n (argumentPlaces b)) = length-take n (argumentPlaces a) ∙ sym (length-take n (argumentPlaces b)) in
+      let l : length (take n (argumentPlaces a)) ≡ length (take n (argumentPlaces b)) =
+      length-take n (argumentPlaces a) ∙ sym (length-take n (argumentPlaces b)) in
       sym (ends (take n (argumentPlaces a)) (take n (argumentPlaces b)) (drop n (0 ∷ 0 ∷ 0 ∷ [])) l)
       ∙ ap₂ f (sym (places-filled n a ka)) (sym (places-filled n b kb))
 

@@ -26,20 +26,21 @@ module _ (arities : List ℕ) (size : ℕ) (read : Option model.Atom → model.R
     pub last : previousOf arities previous ≡ lastOf none (map (atomOf arities) (take i array))
     pub kept : PreviousKept arities previous
 
-  -- nothing is read yet
-  pub ordered-starts : {array : List Atom} {at : ℕ} → n ≤ size → at ≤ length card → start ≡ drop at card → array ≡ replicate size blankAtom
-      → Ordered array 0 at Nothing
-  unfolding previousOf previousFor lastOf
-  ordered-starts {array} {at} few within here blank =
-      record {
-        within = within;
-        filling =
-            subst (λ s. Filling (atomOf arities) atomFor blankAtom size read n start array 0 s) here
-            (subst (λ a. Filling (atomOf arities) atomFor blankAtom size read n start a 0 start) (sym blank)
-            (filling-starts (atomOf arities) atomFor blankAtom size read n start few));
-        last = refl;
-        kept = refl;
-      }
+-- nothing is read yet
+pub ordered-starts : {arities : List ℕ} {size : ℕ} {read : Option model.Atom → model.Reader model.Atom} {n : ℕ} {start card : List ℕ}
+    {array : List Atom} {at : ℕ} → n ≤ size → at ≤ length card → start ≡ drop at card → array ≡ replicate size blankAtom
+    → Ordered arities size read n start card array 0 at Nothing
+unfolding previousOf previousFor lastOf
+ordered-starts {arities} {size} {read} {n} {start} {array = array} few within here blank =
+    record {
+      within = within;
+      filling =
+          subst (λ s. Filling (atomOf arities) atomFor blankAtom size read n start array 0 s) here
+          (subst (λ a. Filling (atomOf arities) atomFor blankAtom size read n start a 0 start) (sym blank)
+          (filling-starts (atomOf arities) atomFor blankAtom size read n start few));
+      last = refl;
+      kept = refl;
+    }
 
 module _ {arities : List ℕ} {size : ℕ} {read : Option model.Atom → model.Reader model.Atom} {n : ℕ} {start card : List ℕ}
     {array : List Atom} {i at : ℕ} {previous : Previous} {r : AtomRead} (o : Ordered arities size read n start card array i at previous) (more : i < n)

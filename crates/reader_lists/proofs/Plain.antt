@@ -10,22 +10,23 @@ use Rattle.reader_bytes.specs.declared.Cursor.{Cursor}
 use Rattle.reader_atoms.proofs.Filling.{Filling, filling-starts, filling-goes-on, filling-stops}
 
 module _ {A B : Type 0} (value : B → A) (keep : A → B) (blank : B) (size : ℕ) (read : model.Reader A) (n : ℕ) (start card : List ℕ) where
-  abbrev Fills : List B → ℕ → List ℕ → Type 0
-  Fills = Filling value keep blank size (λ previous. read) n start
-
   -- i of n items are read, up to a place on the card
   pub record Plain (array : List B) (i at : ℕ) : Type 0 where
     pub within : at ≤ length card
     pub filling : Filling value keep blank size (λ previous. read) n start array i (drop at card)
 
+module _ {A B : Type 0} {value : B → A} {keep : A → B} {blank : B} {size : ℕ} {read : model.Reader A} {n : ℕ} {start card : List ℕ}
+    {array : List B} {at : ℕ} where
   -- nothing is read yet
-  pub plain-starts : {array : List B} {at : ℕ} → n ≤ size → at ≤ length card → start ≡ drop at card → array ≡ replicate size blank → Plain array 0 at
-  plain-starts {array} few within here blanks =
+  pub plain-starts : n ≤ size → at ≤ length card → start ≡ drop at card → array ≡ replicate size blank
+      → Plain value keep blank size read n start card array 0 at
+  plain-starts few within here blanks =
       record {
         within = within;
         filling =
-            subst (λ s. Fills array 0 s) here
-            (subst (λ a. Fills a 0 start) (sym blanks) (filling-starts value keep blank size (λ previous. read) n start few));
+            subst (λ s. Filling value keep blank size (λ previous. read) n start array 0 s) here
+            (subst (λ a. Filling value keep blank size (λ previous. read) n start a 0 start) (sym blanks)
+            (filling-starts value keep blank size (λ previous. read) n start few));
       }
 
 module _ {A B : Type 0} {value : B → A} {keep : A → B} {blank : B} {size : ℕ} {read : model.Reader A} {n : ℕ} {start card : List ℕ}

@@ -38,37 +38,51 @@ module _ (groups : List ℕ) (objects : ℕ) (old masks : List ℕ) (p : Bag) wh
       ap (foldl (joinAt groups (enabledBy groups objects old p)) masks) (sym (none-first size changed (changed-below d a) h))
       ∙ gain-some (bagAt size deletes row) (bagAt size adds row) e
 
--- Rounds left of so many, done with the members so far: the answer stays the same.
-module _ (groups : List ℕ) (objects size count : ℕ) (p d a : List ℕ) where
+-- what the rounds go over: the groups, the number of objects, and the first `size` columns of the first `count` rows of the tables P, D and A
+pub record Rounds : Type 0 where
+  pub groups : List ℕ
+  pub objects : ℕ
+  pub size : ℕ
+  pub count : ℕ
+  pub preconditions : List ℕ
+  pub deletes : List ℕ
+  pub adds : List ℕ
+
+-- Rounds left, done with the members so far: the answer stays the same.
+module _ (r : Rounds) where
+  -- the members after one round, and after several
+  abbrev pub round : List ℕ → List ℕ
+  round = roundIn (r .groups) (r .objects) (r .size) (r .count) (r .preconditions) (r .deletes) (r .adds)
+
+  abbrev pub rounds : ℕ → List ℕ → List ℕ
+  rounds = roundsIn (r .groups) (r .objects) (r .size) (r .count) (r .preconditions) (r .deletes) (r .adds)
+
   -- a round that adds nothing is the last
-  pub rounds-fixed : (n : ℕ) (masks : List ℕ) → roundIn groups objects size count p d a masks ≡ masks → roundsIn groups objects size count p d a n masks ≡ masks
+  pub rounds-fixed : (n : ℕ) (masks : List ℕ) → round masks ≡ masks → rounds n masks ≡ masks
   unfolding roundsIn
   rounds-fixed zero masks e = refl
-  rounds-fixed (suc n) masks e = ap (roundsIn groups objects size count p d a n) e ∙ rounds-fixed n masks e
+  rounds-fixed (suc n) masks e = ap (rounds n) e ∙ rounds-fixed n masks e
 
-  module _ (answer : List ℕ) (n : ℕ) where
-    pub rounds-start : (masks : List ℕ) → roundsIn groups objects size count p d a n masks ≡ answer → roundsIn groups objects size count p d a (n - 0) masks ≡ answer
-    rounds-start masks e = ap (λ (k : ℕ). roundsIn groups objects size count p d a k masks) (whole n) ∙ e
+  module _ {answer : List ℕ} (n : ℕ) where
+    pub rounds-start : (masks : List ℕ) → rounds n masks ≡ answer → rounds (n - 0) masks ≡ answer
+    rounds-start masks e = ap (λ (k : ℕ). rounds k masks) (whole n) ∙ e
       where
         whole : (k : ℕ) → k - 0 ≡ k
         whole k = omega arith
 
-    pub rounds-next : (i : ℕ) (masks next : List ℕ) → i < n → next ≡ roundIn groups objects size count p d a masks
-        → roundsIn groups objects size count p d a (n - i) masks ≡ answer → roundsIn groups objects size count p d a (n - (i + 1)) next ≡ answer
+    pub rounds-next : (i : ℕ) (masks next : List ℕ) → i < n → next ≡ round masks → rounds (n - i) masks ≡ answer → rounds (n - (i + 1)) next ≡ answer
     unfolding roundsIn
-    rounds-next i masks next h e now =
-        ap (roundsIn groups objects size count p d a (n - (i + 1))) e ∙ ap (λ (k : ℕ). roundsIn groups objects size count p d a k masks) (sym (one-less h)) ∙ now
+    rounds-next i masks next h e now = ap (rounds (n - (i + 1))) e ∙ ap (λ (k : ℕ). rounds k masks) (sym (one-less h)) ∙ now
       where
         one-less : {a b : ℕ} → a < b → b - a ≡ suc (b - (a + 1))
         one-less h = omega arith
 
-    pub rounds-end : (i : ℕ) (masks : List ℕ) → n ≤ i → roundsIn groups objects size count p d a (n - i) masks ≡ answer → masks ≡ answer
+    pub rounds-end : (i : ℕ) (masks : List ℕ) → n ≤ i → rounds (n - i) masks ≡ answer → masks ≡ answer
     unfolding roundsIn
-    rounds-end i masks h now = ap (λ (k : ℕ). roundsIn groups objects size count p d a k masks) (sym (nothing h)) ∙ now
+    rounds-end i masks h now = ap (λ (k : ℕ). rounds k masks) (sym (nothing h)) ∙ now
       where
         nothing : {a b : ℕ} → a ≤ b → a - b ≡ 0
         nothing p = omega arith
 
-    pub rounds-stop : (i : ℕ) (masks : List ℕ) → roundIn groups objects size count p d a masks ≡ masks
-        → roundsIn groups objects size count p d a (n - i) masks ≡ answer → masks ≡ answer
+    pub rounds-stop : (i : ℕ) (masks : List ℕ) → round masks ≡ masks → rounds (n - i) masks ≡ answer → masks ≡ answer
     rounds-stop i masks e now = sym (rounds-fixed (n - i) masks e) ∙ now

@@ -9,12 +9,22 @@ use lib.Dec.{eqb}
 use lib.ListN.{length, getD, set, replicate, List·getD-append}
 use borrow.Author.Tests.{eqb-true, eqb-false, eq-eqb, ne-eqb}
 use Rattle.laws.specs.Lists.{padded}
+use Rattle.laws.specs.Bags.{Bag}
 use Rattle.laws.proofs.Tests.{cond-true, cond-false, or-cases, or-left, or-right, by-test}
 use Rattle.laws.proofs.Mapped.{map-ext}
 use Rattle.laws.proofs.Walks.{changed, changed-at, changed-next, changed-left}
 use Rattle.model.specs.Spaces.{unite, uniteAll}
 use Rattle.model.proofs.Grouping.{length-unite, uniteAll-keeps}
-use Rattle.spaces.specs.Steps.{firstOr}
+use Rattle.spaces.specs.Steps.{hasStart, changedBy, unitedBy, firstOr}
+
+-- a parameter with a start unites the properties that it changes, any other none
+pub united-started : (d a : Bag) → hasStart d a ≡ true → unitedBy d a ≡ changedBy d a
+unfolding unitedBy
+united-started d a = cond-true (hasStart d a) (changedBy d a) []
+
+pub united-none : (d a : Bag) → hasStart d a ≡ false → unitedBy d a ≡ []
+unfolding unitedBy
+united-none d a = cond-false (hasStart d a) (changedBy d a) []
 
 -- one label in the place of another
 abbrev pub replaced : ℕ → ℕ → ℕ → ℕ

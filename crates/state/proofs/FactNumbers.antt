@@ -113,7 +113,8 @@ module _ {arities : List ℕ} {objects : ℕ} (shape : Shape arities objects) wh
       ∙ ap (λ (b : Bool). sameAtom f g || b) (member-has f s p (tail-known g s k))
 
   -- putting a fact in
-  pub numbers-put : (f : Atom) (s : State) → known arities objects f ≡ true → allKnown arities objects s → map factNumber (put f s) ≡ inserted (factNumber f) (map factNumber s)
+  pub numbers-put : (f : Atom) (s : State) → known arities objects f ≡ true → allKnown arities objects s
+      → map factNumber (put f s) ≡ inserted (factNumber f) (map factNumber s)
   unfolding put inserted
   numbers-put f [] p k = refl
   numbers-put f (g ∷ s) p k =

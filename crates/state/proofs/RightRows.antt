@@ -241,27 +241,35 @@ module _ (arities : List ℕ) (objects count : ℕ) (buffer : List ℕ) where
       let left : count - i ≡ suc (count - (i + 1)) = omega arith in
       let next : 4 * i + 4 ≡ 4 * (i + 1) = omega arith in
       let row : List ℕ = take 4 (drop (4 * i) buffer) in
-      ap (λ (m : ℕ). rowRight arities objects row && leb least (rowNumber row) && rowsIn arities objects m (count - (i + 1)) (drop (4 * (i + 1)) buffer)) (add-one (rowNumber row))
-      ∙ ap (λ (l : List ℕ). rowRight arities objects row && leb least (rowNumber row) && rowsIn arities objects (suc (rowNumber row)) (count - (i + 1)) l)
+      let later : ℕ → List ℕ → Bool = λ m l. rowsIn arities objects m (count - (i + 1)) l in
+      ap (λ (m : ℕ). rowRight arities objects row && leb least (rowNumber row) && later m (drop (4 * (i + 1)) buffer)) (add-one (rowNumber row))
+      ∙ ap (λ (l : List ℕ). rowRight arities objects row && leb least (rowNumber row) && later (suc (rowNumber row)) l)
       (ap (λ (k : ℕ). drop k buffer) (sym next) ∙ sym (drop-drop 4 (4 * i) buffer))
       ∙ ap (λ (k : ℕ). rowsIn arities objects least k (drop (4 * i) buffer)) (sym left)
 
-  pub rows-end : (least i : ℕ) → count ≤ i → true ≡ rowsIn arities objects least (count - i) (drop (4 * i) buffer)
+module _ (arities : List ℕ) (objects : ℕ) (buffer : List ℕ) (least : ℕ) {count i : ℕ} where
+  -- no row is left
+  pub rows-end : count ≤ i → true ≡ rowsIn arities objects least (count - i) (drop (4 * i) buffer)
   unfolding rowsIn
-  rows-end least i h = sym (ap (λ (k : ℕ). rowsIn arities objects least k (drop (4 * i) buffer)) (let none-left : count - i ≡ 0 = omega arith in none-left))
+  rows-end h =
+      let none-left : count - i ≡ 0 = omega arith in
+      sym (ap (λ (k : ℕ). rowsIn arities objects least k (drop (4 * i) buffer)) none-left)
 
   -- a row that is not right decides, and so does one that is not above those before it; another leaves it to the rows after it
-  module _ (least i : ℕ) (total : Bool) (left : rowsIn arities objects least (count - i) (drop (4 * i) buffer) ≡ total) (more : i < count) where
-    pub rows-wrong : rowRight arities objects (rowAt i buffer) ≡ false → false ≡ total
-    rows-wrong e = first-fails _ _ _ e ∙ rows-step least i more ∙ left
+  module _ {total : Bool} (left : rowsIn arities objects least (count - i) (drop (4 * i) buffer) ≡ total) (more : i < count) where
+    abbrev step : (rowRight arities objects (rowAt i buffer) && leb least (rowNumber (rowAt i buffer))
+        && rowsIn arities objects (rowNumber (rowAt i buffer) + 1) (count - (i + 1)) (drop (4 * (i + 1)) buffer)) ≡ total
+    step = rows-step arities objects count buffer least i more ∙ left
 
-    pub rows-low : (n : ℕ) → rowRight arities objects (rowAt i buffer) ≡ true → n ≡ rowNumber (rowAt i buffer) → n < least → false ≡ total
-    rows-low n e p h =
-        second-fails _ _ _ e (ap (leb least) (sym p) ∙ lt-leb least n h) ∙ rows-step least i more ∙ left
+    pub rows-wrong : rowRight arities objects (rowAt i buffer) ≡ false → false ≡ total
+    rows-wrong e = first-fails _ _ _ e ∙ step
+
+    pub rows-low : {n : ℕ} → rowRight arities objects (rowAt i buffer) ≡ true → n ≡ rowNumber (rowAt i buffer) → n < least → false ≡ total
+    rows-low {n} e p h = second-fails _ _ _ e (ap (leb least) (sym p) ∙ lt-leb least n h) ∙ step
 
     pub rows-again :
-        (n : ℕ) → rowRight arities objects (rowAt i buffer) ≡ true → n ≡ rowNumber (rowAt i buffer) → least ≤ n
+        {n : ℕ} → rowRight arities objects (rowAt i buffer) ≡ true → n ≡ rowNumber (rowAt i buffer) → least ≤ n
         → rowsIn arities objects (n + 1) (count - (i + 1)) (drop (4 * (i + 1)) buffer) ≡ total
-    rows-again n e p h =
+    rows-again {n} e p h =
         ap (λ (m : ℕ). rowsIn arities objects (m + 1) (count - (i + 1)) (drop (4 * (i + 1)) buffer)) p
-        ∙ third-decides _ _ _ e (ap (leb least) (sym p) ∙ le-leb least n h) ∙ rows-step least i more ∙ left
+        ∙ third-decides _ _ _ e (ap (leb least) (sym p) ∙ le-leb least n h) ∙ step

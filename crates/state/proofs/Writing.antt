@@ -90,11 +90,11 @@ length-rows (n ∷ ns) = let later = length-rows ns in omega arith
 
 -- the rows of the first i numbers stand at the front
 pub rows-written :
-    (ns was now next : List ℕ) (i : ℕ) → now ≡ flatMap rowBytes (take i ns) ++ drop (4 * i) was → i < length ns
+    (ns was : List ℕ) {now next : List ℕ} {i : ℕ} → now ≡ flatMap rowBytes (take i ns) ++ drop (4 * i) was → i < length ns
     → next ≡ take (4 * i) now ++ rowBytes (getD ns i 0) ++ drop (4 * i + 4) now
     → next ≡ flatMap rowBytes (take (i + 1) ns) ++ drop (4 * (i + 1)) was
 unfolding flatMap
-rows-written ns was now next i e h w =
+rows-written ns was {now} {next} {i} e h w =
     let written : List ℕ = flatMap rowBytes (take i ns) in
     let size : length written ≡ 4 * i = (length-rows (take i ns) ∙ ap (λ (k : ℕ). 4 * k) (length-take-le i ns (omega arith))) in
     let front : take (4 * i) now ≡ written = (ap (take (4 * i)) e ∙ take-at written (drop (4 * i) was) (4 * i) size) in

@@ -17,28 +17,29 @@ use Rattle.strips.specs.Steps.{applySchema, storing}
 use Rattle.strips.specs.declared.Applied.the-variants.{Count, StateMalformed, SchemaUnknown, ObjectsWrong, ObjectsRepeated}
 
 -- 17 and 18
-module _ (buffer : List ℕ) (known : ℕ) (schema : Schema) (objects : List ℕ) (next : Answer State) where
+module _ (known : ℕ) (schema : Schema) (objects : List ℕ) (next : Answer State) where
   complete : Bool
   complete = eqb (length objects) (schema .parameters) && all (λ o. ltb o known) objects
 
-  objects-refused : complete ≡ false → Matches (storing buffer (checkObjects known schema objects >> next)) buffer ObjectsWrong
-  unfolding complete storing checkObjects need _>>_ _>>=_ finish appliedSays
-  objects-refused e = rw e (record { answer = refl; buffer = refl })
+  module _ {buffer : List ℕ} where
+    objects-refused : complete ≡ false → Matches (storing buffer (checkObjects known schema objects >> next)) buffer ObjectsWrong
+    unfolding complete storing checkObjects need _>>_ _>>=_ finish appliedSays
+    objects-refused e = rw e (record { answer = refl; buffer = refl })
 
-  pub wrong-number : (length objects ≡ schema .parameters → ⊥) → Matches (storing buffer (checkObjects known schema objects >> next)) buffer ObjectsWrong
-  unfolding complete
-  wrong-number d = objects-refused (and-false-left _ _ (ne-eqb (length objects) (schema .parameters) d))
+    pub wrong-number : (length objects ≡ schema .parameters → ⊥) → Matches (storing buffer (checkObjects known schema objects >> next)) buffer ObjectsWrong
+    unfolding complete
+    wrong-number d = objects-refused (and-false-left _ _ (ne-eqb (length objects) (schema .parameters) d))
 
-  pub unknown-object : all (λ o. ltb o known) objects ≡ false → Matches (storing buffer (checkObjects known schema objects >> next)) buffer ObjectsWrong
-  unfolding complete
-  unknown-object e = objects-refused (and-false-right (eqb (length objects) (schema .parameters)) _ e)
+    pub unknown-object : all (λ o. ltb o known) objects ≡ false → Matches (storing buffer (checkObjects known schema objects >> next)) buffer ObjectsWrong
+    unfolding complete
+    unknown-object e = objects-refused (and-false-right (eqb (length objects) (schema .parameters)) _ e)
 
   module _ (number : length objects ≡ schema .parameters) (all-known : all (λ o. ltb o known) objects ≡ true) where
     completes : complete ≡ true
     unfolding complete
     completes = and-intro _ _ (eq-eqb (length objects) (schema .parameters) number) all-known
 
-    pub object-repeated : distinct objects ≡ false → Matches (storing buffer (checkObjects known schema objects >> next)) buffer ObjectsRepeated
+    pub object-repeated : {buffer : List ℕ} → distinct objects ≡ false → Matches (storing buffer (checkObjects known schema objects >> next)) buffer ObjectsRepeated
     unfolding complete storing checkObjects need _>>_ _>>=_ finish appliedSays
     object-repeated e = rw (completes, e) (record { answer = refl; buffer = refl })
 
@@ -48,7 +49,8 @@ module _ (buffer : List ℕ) (known : ℕ) (schema : Schema) (objects : List ℕ
 
 -- 15 and 16
 module _ (t : Task) (buffer : List ℕ) (count : ℕ) (action : Action) where
-  pub state-malformed : wellFormed (t .arities) (t .objects) buffer count ≡ false → Matches (finish buffer (pressOf t buffer count action)) buffer StateMalformed
+  pub state-malformed : wellFormed (t .arities) (t .objects) buffer count ≡ false
+      → Matches (finish buffer (pressOf t buffer count action)) buffer StateMalformed
   unfolding pressOf need _>>_ finish appliedSays
   state-malformed e = rw e (record { answer = refl; buffer = refl })
 

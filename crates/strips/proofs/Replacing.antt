@@ -19,7 +19,8 @@ module _ (numbers buffer : List ℕ) where
   unfolding storingNumbers need _>>_ _>>=_ finish appliedSays
   too-many h = rw (lt-leb (length numbers) 1024 h) (record { answer = refl; buffer = refl })
 
-  pub not-too-many : {after : List ℕ} → length numbers ≤ 1024 → after ≡ stored numbers buffer → Matches (storingNumbers buffer numbers) after (Count (length numbers))
+  pub not-too-many : {after : List ℕ} → length numbers ≤ 1024 → after ≡ stored numbers buffer
+      → Matches (storingNumbers buffer numbers) after (Count (length numbers))
   unfolding storingNumbers need _>>_ _>>=_ finish appliedSays
   not-too-many h e = rw (le-leb (length numbers) 1024 h) (record { answer = refl; buffer = e })
 

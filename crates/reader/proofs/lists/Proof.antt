@@ -1,12 +1,25 @@
 -- `lists` reads as the definition does.
+use lib.ListN.{drop}
 use Rattle.model.specs.Card.{bit}
-use Rattle.card.specs.Represents.{schemaOf}
+use Rattle.card.specs.Represents.{atomsOf, schemaOf}
 use Rattle.reader_bytes.proofs.Reading.{accepts, accepted-by, within-card, kept-as, refusal-by}
-use Rattle.reader.proofs.SchemaParts.{preconditions-refused, deletes-refused, adds-refused, lists-read}
+use Rattle.reader.proofs.SchemaParts.{ListsRead, preconditions-refused, deletes-refused, adds-refused, lists-read}
 use Rattle.reader.proofs.SchemaParts.{no-list-kept, list-kept, schema-kept, schema-refused}
 use borrow.Author.Needs.{needs}
 use Rattle.reader.proofs.lists.Statement.{statement}
 use Rattle.reader.proofs.lists.Tie as tie
+
+-- what the lists are read by, from the first list on
+abbrev reading : tie.After-list → ListsRead
+reading c =
+    let a = c .before .before .before .before .args in
+    record {
+      arities = a .arities .now;
+      bits = a .map;
+      parameters = a .parameters;
+      none-yet = atomsOf (a .arities .now) (c .before .no-atoms .result);
+      bytes = drop (a .c .at) (a .card .now);
+    }
 
 no-atoms-requires : tie.Need-no-atoms-requires
 no-atoms-requires c κs = search needs
@@ -30,8 +43,9 @@ no-schema-requires c κs = search needs
 returns : tie.Need-returns
 unfolding bit
 returns c =
-    let e = refusal-by (c .before .before .before .before .list .ensures) (c .before .before .enum-told .given .1) (c .before .refusal .ensures) in
-    schema-refused _ (c .no-schema .ensures) (preconditions-refused _ _ _ _ _ e)
+    let at-list = c .before .before .before .before in
+    let e = refusal-by (at-list .list .ensures) (c .before .before .enum-told .given .1) (c .before .refusal .ensures) in
+    schema-refused _ (c .no-schema .ensures) (preconditions-refused (reading at-list) e)
 
 list-requires-2 : tie.Need-list-requires-2
 list-requires-2 c κs =
@@ -61,7 +75,7 @@ returns-2 c =
     let at-list = at-step .before .before in
     let p = accepted-by (at-list .list .ensures) (at-step .step .given .1) in
     let e = refusal-by (at-list2 .list2 .ensures) (c .before .before .enum-told2 .given .1) (c .before .refusal2 .ensures) in
-    schema-refused _ (c .no-schema2 .ensures) (deletes-refused _ _ _ _ _ _ p e)
+    schema-refused _ (c .no-schema2 .ensures) (deletes-refused (reading at-list) p e)
 
 list-requires-3 : tie.Need-list-requires-3
 list-requires-3 c κs =
@@ -96,7 +110,7 @@ returns-3 c =
     let p = accepted-by (at-list .list .ensures) (at-step .step .given .1) in
     let d = accepted-by (at-list2 .list2 .ensures) (at-step2 .step2 .given .1) in
     let e = refusal-by (at-list3 .list3 .ensures) (c .before .before .enum-told3 .given .1) (c .before .refusal3 .ensures) in
-    schema-refused _ (c .no-schema3 .ensures) (adds-refused _ _ _ _ _ _ p _ d e)
+    schema-refused _ (c .no-schema3 .ensures) (adds-refused (reading at-list) p d e)
 
 returns-4 : tie.Need-returns-4
 unfolding bit schemaOf
@@ -112,7 +126,7 @@ returns-4 c =
     let e₂ = at-step2 .step2 .given .1 in
     let w₃ = at-list3 .list3 .ensures in
     let e₃ = c .before .before .step3 .given .1 in
-    let read = lists-read _ _ _ _ _ _ (accepted-by w₁ e₁) _ (accepted-by w₂ e₂) (accepted-by w₃ e₃) in
+    let read = lists-read (reading at-list) (accepted-by w₁ e₁) (accepted-by w₂ e₂) (accepted-by w₃ e₃) in
     accepts read (within-card w₃ e₃) (schema-kept _ _ (kept-as w₁ e₁) (kept-as w₂ e₂) (kept-as w₃ e₃))
 
 pub lists-spec : {M : Type 1} → statement M

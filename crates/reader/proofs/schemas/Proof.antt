@@ -51,7 +51,7 @@ loop-holds c =
     let at-no-schemas = at-byte-between .before in
     let w = at-byte-between .byte-between .ensures in
     let e = c .before .counted .given .1 in
-    plain-starts _ _ _ _ _ _ _ _ (between-held _ _ _ _ (byte-read w e) .1) (byte-within w e) refl (blank-schemas (at-no-schemas .no-schemas .ensures))
+    plain-starts (between-held _ _ _ _ (byte-read w e) .1) (byte-within w e) refl (blank-schemas (at-no-schemas .no-schemas .ensures))
 
 schema-requires : tie.Need-schema-requires Inv-loop μ-loop
 schema-requires c κs =

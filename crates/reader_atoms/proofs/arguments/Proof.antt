@@ -31,7 +31,7 @@ returns-2 : tie.Need-returns-2
 returns-2 c =
     let w = c .before .before .before .before .byte-below .ensures in
     let e = c .before .before .read .given .1 in
-    one-argument _ _ _ _ _ (byte-within w e) (c .if1 .taken) (byte-read w e)
+    one-argument _ _ _ _ (byte-within w e) (c .if1 .taken) (byte-read w e)
 
 byte-below-requires-2 : tie.Need-byte-below-requires-2
 byte-below-requires-2 c κs = search needs
@@ -56,7 +56,7 @@ returns-3 c =
     let e = at-read .read .given .1 in
     let l : 2 ≤ start .args .arity = omega (arith, start .pre, at-if1 .if1 .left) in
     let none = byte-refusal (at-byte-below2 .byte-below2 .ensures) (c .before .enum-told2 .given .1) (c .refusal2 .ensures) in
-    refuses (second-refused _ _ _ _ _ l (byte-read w e) none)
+    refuses (second-refused _ _ _ _ l (byte-read w e) none)
 
 returns-4 : tie.Need-returns-4
 returns-4 c =
@@ -67,7 +67,7 @@ returns-4 c =
     let e = at-read .read .given .1 in
     let w₂ = at-byte-below2 .byte-below2 .ensures in
     let e₂ = c .before .before .read2 .given .1 in
-    two-arguments _ _ _ _ _ (byte-within w₂ e₂) _ (c .if2 .taken) (byte-read w e) (byte-read w₂ e₂)
+    two-arguments _ _ _ _ (byte-within w₂ e₂) (c .if2 .taken) (byte-read w e) (byte-read w₂ e₂)
 
 byte-below-requires-3 : tie.Need-byte-below-requires-3
 byte-below-requires-3 c κs = search needs
@@ -96,7 +96,7 @@ returns-5 c =
     let e₂ = at-read2 .read2 .given .1 in
     let l : 3 ≤ start .args .arity = omega (arith, start .pre, at-if1 .if1 .left, at-if2 .if2 .left) in
     let w₃ = c .before .before .before .byte-below3 .ensures in
-    refuses (third-refused _ _ _ _ _ _ l (byte-read w e) (byte-read w₂ e₂) (byte-refusal w₃ (c .before .enum-told3 .given .1) (c .refusal3 .ensures)))
+    refuses (third-refused _ _ _ _ l (byte-read w e) (byte-read w₂ e₂) (byte-refusal w₃ (c .before .enum-told3 .given .1) (c .refusal3 .ensures)))
 
 returns-6 : tie.Need-returns-6
 returns-6 c =
@@ -114,7 +114,7 @@ returns-6 c =
     let w₃ = c .before .before .before .byte-below3 .ensures in
     let e₃ = c .before .read3 .given .1 in
     let l : start .args .arity ≡ 3 = omega (arith, start .pre, at-if1 .if1 .left, at-if2 .if2 .left) in
-    three-arguments _ _ _ _ _ (byte-within w₃ e₃) _ _ l (byte-read w e) (byte-read w₂ e₂) (byte-read w₃ e₃)
+    three-arguments _ _ _ _ (byte-within w₃ e₃) l (byte-read w e) (byte-read w₂ e₂) (byte-read w₃ e₃)
 
 pub arguments-spec : {M : Type 1} → statement M
 arguments-spec =

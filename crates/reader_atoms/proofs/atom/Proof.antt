@@ -42,7 +42,7 @@ arguments-requires c κs =
 returns-2 : tie.Need-returns-2
 returns-2 c =
     let at-byte-below = c .before .before .before .before .before in
-    predicate-read _ _ _ _ _ (byte-read (at-byte-below .byte-below .ensures) (c .before .before .before .read .given .1)) (c .arguments .ensures)
+    predicate-read _ _ _ _ (byte-read (at-byte-below .byte-below .ensures) (c .before .before .before .read .given .1)) (c .arguments .ensures)
 
 pub atom-spec : {M : Type 1} → statement M
 atom-spec =

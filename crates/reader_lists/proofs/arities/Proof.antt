@@ -24,7 +24,7 @@ no-arities-requires c κs = search needs
 
 loop-holds : tie.Need-loop-holds Inv-loop μ-loop
 loop-holds c =
-    plain-starts _ _ _ _ _ _ _ _ (c .before .before .pre .0) (c .before .before .pre .1) refl (blank-arities (c .no-arities .ensures))
+    plain-starts (c .before .before .pre .0) (c .before .before .pre .1) refl (blank-arities (c .no-arities .ensures))
 
 byte-between-requires : tie.Need-byte-between-requires Inv-loop μ-loop
 byte-between-requires c κs = search needs

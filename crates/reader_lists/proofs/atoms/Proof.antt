@@ -23,7 +23,7 @@ no-atoms-requires c κs = search needs
 
 loop-holds : tie.Need-loop-holds Inv-loop μ-loop
 loop-holds c =
-    ordered-starts _ _ _ _ _ _ (c .before .before .before .pre .0) (omega arith) refl (blank-atoms (c .no-atoms .ensures))
+    ordered-starts (c .before .before .before .pre .0) (omega arith) refl (blank-atoms (c .no-atoms .ensures))
 
 schema-atom-requires : tie.Need-schema-atom-requires Inv-loop μ-loop
 schema-atom-requires c κs =

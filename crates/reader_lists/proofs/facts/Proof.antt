@@ -23,7 +23,7 @@ no-facts-requires c κs = search needs
 
 loop-holds : tie.Need-loop-holds Inv-loop μ-loop
 loop-holds c =
-    ordered-starts _ _ _ _ _ _ (c .before .before .before .pre .0) (c .before .before .before .pre .1) refl (blank-facts (c .no-facts .ensures))
+    ordered-starts (c .before .before .before .pre .0) (c .before .before .before .pre .1) refl (blank-facts (c .no-facts .ensures))
 
 fact-requires : tie.Need-fact-requires Inv-loop μ-loop
 fact-requires c κs =

@@ -27,7 +27,7 @@ returns : tie.Need-returns Inv-loop μ-loop
 returns c =
     let tested = c .before in
     let more = tested .before in
-    rows-wrong _ _ _ _ _ _ _ (more .before .loop .inv .1) (more .loop-test .taken) (sym (tested .row-right .ensures) ∙ not-true _ (c .if1 .taken))
+    rows-wrong _ _ _ _ (more .before .loop .inv .1) (more .loop-test .taken) (sym (tested .row-right .ensures) ∙ not-true _ (c .if1 .taken))
 
 row-requires : tie.Need-row-requires Inv-loop μ-loop
 row-requires c κs = omega arith
@@ -40,7 +40,7 @@ returns-2 c =
     let read = c .before in
     let tested = read .before .before in
     let more = tested .before in
-    rows-low _ _ _ _ _ _ _ (more .before .loop .inv .1) (more .loop-test .taken) _
+    rows-low _ _ _ _ (more .before .loop .inv .1) (more .loop-test .taken)
     (sym (tested .row-right .ensures) ∙ not-false _ (read .before .if1 .left)) (read .row .ensures) (c .if2 .taken)
 
 add-least : tie.Need-add-least Inv-loop μ-loop
@@ -58,13 +58,13 @@ loop-again c =
     let tested = read .before .before in
     let more = tested .before in (
       omega arith,
-      rows-again _ _ _ _ _ _ _ (more .before .loop .inv .1) (more .loop-test .taken) _
+      rows-again _ _ _ _ (more .before .loop .inv .1) (more .loop-test .taken)
           (sym (tested .row-right .ensures) ∙ not-false _ (read .before .if1 .left)) (read .row .ensures) (c .if2 .left),
     )
 
 returns-3 : tie.Need-returns-3 Inv-loop μ-loop
 returns-3 c =
-    rows-end _ _ _ _ _ _ (c .loop-test .left) ∙ c .before .loop .inv .1
+    rows-end _ _ _ _ (c .loop-test .left) ∙ c .before .loop .inv .1
 
 pub rows-right-spec : {M : Type 1} → statement M
 rows-right-spec =

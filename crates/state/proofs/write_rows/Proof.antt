@@ -41,7 +41,7 @@ loop-again c =
     let in-loop = written .before .before .before in
     let head = in-loop .before in
     let start = head .before .before .before in
-    let more = rows-written _ _ _ _ _ (head .loop .inv .2) (in-loop .loop-test .taken) (written .write-row .ensures) in
+    let more = rows-written _ _ (head .loop .inv .2) (in-loop .loop-test .taken) (written .write-row .ensures) in
     (omega arith, rows-length (start .args .numbers .now) _ _ (head .loop .i + 1) more (omega arith) (start .pre), more)
 
 same-length : tie.Need-same-length Inv-loop μ-loop

@@ -27,13 +27,13 @@ objects-known c = sym (c .before .all-known .ensures) ∙ not-false _ (c .if2 .l
 
 returns : tie.Need-returns
 unfolding schemaOf
-returns c = wrong-number _ _ _ _ _ (c .if1 .taken)
+returns c = wrong-number _ _ _ _ (c .if1 .taken)
 
 all-known-requires : tie.Need-all-known-requires
 all-known-requires c κs = search needs
 
 returns-2 : tie.Need-returns-2
-returns-2 c = unknown-object _ _ _ _ _ (sym (c .before .all-known .ensures) ∙ not-true _ (c .if2 .taken))
+returns-2 c = unknown-object _ _ _ _ (sym (c .before .all-known .ensures) ∙ not-true _ (c .if2 .taken))
 
 all-different-requires : tie.Need-all-different-requires
 all-different-requires c κs = search needs
@@ -42,7 +42,7 @@ returns-3 : tie.Need-returns-3
 unfolding schemaOf
 returns-3 c =
     let different = c .before in
-    object-repeated _ _ _ _ _ (testing different .before .if1 .left) (objects-known (different .before))
+    object-repeated _ _ _ _ (testing different .before .if1 .left) (objects-known (different .before))
     (sym (different .all-different .ensures) ∙ not-true _ (c .if3 .taken))
 
 apply-bound-requires : tie.Need-apply-bound-requires
@@ -68,7 +68,7 @@ returns-4 c =
     let different = passed .before in
     let buffer = entry (testing different) .args .state .now in
     subst (λ (a : Answer State). Matches (storing buffer a) (bound .apply-bound .last .1 .1 .0) (bound .apply-bound .result))
-    (sym (objects-right buffer _ _ _ _ (testing different .before .if1 .left) (objects-known (different .before))
+    (sym (objects-right _ _ _ _ (testing different .before .if1 .left) (objects-known (different .before))
     (sym (different .all-different .ensures) ∙ not-false _ (passed .if3 .left))))
     (bound .apply-bound .ensures)
 

@@ -95,9 +95,10 @@ members : (c : tie.After-by-label Inv-loop μ-loop)
 unfolding taskOf
 members c =
     let s = entry c in
+    let a = s .args in
     let g = given c in
-    subst (λ (n : ℕ). MembersGiven n (s .args .spaces .groups) (c .by-label .result) (s .args .task .objects)) (sym (g .size-is))
-    (subst (λ (m : List ℕ). MembersGiven (length (properties (taskOf (s .args .task)))) (s .args .spaces .groups) m (s .args .task .objects)) (sym (g .masks-are))
+    subst (λ (n : ℕ). MembersGiven n (a .spaces .groups) (c .by-label .result) (a .task .objects)) (sym (g .size-is))
+    (subst (λ (m : List ℕ). MembersGiven (length (properties (taskOf (a .task)))) (a .spaces .groups) m (a .task .objects)) (sym (g .masks-are))
     (members-given _ _ (s .pre .1 .0) (properties-few _ (s .pre .0 .checked)) (objects-few _ (s .pre .0))))
 
 write-schema-types-requires : tie.Need-write-schema-types-requires Inv-loop μ-loop

@@ -36,7 +36,9 @@ wide-requires : tie.Need-wide-requires Inv-loop μ-loop
 wide-requires c κs = tt
 
 loop-holds : tie.Need-loop-holds Inv-loop μ-loop
-loop-holds c = record { inside = omega arith; is = stamp-none (c .before .before .args .first) (c .before .before .args .arity) (now (c .before .before .args .table)) }
+loop-holds c =
+    let a = c .before .before .args in
+    record { inside = omega arith; is = stamp-none (a .first) (a .arity) (now (a .table)) }
 
 add-table : tie.Need-add-table Inv-loop μ-loop
 add-table c = omega (arith, c .loop-test .taken, c .before .before .wide .ensures .0, entry (c .before) .pre)

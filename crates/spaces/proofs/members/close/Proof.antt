@@ -6,7 +6,7 @@ use borrow.Author.Needs.{needs}
 use lib.ListN.{length}
 use Rattle.laws.proofs.Lists.{same-eq}
 use Rattle.spaces.specs.Steps.{roundsIn}
-use Rattle.spaces.proofs.Gaining.{rounds-start, rounds-next, rounds-end, rounds-stop}
+use Rattle.spaces.proofs.Gaining.{Rounds, rounds-start, rounds-next, rounds-end, rounds-stop}
 use Rattle.spaces.proofs.members.close.Statement.{statement}
 use Rattle.spaces.proofs.members.close.Tie as tie
 
@@ -20,10 +20,27 @@ Inv-loop groups preconditions deletes adds count size objects rounds closed₀ c
 abbrev μ-loop : tie.MeasureT-loop
 μ-loop groups preconditions deletes adds count size objects rounds closed₀ counter₀ closed counter = rounds - counter
 
+-- what is given, from the loop on, and what the rounds go over
+abbrev entry : tie.At-loop Inv-loop μ-loop → tie.Start Inv-loop μ-loop
+entry c = c .before .before .before .before .before
+
+abbrev over : tie.Start Inv-loop μ-loop → Rounds
+over s =
+    let a = s .args in
+    record {
+      groups = a .groups .now;
+      objects = a .objects;
+      size = a .size;
+      count = a .count;
+      preconditions = a .preconditions .now;
+      deletes = a .deletes .now;
+      adds = a .adds .now;
+    }
+
 loop-holds : tie.Need-loop-holds Inv-loop μ-loop
 loop-holds c =
-    let a = c .before .before .before .before .args in
-    (zero-le, search needs, rounds-start (a .groups .now) (a .objects) (a .size) (a .count) (a .preconditions .now) (a .deletes .now) (a .adds .now) _ (a .rounds) (a .members) refl)
+    let s = c .before .before .before .before in
+    (zero-le, search needs, rounds-start (over s) (s .args .rounds) (s .args .members) refl)
 
 round-requires : tie.Need-round-requires Inv-loop μ-loop
 round-requires c κs = c .before .before .before .before .before .before .pre
@@ -40,9 +57,9 @@ same-masks-requires c κs = (search needs, search needs)
 returns : tie.Need-returns Inv-loop μ-loop
 returns c =
     let head = c .before .before .before .before .before .before in
-    let a = head .before .before .before .before .before .args in
+    let s = entry head in
     let next = c .before .before .before .before .round in
-    rounds-stop (a .groups .now) (a .objects) (a .size) (a .count) (a .preconditions .now) (a .deletes .now) (a .adds .now) _ (a .rounds) (head .loop .counter) (head .loop .closed)
+    rounds-stop (over s) (s .args .rounds) (head .loop .counter) (head .loop .closed)
     (sym (next .ensures) ∙ sym (same-eq (head .loop .closed) (next .result) (sym (c .before .same-masks .ensures) ∙ c .if1 .taken)))
     (head .loop .inv .2)
 
@@ -55,19 +72,19 @@ loop-less c = omega arith
 loop-again : tie.Need-loop-again Inv-loop μ-loop
 loop-again c =
     let head = c .before .before .before .before .before .before in
-    let a = head .before .before .before .before .before .args in
+    let s = entry head in
     let next = c .before .before .before .before .round in (
       omega arith,
       search needs,
-      rounds-next (a .groups .now) (a .objects) (a .size) (a .count) (a .preconditions .now) (a .deletes .now) (a .adds .now) _ (a .rounds) (head .loop .counter) (head .loop .closed) (next .result)
+      rounds-next (over s) (s .args .rounds) (head .loop .counter) (head .loop .closed) (next .result)
           (c .before .before .before .before .before .loop-test .taken) (next .ensures) (head .loop .inv .2),
     )
 
 returns-2 : tie.Need-returns-2 Inv-loop μ-loop
 returns-2 c =
     let head = c .before in
-    let a = head .before .before .before .before .before .args in
-    rounds-end (a .groups .now) (a .objects) (a .size) (a .count) (a .preconditions .now) (a .deletes .now) (a .adds .now) _ (a .rounds) (head .loop .counter) (head .loop .closed) (c .loop-test .left) (head .loop .inv .2)
+    let s = entry head in
+    rounds-end (over s) (s .args .rounds) (head .loop .counter) (head .loop .closed) (c .loop-test .left) (head .loop .inv .2)
 
 pub close-spec : {M : Type 1} → statement M
 close-spec =
