@@ -11,3 +11,4 @@ pub mod ParameterRows
 pub mod SchemaLists
 pub mod ArityTable
 pub mod ParameterRules
+pub mod Turns

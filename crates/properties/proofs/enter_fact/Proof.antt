@@ -1,7 +1,7 @@
 -- A fact of one, two or three arguments is entered argument by argument.
 use denote.Ref.{now}
 use mathlib.Core.List.{[], _∷_}
-use mathlib.Core.Path.{refl}
+use mathlib.Core.Path.{refl, _∙_}
 use lib.ListN.{take}
 use Rattle.properties.specs.Tallies.{talliedRows}
 use Rattle.properties.proofs.Entering.{Left, left-here, left-next, two-on, left-end}
@@ -30,7 +30,7 @@ enter-argument-requires : tie.Need-enter-argument-requires
 enter-argument-requires c κs = let s = c .before .before in left-here (left s) (s .pre .0 .0)
 
 same-length : tie.Need-same-length
-same-length c = search needs
+same-length c = c .before .before .counts .given
 
 returns : tie.Need-returns
 returns c =
@@ -48,7 +48,10 @@ enter-argument-requires-2 c κs =
     left-here (left-next (left s) (s .pre .0 .0) refl (one .enter-argument .ensures)) (omega arith)
 
 same-length-2 : tie.Need-same-length-2
-same-length-2 c = search needs
+same-length-2 c =
+    let second = c .before .before in
+    let first = second .before .before .before .before .before in
+    second .counts2 .given ∙ first .counts .given
 
 returns-2 : tie.Need-returns-2
 returns-2 c =
@@ -68,7 +71,11 @@ enter-argument-requires-3 c κs =
     left-here (left-next after-one (omega arith) (two-on (s .args .first)) (two .enter-argument2 .ensures)) (omega arith)
 
 same-length-3 : tie.Need-same-length-3
-same-length-3 c = search needs
+same-length-3 c =
+    let third = c .before in
+    let second = third .before .before .before .before .before in
+    let first = second .before .before .before .before .before in
+    third .counts3 .given ∙ second .counts2 .given ∙ first .counts .given
 
 returns-3 : tie.Need-returns-3
 returns-3 c =

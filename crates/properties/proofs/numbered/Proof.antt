@@ -7,6 +7,7 @@ use mathlib.Core.Path.{_≡_, sym, ap, _∙_, subst}
 use mathlib.Core.List.{List}
 use lib.ListN.{length, getD, take}
 use Rattle.card.proofs.Entries.{arities-within}
+use Rattle.properties.proofs.Turns.{less-left}
 use Rattle.properties.specs.Represented.{Numbers}
 use Rattle.properties.proofs.Firsts.{Begun, begin, next, finish}
 use Rattle.properties.proofs.numbered.Statement.{statement}
@@ -45,7 +46,7 @@ add-p : tie.Need-add-p Inv-loop μ-loop
 add-p c = omega arith
 
 loop-less : tie.Need-loop-less Inv-loop μ-loop
-loop-less c = omega arith
+loop-less c = less-left (c .before .loop-test .taken)
 
 loop-again : tie.Need-loop-again Inv-loop μ-loop
 loop-again c =

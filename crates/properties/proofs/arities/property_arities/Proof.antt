@@ -7,6 +7,7 @@ use lib.ListN.{length, getD}
 use Rattle.laws.specs.Lists.{sum}
 use Rattle.card.specs.Represents.{entries, aritiesOf}
 use Rattle.card.proofs.Entries.{length-entries, getD-entries}
+use Rattle.properties.proofs.Turns.{less-left}
 use Rattle.properties.proofs.Predicates.{sum-arities}
 use Rattle.properties.proofs.ArityTable.{ArityPassed, arities-start, arities-room, arities-next, arities-end}
 use Rattle.properties.proofs.arities.property_arities.Statement.{statement}
@@ -80,7 +81,7 @@ add-p : tie.Need-add-p Inv-loop μ-loop
 add-p c = let tested = in-loop (c .before .before) in omega (arith, tested .loop-test .taken, entry (tested .before) .pre .few)
 
 loop-less : tie.Need-loop-less Inv-loop μ-loop
-loop-less c = omega (arith, in-loop (c .before .before) .loop-test .taken)
+loop-less c = less-left (c .before .before .before .before .loop-test .taken)
 
 loop-again : tie.Need-loop-again Inv-loop μ-loop
 loop-again c =

@@ -1,11 +1,11 @@
 -- The loop's invariant: the arity is put into the first i places.
 use Prim.Native.Nat.{ℕ, _+_, _-_, _≤_}
 use native.Mathlib.Omega.{arith}
-use borrow.Author.Needs.{needs}
 use denote.Ref.{now}
 use mathlib.Core.Path.{_≡_, ap, _∙_}
 use mathlib.Core.List.{List}
 use lib.ListN.{length, set}
+use Rattle.properties.proofs.Turns.{less-left}
 use Rattle.properties.proofs.ArityTable.{stamped, stamp-none, stamp-next, length-stamped}
 use Rattle.properties.proofs.arities.put_arity.Statement.{statement}
 use Rattle.properties.proofs.arities.put_arity.Tie as tie
@@ -50,7 +50,7 @@ add-i : tie.Need-add-i Inv-loop μ-loop
 add-i c = omega (arith, c .loop-test .taken, c .before .before .wide .ensures .1)
 
 loop-less : tie.Need-loop-less Inv-loop μ-loop
-loop-less c = search needs
+loop-less c = less-left (c .loop-test .taken)
 
 loop-again : tie.Need-loop-again Inv-loop μ-loop
 loop-again c =

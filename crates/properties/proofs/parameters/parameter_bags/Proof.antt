@@ -12,6 +12,7 @@ use Rattle.card.specs.declared.SchemaList.{SchemaList}
 use Rattle.card.specs.declared.Schema.{Schema}
 use Rattle.card.specs.Represents.{aritiesOf, schemaOf, schemasOf}
 use Rattle.card.proofs.Entries.{noSchema, length-schemas}
+use Rattle.properties.proofs.Turns.{less-left}
 use Rattle.properties.specs.Parameters.{parametersIn}
 use Rattle.properties.proofs.Predicates.{few-properties}
 use Rattle.properties.proofs.SchemaLists.{schema-read, small-few, right-small}
@@ -174,7 +175,7 @@ add-i c =
     omega (arith, tested .loop-test .taken, entry (numbering (tested .before)) .pre .1 .0 .few)
 
 loop-less : tie.Need-loop-less Inv-loop μ-loop
-loop-less c = omega (arith, in-loop (called c) .loop-test .taken)
+loop-less c = less-left (c .before .before .before .before .before .before .before .before .before .before .before .before .loop-test .taken)
 
 loop-again : tie.Need-loop-again Inv-loop μ-loop
 unfolding taken

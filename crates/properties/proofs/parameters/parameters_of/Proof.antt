@@ -8,6 +8,7 @@ use Rattle.laws.specs.Lists.{sum}
 use Rattle.card.specs.declared.SchemaList.{SchemaList}
 use Rattle.card.specs.Represents.{blankSchema, entries, schemasOf, schemaOf}
 use Rattle.card.proofs.Entries.{length-table, item-at, default-alike, noSchema}
+use Rattle.properties.proofs.Turns.{less-left}
 use Rattle.properties.specs.Parameters.{parametersIn}
 use Rattle.properties.proofs.SchemaLists.{small-few}
 use Rattle.properties.proofs.ParameterRows.{Counted, count-start, count-next, count-within, count-end}
@@ -78,7 +79,7 @@ add-i : tie.Need-add-i Inv-loop μ-loop
 add-i c = omega (arith, in-loop c .loop-test .taken, entry (in-loop c .before) .pre .few)
 
 loop-less : tie.Need-loop-less Inv-loop μ-loop
-loop-less c = omega (arith, in-loop c .loop-test .taken)
+loop-less c = less-left (c .before .before .loop-test .taken)
 
 loop-again : tie.Need-loop-again Inv-loop μ-loop
 loop-again c = let turn = in-loop c in count-next _ (turn .before .loop .inv) (here turn) (size-is turn)
