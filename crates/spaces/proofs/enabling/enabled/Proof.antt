@@ -12,6 +12,7 @@ use Rattle.laws.specs.Bags.{support}
 use Rattle.laws.proofs.Walks.{left, pick-starts, pick-passes, pick-fails, pick-ends}
 use Rattle.masks.specs.Sets.{commonOf}
 use Rattle.properties.specs.Tables.{bagAt}
+use Rattle.properties.proofs.Turns.{less-left}
 use Rattle.spaces.specs.Steps.{enabledBy}
 use Rattle.spaces.proofs.Rows.{used, support-kept}
 use Rattle.spaces.proofs.enabling.enabled.Statement.{statement}
@@ -82,7 +83,7 @@ add-c : tie.Need-add-c Inv-loop μ-loop
 add-c c = omega arith
 
 loop-less : tie.Need-loop-less Inv-loop μ-loop
-loop-less c = omega arith
+loop-less c = less-left (c .before .before .loop-test .taken)
 
 loop-again : tie.Need-loop-again Inv-loop μ-loop
 unfolding used

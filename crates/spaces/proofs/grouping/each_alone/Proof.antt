@@ -9,6 +9,7 @@ use Rattle.laws.proofs.Padded.{padded-next}
 use Rattle.laws.specs.Lists.{from, upTo, padded}
 use Rattle.laws.proofs.Lists.{length-upTo}
 use Rattle.laws.proofs.Walks.{upTo-next}
+use Rattle.properties.proofs.Turns.{less-left}
 use Rattle.spaces.proofs.grouping.each_alone.Statement.{statement}
 use Rattle.spaces.proofs.grouping.each_alone.Tie as tie
 
@@ -32,7 +33,7 @@ add-c : tie.Need-add-c Inv-loop μ-loop
 add-c c = omega arith
 
 loop-less : tie.Need-loop-less Inv-loop μ-loop
-loop-less c = omega arith
+loop-less c = less-left (c .loop-test .taken)
 
 next : (groups : List ℕ) (c : ℕ) → c < 60 → groups ≡ padded 60 0 (upTo c) → set groups c c ≡ padded 60 0 (upTo (c + 1))
 next groups c h e =

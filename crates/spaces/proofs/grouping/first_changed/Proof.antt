@@ -7,6 +7,7 @@ use borrow.Author.Tests.{eq-eqb, ne-eqb}
 use Rattle.laws.specs.Lists.{keep}
 use Rattle.laws.proofs.Walks.{left, kept-all}
 use Rattle.properties.specs.Tables.{bagAt}
+use Rattle.properties.proofs.Turns.{less-left}
 use Rattle.spaces.specs.Steps.{changedBy, firstOr}
 use Rattle.spaces.proofs.Rows.{differs, changed-kept, first-here, first-later, first-none}
 use Rattle.spaces.proofs.grouping.first_changed.Statement.{statement}
@@ -53,7 +54,7 @@ add-c : tie.Need-add-c Inv-loop μ-loop
 add-c c = omega arith
 
 loop-less : tie.Need-loop-less Inv-loop μ-loop
-loop-less c = omega arith
+loop-less c = less-left (c .before .before .before .loop-test .taken)
 
 loop-again : tie.Need-loop-again Inv-loop μ-loop
 unfolding differs

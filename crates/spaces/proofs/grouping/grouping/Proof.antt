@@ -7,6 +7,7 @@ use Rattle.laws.specs.Lists.{upTo}
 use Rattle.laws.proofs.Walks.{left, walk-starts, walk-next, walk-ends}
 use Rattle.model.specs.Spaces.{uniteAll}
 use Rattle.properties.specs.Tables.{bagAt}
+use Rattle.properties.proofs.Turns.{less-left}
 use Rattle.spaces.specs.Steps.{unitedBy, groupsIn}
 use Rattle.spaces.proofs.grouping.grouping.Statement.{statement}
 use Rattle.spaces.proofs.grouping.grouping.Tie as tie
@@ -39,7 +40,7 @@ add-row : tie.Need-add-row Inv-loop μ-loop
 add-row c = omega arith
 
 loop-less : tie.Need-loop-less Inv-loop μ-loop
-loop-less c = omega arith
+loop-less c = less-left (c .before .loop-test .taken)
 
 loop-again : tie.Need-loop-again Inv-loop μ-loop
 loop-again c =

@@ -5,6 +5,7 @@ use native.Mathlib.Omega.{arith}
 use mathlib.Core.Path.{sym}
 use borrow.Author.Count.{below-none, below-more}
 use lib.ListN.{getD}
+use Rattle.properties.proofs.Turns.{less-left}
 use Rattle.spaces.proofs.Rows.{start-found, start-none}
 use Rattle.spaces.proofs.grouping.has_start.Statement.{statement}
 use Rattle.spaces.proofs.grouping.has_start.Tie as tie
@@ -44,7 +45,7 @@ add-c : tie.Need-add-c Inv-loop μ-loop
 add-c c = omega arith
 
 loop-less : tie.Need-loop-less Inv-loop μ-loop
-loop-less c = omega arith
+loop-less c = less-left (c .before .before .before .loop-test .taken)
 
 loop-again : tie.Need-loop-again Inv-loop μ-loop
 loop-again c = (omega arith, below-more _ _ (c .before .before .before .before .loop .inv .1) (c .if1 .left))

@@ -12,6 +12,7 @@ use borrow.Author.Tests.{eq-eqb, ne-eqb}
 use Rattle.laws.proofs.Padded.{pick-written, pick-skipped}
 use Rattle.laws.specs.Lists.{keep, from, upTo, padded}
 use Rattle.laws.proofs.Walks.{keep-few}
+use Rattle.properties.proofs.Turns.{less-left}
 use Rattle.spaces.specs.Steps.{labelled}
 use Rattle.spaces.proofs.grouping.labels_of.Statement.{statement}
 use Rattle.spaces.proofs.grouping.labels_of.Tie as tie
@@ -60,7 +61,7 @@ add-c : tie.Need-add-c Inv-loop μ-loop
 add-c c = omega arith
 
 loop-less : tie.Need-loop-less Inv-loop μ-loop
-loop-less c = omega arith
+loop-less c = less-left (c .before .before .loop-test .taken)
 
 loop-again : tie.Need-loop-again Inv-loop μ-loop
 unfolding labelled

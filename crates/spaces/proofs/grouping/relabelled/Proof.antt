@@ -6,6 +6,7 @@ use lib.ListN.{length}
 use borrow.Author.Needs.{needs}
 use mathlib.Core.Logic.{⊎-elim}
 use Rattle.laws.proofs.Walks.{changed, changed-all}
+use Rattle.properties.proofs.Turns.{less-left}
 use Rattle.spaces.proofs.Uniting.{replaced, replaced-here, replaced-elsewhere}
 use Rattle.spaces.proofs.grouping.relabelled.Statement.{statement}
 use Rattle.spaces.proofs.grouping.relabelled.Tie as tie
@@ -29,7 +30,7 @@ add-i : tie.Need-add-i Inv-loop μ-loop
 add-i c = omega arith
 
 loop-less : tie.Need-loop-less Inv-loop μ-loop
-loop-less c = omega arith
+loop-less c = less-left (c .before .loop-test .taken)
 
 loop-again : tie.Need-loop-again Inv-loop μ-loop
 loop-again c =

@@ -10,6 +10,7 @@ use Rattle.laws.specs.Lists.{keep, upTo}
 use Rattle.laws.proofs.Walks.{left, pick-starts, pick-passes, pick-fails, pick-ends}
 use Rattle.model.specs.Spaces.{unite, uniteAll}
 use Rattle.properties.specs.Tables.{bagAt}
+use Rattle.properties.proofs.Turns.{less-left}
 use Rattle.spaces.specs.Steps.{changedBy, firstOr}
 use Rattle.spaces.proofs.Rows.{differs, changed-kept, first-below}
 use Rattle.spaces.proofs.Uniting.{uniteAll-first}
@@ -81,7 +82,7 @@ add-c : tie.Need-add-c Inv-loop μ-loop
 add-c c = omega arith
 
 loop-less : tie.Need-loop-less Inv-loop μ-loop
-loop-less c = omega arith
+loop-less c = less-left (c .before .before .before .loop-test .taken)
 
 loop-again : tie.Need-loop-again Inv-loop μ-loop
 unfolding differs changed

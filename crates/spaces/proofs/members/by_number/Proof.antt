@@ -7,6 +7,7 @@ use mathlib.Core.List.{map}
 use lib.ListN.{getD, take}
 use Rattle.laws.proofs.Padded.{map-written}
 use Rattle.laws.specs.Lists.{padded}
+use Rattle.properties.proofs.Turns.{less-left}
 use Rattle.spaces.proofs.members.by_number.Statement.{statement}
 use Rattle.spaces.proofs.members.by_number.Tie as tie
 
@@ -45,7 +46,7 @@ add-k : tie.Need-add-k Inv-loop μ-loop
 add-k c = omega arith
 
 loop-less : tie.Need-loop-less Inv-loop μ-loop
-loop-less c = omega arith
+loop-less c = less-left (c .before .before .loop-test .taken)
 
 loop-again : tie.Need-loop-again Inv-loop μ-loop
 loop-again c =

@@ -5,6 +5,7 @@ use mathlib.Core.Path.{_≡_, refl, sym, _∙_}
 use borrow.Author.Needs.{needs}
 use lib.ListN.{length}
 use Rattle.laws.proofs.Lists.{same-eq}
+use Rattle.properties.proofs.Turns.{less-left}
 use Rattle.spaces.specs.Steps.{roundsIn}
 use Rattle.spaces.proofs.Gaining.{Rounds, rounds-start, rounds-next, rounds-end, rounds-stop}
 use Rattle.spaces.proofs.members.close.Statement.{statement}
@@ -67,7 +68,7 @@ add-counter : tie.Need-add-counter Inv-loop μ-loop
 add-counter c = omega arith
 
 loop-less : tie.Need-loop-less Inv-loop μ-loop
-loop-less c = omega arith
+loop-less c = less-left (c .before .before .before .before .before .loop-test .taken)
 
 loop-again : tie.Need-loop-again Inv-loop μ-loop
 loop-again c =

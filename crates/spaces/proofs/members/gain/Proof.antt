@@ -5,7 +5,6 @@ use mathlib.Core.List.{foldl}
 use Rattle.properties.specs.Tables.{bagAt}
 use Rattle.spaces.specs.Steps.{changedBy, joinAt}
 use Rattle.spaces.proofs.Gaining.{gain-started, gain-still, gain-some}
-use borrow.Author.Needs.{needs}
 use Rattle.spaces.proofs.members.gain.Statement.{statement}
 use Rattle.spaces.proofs.members.gain.Tie as tie
 
@@ -53,7 +52,7 @@ join-changed-requires c κs =
     (pre .0, ((pre .1 .1 .0 .1, pre .1 .1 .0 .2), pre .1 .1 .1 .1))
 
 same-length : tie.Need-same-length
-same-length c = search needs
+same-length c = c .before .members .given
 
 returns-3 : tie.Need-returns-3
 returns-3 c =

@@ -5,6 +5,7 @@ use mathlib.Core.Path.{_≡_, refl, sym, _∙_}
 use mathlib.Core.List.{List, foldl}
 use lib.ListN.{length, replicate}
 use Rattle.laws.proofs.Walks.{left, walk-starts, walk-next, walk-ends}
+use Rattle.properties.proofs.Turns.{less-left}
 use Rattle.spaces.specs.Steps.{openAt, openMasks}
 use Rattle.spaces.proofs.members.initial_members.Statement.{statement}
 use Rattle.spaces.proofs.members.initial_members.Tie as tie
@@ -42,7 +43,7 @@ add-object : tie.Need-add-object Inv-loop μ-loop
 add-object c = omega arith
 
 loop-less : tie.Need-loop-less Inv-loop μ-loop
-loop-less c = omega arith
+loop-less c = less-left (c .before .before .before .loop-test .taken)
 
 loop-again : tie.Need-loop-again Inv-loop μ-loop
 loop-again c =

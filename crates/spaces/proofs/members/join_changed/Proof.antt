@@ -6,6 +6,7 @@ use mathlib.Core.Bool.{not}
 use mathlib.Core.Logic.{⊎-elim}
 use mathlib.Core.List.{foldl}
 use borrow.Author.Tests.{eq-eqb, ne-eqb}
+use Rattle.properties.proofs.Turns.{less-left}
 use Rattle.spaces.specs.Steps.{joinAt}
 use Rattle.spaces.proofs.Rows.{differs, changed-kept}
 use Rattle.spaces.proofs.Joining.{Joining, join-start, join-passes, join-fails, join-end}
@@ -51,7 +52,7 @@ add-c : tie.Need-add-c Inv-loop μ-loop
 add-c c = omega arith
 
 loop-less : tie.Need-loop-less Inv-loop μ-loop
-loop-less c = omega arith
+loop-less c = less-left (c .before .before .before .loop-test .taken)
 
 loop-again : tie.Need-loop-again Inv-loop μ-loop
 unfolding differs

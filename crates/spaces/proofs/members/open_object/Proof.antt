@@ -7,6 +7,7 @@ use mathlib.Core.List.{foldl}
 use borrow.Author.Tests.{lt-ltb, le-ltb}
 use Rattle.laws.specs.Bags.{support}
 use Rattle.properties.specs.Tables.{bagAt}
+use Rattle.properties.proofs.Turns.{less-left}
 use Rattle.spaces.specs.Steps.{joinAt, openAt}
 use Rattle.spaces.proofs.Rows.{used, support-kept}
 use Rattle.spaces.proofs.Joining.{Joining, join-start, join-passes, join-fails, join-end}
@@ -51,7 +52,7 @@ add-c : tie.Need-add-c Inv-loop μ-loop
 add-c c = omega arith
 
 loop-less : tie.Need-loop-less Inv-loop μ-loop
-loop-less c = omega arith
+loop-less c = less-left (c .before .before .loop-test .taken)
 
 loop-again : tie.Need-loop-again Inv-loop μ-loop
 unfolding used

@@ -11,6 +11,7 @@ use lib.Seq.{ext-getD}
 use Rattle.laws.specs.Lists.{same}
 use Rattle.laws.proofs.Tests.{by-test}
 use Rattle.laws.proofs.Lists.{same-eq, same-refl}
+use Rattle.properties.proofs.Turns.{less-left}
 use Rattle.spaces.proofs.members.same_masks.Statement.{statement}
 use Rattle.spaces.proofs.members.same_masks.Tie as tie
 
@@ -48,7 +49,7 @@ add-l : tie.Need-add-l Inv-loop μ-loop
 add-l c = omega arith
 
 loop-less : tie.Need-loop-less Inv-loop μ-loop
-loop-less c = omega arith
+loop-less c = less-left (c .before .before .before .loop-test .taken)
 
 loop-again : tie.Need-loop-again Inv-loop μ-loop
 loop-again c = (omega arith, below-more _ _ (c .before .before .before .before .loop .inv .1) (c .if1 .left))

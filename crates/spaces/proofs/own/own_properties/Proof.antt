@@ -11,6 +11,7 @@ use lib.ListN.{length, getD}
 use borrow.Author.Tests.{eq-eqb, ne-eqb}
 use Rattle.laws.proofs.Padded.{pick-written, pick-skipped}
 use Rattle.laws.specs.Lists.{keep, from, upTo, padded}
+use Rattle.properties.proofs.Turns.{less-left}
 use Rattle.spaces.specs.Own.{ownOf}
 use Rattle.spaces.proofs.own.own_properties.Statement.{statement}
 use Rattle.spaces.proofs.own.own_properties.Tie as tie
@@ -47,7 +48,7 @@ add-c : tie.Need-add-c Inv-loop μ-loop
 add-c c = omega arith
 
 loop-less : tie.Need-loop-less Inv-loop μ-loop
-loop-less c = omega arith
+loop-less c = less-left (c .before .before .loop-test .taken)
 
 loop-again : tie.Need-loop-again Inv-loop μ-loop
 unfolding ownOf
