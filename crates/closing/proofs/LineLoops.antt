@@ -1,7 +1,9 @@
 -- Lines written number by number: those of the numbers that are left.
 use Prim.Native.Nat.{ℕ, _+_, _≤_, _<_}
+use native.Mathlib.Omega.{arith}
 use mathlib.Core.Path.{_≡_, sym, ap, _∙_, subst}
 use mathlib.Core.List.{List, [], _∷_, _++_, map, flatMap}
+use lib.ListN.{length}
 use Rattle.laws.specs.Lists.{upTo}
 use Rattle.laws.proofs.Lists.{flatMap-append}
 use Rattle.laws.proofs.Walks.{left, left-all, left-none, left-one}
@@ -9,7 +11,7 @@ use Rattle.model.specs.Lines.{Line}
 use Rattle.model.specs.Text.{lineText, text}
 use Rattle.text.specs.Room.{Room}
 use Rattle.text.specs.Written.{Writes}
-use Rattle.text.proofs.Writing.{Begins}
+use Rattle.text.proofs.Writing.{Begins, Remains}
 
 -- a text may be said in other words
 pub room-as : {bytes bytes′ buffer : List ℕ} → bytes ≡ bytes′ → Room bytes buffer → Room bytes′ buffer
@@ -17,6 +19,10 @@ room-as {buffer = buffer} e r = subst (λ (l : List ℕ). Room l buffer) e r
 
 pub writes-as : {bytes bytes′ before after : List ℕ} {n : ℕ} → bytes ≡ bytes′ → Writes bytes before after n → Writes bytes′ before after n
 writes-as {before = before} {after = after} {n = n} e w = subst (λ (l : List ℕ). Writes l before after n) e w
+
+-- the place that is reached is within the buffer
+pub remains-within : {all rest before now : List ℕ} {at : ℕ} → Remains all rest before now at → at ≤ length now
+remains-within r = omega (arith, r .reached, r .room .fits, r .kept)
 
 -- the text of some lines and of others behind them
 pub text-parts : (front back : List Line) → Begins (text (front ++ back)) (text front) (text back)

@@ -1,4 +1,5 @@
 -- `write_closing` meets its contract.
+use mathlib.Core.Path.{_∙_}
 use native.Mathlib.Omega.{arith}
 use Rattle.model.specs.Lines.{analysis, closingLines}
 use Rattle.model.specs.Text.{text}
@@ -65,7 +66,7 @@ add-result c =
     omega arith
 
 same-length : tie.Need-same-length
-same-length c = search needs
+same-length c = c .before .out2 .given .1 ∙ c .before .before .before .before .before .out .given
 
 pub write-closing-spec : {M : Type 1} → statement M
 write-closing-spec =

@@ -1,4 +1,5 @@
 -- `write_front` meets its contract.
+use mathlib.Core.Path.{_∙_}
 use native.Mathlib.Omega.{arith}
 use Rattle.text.proofs.Writing.{first-fits, rest-inside, second-fits, both}
 use Rattle.closing.proofs.Sizes.{front-parts}
@@ -41,7 +42,7 @@ add-result : tie.Need-add-result
 add-result c = let whole = returns c in omega arith
 
 same-length : tie.Need-same-length
-same-length c = search needs
+same-length c = c .before .out2 .given .1 ∙ c .before .before .before .before .before .out .given
 
 pub write-front-spec : {M : Type 1} → statement M
 write-front-spec =

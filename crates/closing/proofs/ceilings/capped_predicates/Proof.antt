@@ -9,6 +9,7 @@ use Rattle.laws.proofs.Mapped.{all-map}
 use Rattle.card.specs.declared.Schema.{Schema}
 use Rattle.card.specs.Represents.{atomsFor, blankSchema, entries, atomsOf, schemaOf, schemasOf}
 use Rattle.card.proofs.Entries.{default-alike, noSchema}
+use Rattle.properties.proofs.Turns.{less-left}
 use Rattle.closing.proofs.Capping.{capped}
 use Rattle.closing.proofs.Tallying.{Decides, decides-start, decides-next, decides-end}
 use Rattle.closing.proofs.ceilings.capped_predicates.Statement.{statement}
@@ -50,7 +51,7 @@ add-i : tie.Need-add-i Inv-loop μ-loop
 add-i c = let turn = c .before .before in omega (arith, turn .loop-test .taken, turn .before .before .pre .0 .few)
 
 loop-less : tie.Need-loop-less Inv-loop μ-loop
-loop-less c = omega (arith, c .before .before .loop-test .taken)
+loop-less c = less-left (c .before .before .loop-test .taken)
 
 loop-again : tie.Need-loop-again Inv-loop μ-loop
 loop-again c p h arities =

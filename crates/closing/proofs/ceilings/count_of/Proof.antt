@@ -8,6 +8,7 @@ use Rattle.laws.proofs.Counting.{count-map}
 use Rattle.card.specs.Represents.{atomOf, atomsOf, blankAtom}
 use Rattle.model.specs.Lines.{ofPredicate}
 use borrow.Author.Tests.{eq-eqb, ne-eqb}
+use Rattle.properties.proofs.Turns.{less-left}
 use Rattle.closing.proofs.Tallying.{Tally, tally-start, tally-passes, tally-fails, tally-end}
 use Rattle.closing.proofs.ceilings.count_of.Statement.{statement}
 use Rattle.closing.proofs.ceilings.count_of.Tie as tie
@@ -34,7 +35,7 @@ add-i : tie.Need-add-i Inv-loop μ-loop
 add-i c = omega arith
 
 loop-less : tie.Need-loop-less Inv-loop μ-loop
-loop-less c = omega arith
+loop-less c = less-left (c .before .before .before .loop-test .taken)
 
 loop-again : tie.Need-loop-again Inv-loop μ-loop
 unfolding blankAtom

@@ -7,6 +7,7 @@ use lib.ListN.{getD}
 use Rattle.laws.proofs.Counting.{count-map}
 use Rattle.card.specs.Represents.{atomOf, factsOf, blankAtom}
 use Rattle.model.specs.Lines.{ofPredicate}
+use Rattle.properties.proofs.Turns.{less-left}
 use Rattle.closing.proofs.Tallying.{Tallies, tallies-start, tallies-next, tally-end}
 use Rattle.closing.proofs.ceilings.fact_counts.Statement.{statement}
 use Rattle.closing.proofs.ceilings.fact_counts.Tie as tie
@@ -61,7 +62,7 @@ add-i : tie.Need-add-i Inv-loop μ-loop
 add-i c = let turn = c .before .before in omega (arith, turn .loop-test .taken, turn .before .before .pre .few)
 
 loop-less : tie.Need-loop-less Inv-loop μ-loop
-loop-less c = omega (arith, c .before .before .loop-test .taken)
+loop-less c = less-left (c .before .before .loop-test .taken)
 
 loop-again : tie.Need-loop-again Inv-loop μ-loop
 unfolding blankAtom

@@ -4,6 +4,7 @@ use native.Mathlib.Omega.{arith}
 use mathlib.Core.Path.{sym, ap₂, _∙_}
 use lib.Dec.{leb}
 use borrow.Author.Tests.{le-leb, lt-leb}
+use Rattle.properties.proofs.Turns.{less-left}
 use Rattle.closing.proofs.Capping.{Asked, asked-none, asked-capped, asked-uncapped}
 use Rattle.closing.proofs.ceilings.still_capped.Statement.{statement}
 use Rattle.closing.proofs.ceilings.still_capped.Tie as tie
@@ -33,7 +34,7 @@ count-of-requires-2 : tie.Need-count-of-requires-2 Inv-loop μ-loop
 count-of-requires-2 c κs = c .before .before .before .pre .1 .0
 
 loop-less : tie.Need-loop-less Inv-loop μ-loop
-loop-less c = omega (arith, c .before .before .before .loop-test .taken)
+loop-less c = less-left (c .before .before .before .loop-test .taken)
 
 loop-again : tie.Need-loop-again Inv-loop μ-loop
 loop-again c =
@@ -46,7 +47,7 @@ array-write-still c =
     let turn = c .before .before .before in omega (arith, turn .loop-test .taken, turn .before .before .pre .0)
 
 loop-less-2 : tie.Need-loop-less-2 Inv-loop μ-loop
-loop-less-2 c = omega (arith, c .before .before .before .loop-test .taken)
+loop-less-2 c = less-left (c .before .before .before .loop-test .taken)
 
 loop-again-2 : tie.Need-loop-again-2 Inv-loop μ-loop
 loop-again-2 c =

@@ -2,6 +2,7 @@
 use Prim.Native.Nat.{_-_, _≤_, _<_}
 use mathlib.Core.Path.{_≡_}
 use mathlib.Core.List.{[], _∷_, flatMap}
+use native.Mathlib.Nat.{le-refl}
 use native.Mathlib.Omega.{arith}
 use lib.Dec.{eqb}
 use lib.ListN.{length, getD}
@@ -14,10 +15,10 @@ use Rattle.card.specs.Represents.{taskOf, factsOf}
 use Rattle.card.proofs.Entries.{length-facts}
 use Rattle.card.proofs.Counts.{predicate-count, predicates-few, facts-few}
 use Rattle.text.proofs.Writing.{Remains, remains-as, start, next-fits, next, finish}
+use Rattle.properties.proofs.Turns.{one-more, less-left}
 use Rattle.closing.proofs.Capping.{capped-line, uncapped}
-use Rattle.closing.proofs.LineLoops.{linesLeft, lines-start, line-next, no-line, lines-end}
+use Rattle.closing.proofs.LineLoops.{remains-within, linesLeft, lines-start, line-next, no-line, lines-end}
 use Rattle.closing.proofs.Parts.{schemas-fit, facts-fit}
-use borrow.Author.Needs.{needs}
 use Rattle.closing.proofs.ceilings.write_ceilings.Statement.{statement}
 use Rattle.closing.proofs.ceilings.write_ceilings.Tie as tie
 
@@ -70,24 +71,24 @@ array-read-if2 : tie.Need-array-read-if2 Inv-loop μ-loop
 array-read-if2 c = few c
 
 loop-less : tie.Need-loop-less Inv-loop μ-loop
-loop-less c = search needs
+loop-less c = less-left (c .before .if1 .taken)
 
 loop-again : tie.Need-loop-again Inv-loop μ-loop
 loop-again c =
     let l = c .before .before .before .loop in
     let told = counted (c .before) .before .capped-predicates .ensures (l .p) (c .before .if1 .taken) in (
       remains-as (no-line _ _ (l .p) (c .before .if1 .taken) (uncapped _ (l .p) told (not-true _ (c .if2 .taken)))) (l .inv .0),
-      search needs,
+      one-more (c .before .if1 .taken),
     )
 
 sub-write-ceiling : tie.Need-sub-write-ceiling Inv-loop μ-loop
-sub-write-ceiling c = search needs
+sub-write-ceiling c = remains-within (c .before .before .before .loop .inv .0)
 
 part-write-ceiling-start : tie.Need-part-write-ceiling-start Inv-loop μ-loop
-part-write-ceiling-start c = search needs
+part-write-ceiling-start c = remains-within (c .before .before .before .loop .inv .0)
 
 part-write-ceiling-end : tie.Need-part-write-ceiling-end Inv-loop μ-loop
-part-write-ceiling-end c = search needs
+part-write-ceiling-end c = le-refl _
 
 mul-write-ceiling : tie.Need-mul-write-ceiling Inv-loop μ-loop
 mul-write-ceiling c = omega (arith, few (turn c))
@@ -112,21 +113,21 @@ write-ceiling-requires c κs =
     let l = turn c .before .before .loop in next-fits (l .inv .0) (line-next _ _ (l .p) (turn c .if1 .taken) (line c))
 
 loop-less-2 : tie.Need-loop-less-2 Inv-loop μ-loop
-loop-less-2 c = search needs
+loop-less-2 c = less-left (turn (c .before .before .before) .if1 .taken)
 
 loop-again-2 : tie.Need-loop-again-2 Inv-loop μ-loop
 loop-again-2 c =
     let asked = c .before .before .before in
     let l = turn asked .before .before .loop in (
       next (l .inv .0) (line-next _ _ (l .p) (turn asked .if1 .taken) (line asked)) (c .before .before .write-ceiling .ensures),
-      search needs,
+      one-more (turn asked .if1 .taken),
     )
 
 add-at : tie.Need-add-at Inv-loop μ-loop
 add-at c = let r = loop-again-2 c .0 in omega arith
 
 same-length : tie.Need-same-length Inv-loop μ-loop
-same-length c = search needs
+same-length c = c .before .before .loop .inv .0 .kept
 
 returns : tie.Need-returns Inv-loop μ-loop
 returns c = finish (c .before .before .loop .inv .0) (lines-end _ _ _ (c .if1 .left))

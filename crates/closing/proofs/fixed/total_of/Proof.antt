@@ -3,6 +3,7 @@ use Prim.Native.Nat.{_-_, _≤_}
 use native.Mathlib.Omega.{arith}
 use mathlib.Core.Path.{_≡_, refl}
 use lib.ListN.{take, drop}
+use Rattle.properties.proofs.Turns.{less-left}
 use Rattle.closing.specs.Fixed.{firstSome}
 use Rattle.closing.proofs.FirstTotals.{position-found, position-passed, positions-end}
 use borrow.Author.Needs.{needs}
@@ -37,7 +38,7 @@ add-i : tie.Need-add-i Inv-loop μ-loop
 add-i c = search needs
 
 loop-less : tie.Need-loop-less Inv-loop μ-loop
-loop-less c = search needs
+loop-less c = less-left (c .before .before .loop-test .taken)
 
 loop-again : tie.Need-loop-again Inv-loop μ-loop
 loop-again c =

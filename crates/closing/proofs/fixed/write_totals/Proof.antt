@@ -2,6 +2,7 @@
 use Prim.Native.Nat.{ℕ, _-_, _+_, _≤_}
 use mathlib.Core.Path.{_≡_, refl, sym, ap, _∙_}
 use mathlib.Core.List.{[], _∷_, flatMap}
+use native.Mathlib.Nat.{le-refl}
 use native.Mathlib.Omega.{arith}
 use lib.ListN.{length, getD, take}
 use Rattle.laws.specs.Lists.{sum, upTo}
@@ -13,9 +14,11 @@ use Rattle.card.specs.Represents.{aritiesOf, taskOf}
 use Rattle.card.proofs.Counts.{predicate-count, predicates-few}
 use Rattle.properties.proofs.TaskParts.{arities-right}
 use Rattle.text.proofs.Writing.{Remains, remains-as, start, next-fits, next, finish}
+use Rattle.properties.proofs.Turns.{one-more, less-left}
 use Rattle.closing.specs.Fixed.{totalFound}
 use Rattle.closing.proofs.FirstTotals.{length-fixed, totals-found}
-use Rattle.closing.proofs.LineLoops.{room-as, writes-as, linesLeft, lines-start, line-next, no-line, lines-end}
+use Rattle.closing.proofs.LineLoops.{room-as, writes-as, remains-within}
+use Rattle.closing.proofs.LineLoops.{linesLeft, lines-start, line-next, no-line, lines-end}
 use Rattle.closing.proofs.TotalSteps.{begins-next, positions-inside, total-next, total-none}
 use borrow.Author.Needs.{needs}
 use Rattle.closing.proofs.fixed.write_totals.Statement.{statement}
@@ -95,7 +98,7 @@ add-p : tie.Need-add-p Inv-loop μ-loop
 add-p c = omega (arith, predicates-few _ (entry (in-loop c .before) .pre .0))
 
 loop-less : tie.Need-loop-less Inv-loop μ-loop
-loop-less c = search needs
+loop-less c = less-left (in-loop (c .before) .loop-test .taken)
 
 loop-again : tie.Need-loop-again Inv-loop μ-loop
 loop-again c =
@@ -105,7 +108,7 @@ loop-again c =
       remains-as (no-line _ _ (l .p) (here .loop-test .taken)
           (total-none _ (arities-right _ pre) _ _ (here .loop-test .taken) (l .inv .2) _ (c .before .total-of .ensures)
           (c .if1 .taken))) (l .inv .0),
-      search needs,
+      one-more (here .loop-test .taken),
       begins here,
     )
 
@@ -120,13 +123,13 @@ line c =
     (c .before .total-of .ensures) (c .if1 .left) (one-less _ (c .if1 .left))
 
 sub-write-total : tie.Need-sub-write-total Inv-loop μ-loop
-sub-write-total c = search needs
+sub-write-total c = remains-within (in-loop (c .before) .before .loop .inv .0)
 
 part-write-total-start : tie.Need-part-write-total-start Inv-loop μ-loop
-part-write-total-start c = search needs
+part-write-total-start c = remains-within (in-loop (c .before) .before .loop .inv .0)
 
 part-write-total-end : tie.Need-part-write-total-end Inv-loop μ-loop
-part-write-total-end c = search needs
+part-write-total-end c = le-refl _
 
 sub-write-total-2 : tie.Need-sub-write-total-2 Inv-loop μ-loop
 sub-write-total-2 c = positive _ (c .before .if1 .left)
@@ -140,14 +143,14 @@ write-total-requires c κs =
     next-fits (here .before .loop .inv .0) (line-next _ _ _ (here .loop-test .taken) (line (c .before)))
 
 loop-less-2 : tie.Need-loop-less-2 Inv-loop μ-loop
-loop-less-2 c = search needs
+loop-less-2 c = less-left (in-loop (asked (c .before .before)) .loop-test .taken)
 
 loop-again-2 : tie.Need-loop-again-2 Inv-loop μ-loop
 loop-again-2 c =
     let written = c .before .before in
     let here = in-loop (asked written) in (
       next (here .before .loop .inv .0) (line-next _ _ _ (here .loop-test .taken) (line (written .before .before))) (written .write-total .ensures),
-      search needs,
+      one-more (here .loop-test .taken),
       begins here,
     )
 
@@ -155,7 +158,7 @@ add-at : tie.Need-add-at Inv-loop μ-loop
 add-at c = let r = loop-again-2 c .0 in omega arith
 
 same-length : tie.Need-same-length Inv-loop μ-loop
-same-length c = search needs
+same-length c = c .before .loop .inv .0 .kept
 
 returns : tie.Need-returns Inv-loop μ-loop
 returns c =

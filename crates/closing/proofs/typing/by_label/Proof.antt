@@ -6,6 +6,7 @@ use native.Mathlib.Omega.{arith}
 use mathlib.Core.Path.{_≡_, refl, sym, ap, _∙_}
 use mathlib.Core.List.{List}
 use lib.ListN.{length, getD, set, length-set}
+use Rattle.properties.proofs.Turns.{less-left}
 use Rattle.closing.specs.Typing.{labelMasks}
 use Rattle.closing.proofs.typing.by_label.Statement.{statement}
 use Rattle.closing.proofs.typing.by_label.Tie as tie
@@ -42,7 +43,7 @@ add-k : tie.Need-add-k Inv-loop μ-loop
 add-k c = omega arith
 
 loop-less : tie.Need-loop-less Inv-loop μ-loop
-loop-less c = omega arith
+loop-less c = less-left (c .loop-test .taken)
 
 loop-again : tie.Need-loop-again Inv-loop μ-loop
 unfolding labelMasks

@@ -1,6 +1,7 @@
 -- `typing::write_schema_types` meets its contract.
 use Prim.Native.Nat.{ℕ, _+_, _-_, _≤_}
 use mathlib.Core.Path.{ap}
+use native.Mathlib.Nat.{le-refl}
 use native.Mathlib.Omega.{arith}
 use Rattle.model.specs.Lines.{types}
 use Rattle.model.specs.Text.{text}
@@ -8,8 +9,9 @@ use Rattle.masks.specs.Sets.{membersOf}
 use Rattle.properties.specs.Tables.{bagAt}
 use Rattle.spaces.specs.Steps.{enabledBy}
 use Rattle.text.proofs.Writing.{Remains, remains-as, start, next-fits, next, finish}
+use Rattle.properties.proofs.Turns.{one-more, less-left}
 use Rattle.closing.specs.Typing.{typedLines}
-use Rattle.closing.proofs.LineLoops.{eachLeft, each-start, each-next, each-end}
+use Rattle.closing.proofs.LineLoops.{remains-within, eachLeft, each-start, each-next, each-end}
 use borrow.Author.Needs.{needs}
 use Rattle.closing.proofs.typing.write_schema_types.Statement.{statement}
 use Rattle.closing.proofs.typing.write_schema_types.Tie as tie
@@ -45,13 +47,13 @@ enabled-requires c κs =
     (g .grouped, (g .few-objects, (record { inside = omega (arith, s .pre .1 .0) }, g .masks-long)))
 
 sub-write-types : tie.Need-sub-write-types Inv-loop μ-loop
-sub-write-types c = search needs
+sub-write-types c = remains-within (in-loop c .before .loop .inv .0)
 
 part-write-types-start : tie.Need-part-write-types-start Inv-loop μ-loop
-part-write-types-start c = search needs
+part-write-types-start c = remains-within (in-loop c .before .loop .inv .0)
 
 part-write-types-end : tie.Need-part-write-types-end Inv-loop μ-loop
-part-write-types-end c = search needs
+part-write-types-end c = le-refl _
 
 write-types-requires : tie.Need-write-types-requires Inv-loop μ-loop
 write-types-requires c κs =
@@ -65,7 +67,7 @@ add-k : tie.Need-add-k Inv-loop μ-loop
 add-k c = search needs
 
 loop-less : tie.Need-loop-less Inv-loop μ-loop
-loop-less c = search needs
+loop-less c = less-left (in-loop (c .before .before .before .before) .loop-test .taken)
 
 loop-again : tie.Need-loop-again Inv-loop μ-loop
 loop-again c =
@@ -76,14 +78,14 @@ loop-again c =
           (each-next _ _ (l .k) (here .loop-test .taken)
           (ap (λ (m : ℕ). types (entry (here .before) .args .n) (l .k) (membersOf m)) (found .enabled .ensures)))
           (c .before .before .write-types .ensures),
-      search needs,
+      one-more (here .loop-test .taken),
     )
 
 add-at : tie.Need-add-at Inv-loop μ-loop
 add-at c = let r = loop-again c .0 in omega arith
 
 same-length : tie.Need-same-length Inv-loop μ-loop
-same-length c = search needs
+same-length c = c .before .loop .inv .0 .kept
 
 returns : tie.Need-returns Inv-loop μ-loop
 returns c = finish (c .before .loop .inv .0) (each-end _ _ _ (c .loop-test .left))

@@ -2,6 +2,7 @@
 use Prim.Native.Nat.{ℕ, _-_, _≤_}
 use mathlib.Core.Path.{sym, subst}
 use mathlib.Core.List.{List}
+use native.Mathlib.Nat.{le-refl}
 use native.Mathlib.Omega.{arith}
 use lib.ListN.{length}
 use Rattle.model.specs.Lines.{typeLines}
@@ -15,7 +16,9 @@ use Rattle.properties.proofs.ParameterRows.{sizesOf, Counted, count-start}
 use Rattle.properties.proofs.TaskParts.{arities-right}
 use Rattle.text.proofs.Writing.{Remains, start, next-fits, next, finish}
 use Rattle.card.proofs.Entries.{noSchema}
+use Rattle.properties.proofs.Turns.{one-more, less-left}
 use Rattle.closing.specs.Typing.{MembersGiven}
+use Rattle.closing.proofs.LineLoops.{remains-within}
 use Rattle.closing.proofs.SchemaLines.{schemasLeft, TypesGiven, parameters-next, rows-within, rows-few, schema-next, schemas-end}
 use Rattle.closing.proofs.TypedObjects.{spaces-few, lowest-known, members-given}
 use borrow.Author.Needs.{needs}
@@ -75,13 +78,13 @@ element-copy-out-schema : tie.Need-element-copy-out-schema Inv-loop μ-loop
 element-copy-out-schema c = omega (arith, schemas-few _ (entry (labelled (c .before)) .pre .0))
 
 sub-write-schema-types : tie.Need-sub-write-schema-types Inv-loop μ-loop
-sub-write-schema-types c = search needs
+sub-write-schema-types c = remains-within (c .before .before .loop .inv .0)
 
 part-write-schema-types-start : tie.Need-part-write-schema-types-start Inv-loop μ-loop
-part-write-schema-types-start c = search needs
+part-write-schema-types-start c = remains-within (c .before .before .loop .inv .0)
 
 part-write-schema-types-end : tie.Need-part-write-schema-types-end Inv-loop μ-loop
-part-write-schema-types-end c = search needs
+part-write-schema-types-end c = le-refl _
 
 slice-aggregate-write-schema-types : tie.Need-slice-aggregate-write-schema-types Inv-loop μ-loop
 slice-aggregate-write-schema-types c = search needs
@@ -120,7 +123,7 @@ add-i : tie.Need-add-i Inv-loop μ-loop
 add-i c = omega (arith, schemas-few _ (entry (labelled (in-loop (c .before .before .before) .before)) .pre .0))
 
 loop-less : tie.Need-loop-less Inv-loop μ-loop
-loop-less c = search needs
+loop-less c = less-left (in-loop (c .before .before .before) .loop-test .taken)
 
 loop-again : tie.Need-loop-again Inv-loop μ-loop
 loop-again c =
@@ -130,7 +133,7 @@ loop-again c =
     let g = given (labelled (more .before)) in
     let here = more .loop-test .taken in (
       next (l .inv .0) (schema-next g (l .inv .2) noSchema here) (called .write-schema-types .ensures),
-      search needs,
+      one-more here,
       parameters-next g (l .inv .2) noSchema here,
     )
 
@@ -138,7 +141,7 @@ add-at : tie.Need-add-at Inv-loop μ-loop
 add-at c = let r = loop-again c .0 in omega arith
 
 same-length : tie.Need-same-length Inv-loop μ-loop
-same-length c = search needs
+same-length c = c .before .loop .inv .0 .kept
 
 returns : tie.Need-returns Inv-loop μ-loop
 returns c = finish (c .before .loop .inv .0) (schemas-end (given (labelled (c .before))) (c .loop-test .left))
