@@ -39,7 +39,8 @@ module _ (known : ℕ) (schema : Schema) (objects : List ℕ) (next : Answer Sta
     unfolding complete
     completes = and-intro _ _ (eq-eqb (length objects) (schema .parameters) number) all-known
 
-    pub object-repeated : {buffer : List ℕ} → distinct objects ≡ false → Matches (storing buffer (checkObjects known schema objects >> next)) buffer ObjectsRepeated
+    pub object-repeated : {buffer : List ℕ} → distinct objects ≡ false
+        → Matches (storing buffer (checkObjects known schema objects >> next)) buffer ObjectsRepeated
     unfolding complete storing checkObjects need _>>_ _>>=_ finish appliedSays
     object-repeated e = rw (completes, e) (record { answer = refl; buffer = refl })
 
