@@ -13,7 +13,7 @@ use borrow.Author.Tests.{le-leb}
 use Rattle.laws.specs.Lists.{keep, count}
 use Rattle.laws.specs.Bags.{plus, less, meet, contains}
 use Rattle.laws.proofs.Tests.{never, and-intro, by-test, not-true, to-not-true}
-use Rattle.laws.proofs.Lists.{keep-at, keep-intro, count-append}
+use Rattle.laws.proofs.Lists.{keep-at, keep-intro, length-keep, count-append}
 
 module _ {A : Type 0} where
   -- no more elements pass than there are
@@ -62,7 +62,7 @@ module _ {A : Type 0} where
       go false p false q k grows rest most (inr j) = rest most j
 
   -- a test that always passes counts all
-  count-all : (xs : List A) → count (λ x. true) xs ≡ length xs
+  pub count-all : (xs : List A) → count (λ x. true) xs ≡ length xs
   unfolding count
   count-all [] = refl
   count-all (x ∷ xs) = ap suc (count-all xs)
@@ -165,6 +165,19 @@ module _ {A : Type 0} where
           + count f (cond (not b) (x ∷ keep (λ x. not (g x)) xs) (keep (λ x. not (g x)) xs))
       go true e = omega (arith, count-front f x (keep g xs))
       go false e = omega (arith, count-front f x (keep (λ x. not (g x)) xs))
+
+  -- those that pass a test and those that fail it make up the length
+  pub count-both : (test : A → Bool) (xs : List A) → count test xs + count (λ x. not (test x)) xs ≡ length xs
+  count-both test xs =
+      omega (
+        arith,
+        count-split (λ x. true) test xs,
+        count-all xs,
+        count-all (keep test xs),
+        count-all (keep (λ x. not (test x)) xs),
+        length-keep test xs,
+        length-keep (λ x. not (test x)) xs,
+      )
 
   -- where nothing stands twice, nothing kept does
   pub no-repeat-keep : (test : A → Bool) (xs : List A) → NoRepeat xs → NoRepeat (keep test xs)

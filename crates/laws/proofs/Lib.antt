@@ -16,3 +16,4 @@ pub mod Walks
 pub mod Padded
 pub mod Restricted
 pub mod Places
+pub mod Increasing

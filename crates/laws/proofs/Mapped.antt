@@ -1,13 +1,13 @@
 -- Mapped lists, and functions and tests that agree on a list.
 use Prim.Native.Nat.{ℕ, zero, suc, _<_}
 use native.Mathlib.Nat.{le-of-suc-le-suc, not-suc-le-zero}
-use mathlib.Core.Path.{_≡_, refl, ap, _∙_}
+use mathlib.Core.Path.{_≡_, refl, sym, ap, _∙_}
 use mathlib.Core.Bool.{Bool, true, false, cond, _&&_, _||_}
 use mathlib.Core.Logic.{_⊎_, inl, inr}
 use mathlib.Core.List.{List, [], _∷_, _++_, map, flatMap, List·Memᴰ, List·Memᴰ·head, List·Memᴰ·tail, List·Memᴰ·cases-cons, List·Memᴰ·not-nil}
 use lib.ListN.{length, getD, take, replicate}
 use Rattle.laws.specs.Lists.{any, all, keep}
-use Rattle.laws.proofs.Tests.{and-intro, cond-false}
+use Rattle.laws.proofs.Tests.{never, and-intro, cond-true, cond-false}
 
 module _ {A B : Type 0} where
   -- an element of a mapped list
@@ -51,6 +51,28 @@ module _ {A : Type 0} where
   unfolding keep
   keep-none test [] h = refl
   keep-none test (x ∷ xs) h = cond-false (test x) _ _ (h x (List·Memᴰ·head refl)) ∙ keep-none test xs (λ y m. h y (List·Memᴰ·tail m))
+
+  -- all is kept where every element passes
+  pub keep-all : (test : A → Bool) (xs : List A) → ((x : A) → List·Memᴰ x xs → test x ≡ true) → keep test xs ≡ xs
+  unfolding keep
+  keep-all test [] h = refl
+  keep-all test (x ∷ xs) h =
+      cond-true (test x) _ _ (h x (List·Memᴰ·head refl))
+      ∙ ap (λ (l : List A). x ∷ l) (keep-all test xs (λ y m. h y (List·Memᴰ·tail m)))
+
+  -- of what passes a test, those that pass a test that asks for more
+  pub keep-narrow : (wide narrow : A → Bool) (xs : List A) → ((x : A) → narrow x ≡ true → wide x ≡ true)
+      → keep narrow (keep wide xs) ≡ keep narrow xs
+  unfolding keep
+  keep-narrow wide narrow [] h = refl
+  keep-narrow wide narrow (x ∷ xs) h = go (keep-narrow wide narrow xs h) (narrow x) refl (wide x) refl
+    where
+      go : keep narrow (keep wide xs) ≡ keep narrow xs → (n : Bool) → narrow x ≡ n → (w : Bool) → wide x ≡ w
+          → keep narrow (cond w (x ∷ keep wide xs) (keep wide xs)) ≡ cond n (x ∷ keep narrow xs) (keep narrow xs)
+      go later true p true q = cond-true (narrow x) _ _ p ∙ ap (λ (l : List A). x ∷ l) later
+      go later true p false q = never (sym (h x p) ∙ q)
+      go later false p true q = cond-false (narrow x) _ _ p ∙ later
+      go later false p false q = later
 
   -- a function that maps a list to itself leaves each element as it is
   pub map-fixed : (f : A → A) (xs : List A) → map f xs ≡ xs → (x : A) → List·Memᴰ x xs → f x ≡ x

@@ -5,8 +5,9 @@ use mathlib.Core.Path.{_≡_, refl, sym, ap}
 use mathlib.Core.Bool.{Bool, true, false, _&&_}
 use lib.Dec.{leb}
 use borrow.Author.Tests.{leb-true}
-use Rattle.laws.proofs.Tests.{and-left, and-right}
+use Rattle.laws.proofs.Tests.{never, and-left, and-right}
 use Rattle.model.specs.Answer.{Answer, refused, accepted, _>>=_, _>>_, need}
+use Rattle.model.specs.Open.{isAccepted}
 
 -- an accepted answer is not refused
 pub accepted-not-refused : {A C : Type 0} {a : A} {n : ℕ} → accepted a ≡ refused n → C
@@ -88,6 +89,17 @@ need-both-inv test number y e f = both-inv (need test number) y e λ p q. f (nee
 
 pub need-both : {A : Type 0} {test : Bool} (number : ℕ) (y : Answer A) → test ≡ true → (need test number >> y) ≡ y
 need-both number y e = both-accepted y (need-accepted number e)
+
+-- the test for an accepted answer: it has a value, and a check in front of it is one test more
+pub accepted-value : {A : Type 0} (x : Answer A) → isAccepted x ≡ true → (a : A) × (x ≡ accepted a)
+unfolding isAccepted
+accepted-value (refused n) e = never (sym e)
+accepted-value (accepted a) e = (a, refl)
+
+pub accepted-both : {A : Type 0} (test : Bool) (number : ℕ) (x : Answer A) → isAccepted (need test number >> x) ≡ (test && isAccepted x)
+unfolding isAccepted need _>>_
+accepted-both true number x = refl
+accepted-both false number x = refl
 
 -- every number by which an answer may be refused lies from `low` to `high`
 abbrev pub RefusedWithin : {A : Type 0} → ℕ → ℕ → Answer A → Type 0

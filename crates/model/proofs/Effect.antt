@@ -24,7 +24,7 @@ use Rattle.model.proofs.Valid.{Valid}
 use Rattle.model.proofs.Putting.{putAll, has-picks, putAll-ascending, putAll-stays, putAll-there, putAll-at}
 use Rattle.model.proofs.Order.{ascending-no-repeat, known-arguments}
 use Rattle.model.proofs.Binding.{bounded, ground-no-repeat, count-bound, count-elsewhere}
-use Rattle.model.proofs.Checked.{CheckedSchema, checked, CheckedList, CheckedAction, schemaAt-right, checked-action}
+use Rattle.model.proofs.Checked.{CheckedSchema, checked, CheckedList, schemaAt-right, checked-action}
 use Rattle.model.proofs.States.{keep-ascending}
 
 -- Some atoms of a schema with an action's objects: every parameter has an object, and the facts they become differ.
@@ -43,9 +43,9 @@ pub record Ready (schema : Schema) (objects : List ℕ) (s : State) : Type 0 whe
   pub deletes-hold : (f : Atom) → List·Memᴰ f (map (ground objects) (schema .deletes)) → List·Memᴰ f s
 
 -- a list of a schema that passed the checks, with one object for each parameter, all different
-list-grounded : (arities : List ℕ) (parameters : ℕ) (test : Atom → Bool) (objects : List ℕ) (atoms : List Atom)
-    → CheckedList arities parameters test atoms → length objects ≡ parameters → distinct objects ≡ true → Grounded objects atoms
-list-grounded arities parameters test objects atoms checked complete different =
+list-grounded : {arities : List ℕ} {parameters : ℕ} {test : Atom → Bool} {atoms : List Atom} → CheckedList arities parameters test atoms
+    → (objects : List ℕ) → length objects ≡ parameters → distinct objects ≡ true → Grounded objects atoms
+list-grounded {arities} {parameters} {test} {atoms} checked objects complete different =
     record { bound = within; once = ground-no-repeat objects different atoms within (ascending-no-repeat none atoms (checked .in-order)) }
   where
     within : (a : Atom) → List·Memᴰ a atoms → bounded objects (a .arguments) ≡ true
@@ -53,35 +53,34 @@ list-grounded arities parameters test objects atoms checked complete different =
         subst (λ (n : ℕ). all (λ x. ltb x n) (a .arguments) ≡ true) (sym complete)
         (known-arguments arities parameters a (all-at _ atoms (checked .atoms-known) a m))
 
+-- a schema that passed the checks, with one object for each parameter, all different, whose preconditions are in the state
+pub checked-ready : {arities : List ℕ} {schema : Schema} → CheckedSchema arities schema → (objects : List ℕ) (s : State)
+    → ascending none s ≡ true → length objects ≡ schema .parameters → distinct objects ≡ true → applicable schema objects s ≡ true
+    → Ready schema objects s
+unfolding applicable
+checked-ready {arities} {schema} lists objects s in-order complete different holds = record {
+  different = different;
+  in-order = in-order;
+  preconditions = list-grounded (lists .preconditions-right) objects complete different;
+  deletes = list-grounded (lists .deletes-right) objects complete different;
+  adds = list-grounded (lists .adds-right) objects complete different;
+  preconditions-hold = hold;
+  deletes-hold = λ f m.
+      let r = Memᴰ·of-map (ground objects) (schema .deletes) m in
+      let among = all-at _ (schema .deletes) (lists .deletes-right .atoms-pass) (r .0) (r .1) in
+      subst (λ (g : Atom). List·Memᴰ g s) (r .2) (hold _ (Memᴰ·map (ground objects) (has-picks (schema .preconditions) .picked (r .0) among)));
+}
+  where
+    hold : (f : Atom) → List·Memᴰ f (map (ground objects) (schema .preconditions)) → List·Memᴰ f s
+    hold f m = has-picks s .picked f (all-at (has s) _ holds f m)
+
 -- an action that a valid state of an accepted task allows
 pub allowed-ready : (t : Task) (s : State) (a : Action) → checkTask t ≡ accepted tt → Valid t s → Allowed t s a
     → Ready (schemaAt t (a .schema)) (a .objects) s
-unfolding applicable
-allowed-ready t s a ok valid allowed = record {
-  different = named .all-different;
-  in-order = valid .in-order;
-  preconditions = list-grounded _ _ _ (a .objects) _ (lists .preconditions-right) (named .one-for-each) (named .all-different);
-  deletes = list-grounded _ _ _ (a .objects) _ (lists .deletes-right) (named .one-for-each) (named .all-different);
-  adds = list-grounded _ _ _ (a .objects) _ (lists .adds-right) (named .one-for-each) (named .all-different);
-  preconditions-hold = hold;
-  deletes-hold = λ f m.
-      let r = Memᴰ·of-map (ground (a .objects)) (schema .deletes) m in
-      let among = all-at _ (schema .deletes) (lists .deletes-right .atoms-pass) (r .0) (r .1) in
-      subst (λ (g : Atom). List·Memᴰ g s) (r .2)
-      (hold _ (Memᴰ·map (ground (a .objects)) (has-picks (schema .preconditions) .picked (r .0) among)));
-}
-  where
-    schema : Schema
-    schema = schemaAt t (a .schema)
-
-    named : CheckedAction t a
-    named = checked-action t a (allowed .named)
-
-    lists : CheckedSchema (t .arities) schema
-    lists = schemaAt-right t (checked t ok) (a .schema) (named .schema-known)
-
-    hold : (f : Atom) → List·Memᴰ f (map (ground (a .objects)) (schema .preconditions)) → List·Memᴰ f s
-    hold f m = has-picks s .picked f (all-at (has s) _ (allowed .holds) f m)
+allowed-ready t s a ok valid allowed =
+    let named = checked-action t a (allowed .named) in
+    checked-ready (schemaAt-right t (checked t ok) (a .schema) (named .schema-known)) (a .objects) s (valid .in-order)
+    (named .one-for-each) (named .all-different) (allowed .holds)
 
 -- the facts that a state keeps, and the adds that are among them: absorbed, since they are put in and change nothing
 unfoldable pub keptFacts : Schema → List ℕ → State → State

@@ -32,3 +32,8 @@ pub mod TextLines
 pub mod SectionCalls
 pub mod Refusals
 pub mod TruthTells
+pub mod Bindings
+pub mod OpenActions
+pub mod OpenBySchema
+pub mod NextState
+pub mod OpenCalls

@@ -14,18 +14,19 @@ use Rattle.model.specs.Extension.{extension-opens}
 use Rattle.model.specs.Lines.{lines-open}
 use Rattle.model.specs.Text.{text-opens}
 use Rattle.model.specs.Calls.{calls-open}
+use Rattle.model.specs.Open.{open-opens}
 use Rattle.model.specs.Vectors.{Entry, table, answer, vectors-open}
 use Rattle.model.specs.Vectors.{bench-card, presses-refused, presses-made, swallowed-add, mixed-space, conditions-56, wide-space}
 use Rattle.model.specs.Vectors.{no-bytes, byte-more, objects-65, objects-64, roles-1, roles-7}
 use Rattle.model.specs.Vectors.{two-starts, two-rounds, three-arguments, two-digits, empty-lists, conditions-64, condition-65}
 use Rattle.model.specs.Vectors.{section-written, section-past, short-first, card-first, zeros-after, table-written, table-short}
-use Rattle.model.specs.Vectors.{atoms-first, list-of-9}
+use Rattle.model.specs.Vectors.{atoms-first, list-of-9, two-open, after-closed, given-refused, state-first, no-room}
 
 -- opens every definition, for what is proved by computation
 unfoldable pub definitions-open : Unit {0}
 unfolding
     flatMap lists-open bags-open answer-opens card-opens writer-opens strips-opens transitions-open spaces-open extension-opens
-    lines-open text-opens calls-open vectors-open
+    lines-open text-opens calls-open open-opens vectors-open
 definitions-open = tt
 
 -- the definitions answer as expected
@@ -148,6 +149,26 @@ list-of-9-holds : Holds list-of-9
 unfolding definitions-open
 list-of-9-holds = refl
 
+two-open-holds : Holds two-open
+unfolding definitions-open
+two-open-holds = refl
+
+after-closed-holds : Holds after-closed
+unfolding definitions-open
+after-closed-holds = refl
+
+given-refused-holds : Holds given-refused
+unfolding definitions-open
+given-refused-holds = refl
+
+state-first-holds : Holds state-first
+unfolding definitions-open
+state-first-holds = refl
+
+no-room-holds : Holds no-room
+unfolding definitions-open
+no-room-holds = refl
+
 -- each entry of a list holds
 infixr 5 _and_
 data AllHold : List Entry → Type 0 where
@@ -193,6 +214,11 @@ every-entry =
     and table-short-holds
     and atoms-first-holds
     and list-of-9-holds
+    and two-open-holds
+    and after-closed-holds
+    and given-refused-holds
+    and state-first-holds
+    and no-room-holds
     and none
 
 -- every entry of the table holds

@@ -9,4 +9,5 @@ pub mod Lines
 pub mod Text
 pub mod Calls
 pub mod Truth
+pub mod Open
 pub mod Vectors

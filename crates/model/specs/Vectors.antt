@@ -1,18 +1,20 @@
 -- Document 01, "The bench card": K1 to K11 as questions with their answers, and further ones where K1 to K11 leave a trap open. That every
 -- entry holds is `vectors-hold` of proofs/Vectors.antt, where each entry has a theorem of its own besides.
-use Prim.Native.Nat.{ℕ, zero, suc, _+_, _*_}
+use Prim.Native.Nat.{ℕ, zero, suc, _+_, _-_, _*_}
 use Prim.Native.Char.{code}
 use Prim.Native.String as text
 use Prim.Native.String.{String}
 use mathlib.Core.List.{List, [], _∷_, _++_, map, flatMap}
+use mathlib.Core.Option.{Option, none, some}
 use lib.ListN.{length, take, drop, replicate, set}
 use Rattle.laws.specs.Lists.{from, upTo}
 use Rattle.model.specs.Answer.{Answer, refused, accepted}
 use Rattle.model.specs.Card.{Atom, Schema, Task, decode}
-use Rattle.model.specs.Strips.{Action, stateBytes, factBytes}
+use Rattle.model.specs.Strips.{Action, stateBytes, factBytes, factsIn}
 use Rattle.model.specs.Lines.{Analysis, analysis}
 use Rattle.model.specs.Text.{kindLetter}
 use Rattle.model.specs.Calls.{Call, Standing, encode, initial, press, pressed, section, program, history, stateOf, counted}
+use Rattle.model.specs.Open.{bindings, openAfter, nextOpen, oneByOne}
 
 -- the bytes of a text in ASCII
 unfoldable pub ascii : String → List ℕ
@@ -32,6 +34,8 @@ pub data Question : Type 0 where
   reads : List ℕ → Question  -- whether a card is accepted
   lists : List ℕ → ℕ → ℕ → Question  -- the listing call: a card, a section's number, the size of the buffer lent
   writes : Task → ℕ → Question  -- the card writer: a table, the size of the buffer lent
+  shows : List ℕ → List (List ℕ) → ℕ → Question  -- the open actions one by one: a card, a state's facts of four bytes each, how often is asked
+  asks : List ℕ → List (List ℕ) → List (Option Action) → Question  -- the call for the next open action, after each of these: a card, such a state
 
 -- 1 and a value, or 0 and the number of a refusal
 unfoldable pub said : Answer ℕ → List ℕ
@@ -69,6 +73,20 @@ extension [] n = []
 extension (a ∷ analyses) zero = kindLetter (a .kind) ∷ length (a .conditions) ∷ []
 extension (a ∷ analyses) (suc n) = extension analyses n
 
+-- a buffer that holds a state's facts, of four bytes each
+unfoldable pub holding : List (List ℕ) → List ℕ
+holding rows = let facts = flatMap (λ row. row) rows in facts ++ fresh (stateBytes - length facts)
+
+-- the schema of an action, then its objects
+unfoldable pub actionNumbers : Action → List ℕ
+actionNumbers a = a .schema ∷ a .objects
+
+-- 1 and the next open action, 1 alone at the end, or 0 and the number of a refusal
+unfoldable pub saidNext : Answer (Option Action) → List ℕ
+saidNext (accepted (some a)) = 1 ∷ actionNumbers a
+saidNext (accepted none) = 1 ∷ []
+saidNext (refused number) = 0 ∷ number ∷ []
+
 unfoldable pub reply : Question → Answer Task → List (List ℕ)
 reply (prints card) answer = program card ∷ []
 reply (plays card actions) (accepted t) = playing card t actions (atOpening card)
@@ -80,6 +98,9 @@ reply (reads card) (accepted t) = (1 ∷ []) ∷ []
 reply (reads card) (refused number) = (0 ∷ number ∷ []) ∷ []
 reply (lists card number size) answer = callReply (section card number (fresh size))
 reply (writes t size) answer = callReply (encode t (fresh size))
+reply (shows card rows n) (accepted t) = map actionNumbers (oneByOne (openAfter t (factsIn (t .arities) (length rows) (holding rows))) n none)
+reply (shows card rows n) (refused number) = (0 ∷ number ∷ []) ∷ []
+reply (asks card rows given) answer = map (λ a. saidNext (nextOpen card (holding rows) (length rows) a)) given
 
 unfoldable pub cardOf : Question → List ℕ
 cardOf (prints card) = card
@@ -89,6 +110,8 @@ cardOf (extends card n) = card
 cardOf (reads card) = card
 cardOf (lists card number size) = card
 cardOf (writes t size) = []
+cardOf (shows card rows n) = card
+cardOf (asks card rows given) = card
 
 -- what the definitions answer
 unfoldable pub answer : Question → List (List ℕ)
@@ -424,17 +447,71 @@ list-of-9 =
       expected = (0 ∷ 6 ∷ []) ∷ (7 ∷ 7 ∷ 7 ∷ 7 ∷ []) ∷ [];
     }
 
+-- K1 after schema 0 on 0, four bytes a fact: idle(1), armed(0), holds(0,2), holds(1,3), sample(2), sample(3)
+unfoldable pub armed : List (List ℕ)
+armed =
+    (0 ∷ 1 ∷ 255 ∷ 255 ∷ []) ∷ (1 ∷ 0 ∷ 255 ∷ 255 ∷ []) ∷ (2 ∷ 0 ∷ 2 ∷ 255 ∷ []) ∷ (2 ∷ 1 ∷ 3 ∷ 255 ∷ [])
+    ∷ (3 ∷ 2 ∷ 255 ∷ 255 ∷ []) ∷ (3 ∷ 3 ∷ 255 ∷ 255 ∷ []) ∷ []
+
+-- there, schema 0 on 1 and schema 1 on 0 2 3 are open, and nothing more comes however often one asks
+unfoldable pub two-open : Entry
+two-open = record { question = shows k1 armed 9; expected = (0 ∷ 1 ∷ []) ∷ (1 ∷ 0 ∷ 2 ∷ 3 ∷ []) ∷ [] }
+
+-- the given action need not be open: schema 0 on 0 is not, nor is schema 1 on 0 1 2. After the last open one comes the end
+unfoldable pub after-closed : Entry
+after-closed =
+    record {
+      question =
+          asks k1 armed
+          (none ∷ some (act 0 (0 ∷ [])) ∷ some (act 0 (1 ∷ [])) ∷ some (act 1 (0 ∷ 1 ∷ 2 ∷ [])) ∷ some (act 1 (0 ∷ 2 ∷ 3 ∷ [])) ∷ []);
+      expected = (1 ∷ 0 ∷ 1 ∷ []) ∷ (1 ∷ 0 ∷ 1 ∷ []) ∷ (1 ∷ 1 ∷ 0 ∷ 2 ∷ 3 ∷ []) ∷ (1 ∷ 1 ∷ 0 ∷ 2 ∷ 3 ∷ []) ∷ (1 ∷ []) ∷ [];
+    }
+
+-- but 16 to 18 refuse it as at a press
+unfoldable pub given-refused : Entry
+given-refused =
+    record {
+      question =
+          asks k1 armed
+          (some (act 2 (0 ∷ [])) ∷ some (act 1 (0 ∷ 2 ∷ [])) ∷ some (act 0 (4 ∷ [])) ∷ some (act 1 (0 ∷ 2 ∷ 2 ∷ [])) ∷ []);
+      expected = (0 ∷ 16 ∷ []) ∷ (0 ∷ 17 ∷ []) ∷ (0 ∷ 17 ∷ []) ∷ (0 ∷ 18 ∷ []) ∷ [];
+    }
+
+-- a state that is not well formed, sample(3) before idle(1), is refused before the given action, and with none given
+unfoldable pub state-first : Entry
+state-first =
+    record {
+      question = asks k1 ((3 ∷ 3 ∷ 255 ∷ 255 ∷ []) ∷ (0 ∷ 1 ∷ 255 ∷ 255 ∷ []) ∷ []) (some (act 2 (0 ∷ [])) ∷ none ∷ []);
+      expected = (0 ∷ 15 ∷ []) ∷ (0 ∷ 15 ∷ []) ∷ [];
+    }
+
+-- sixteen predicates of arity 3 and q/1, four objects; a rule adds q(X), and one takes p(X,X,X) of the first predicate and adds q(X)
+unfoldable pub crowding : List ℕ
+crowding =
+    17 ∷ replicate 16 3 ++ (1 ∷ 4 ∷ 2 ∷ 0x08 ∷ 1 ∷ 16 ∷ 0 ∷ 0x0E ∷ 1 ∷ 0 ∷ 0 ∷ 0 ∷ 0 ∷ 1 ∷ 0 ∷ 0 ∷ 0 ∷ 0 ∷ 1 ∷ 16 ∷ 0 ∷ 0 ∷ 0 ∷ [])
+
+-- on a state of 1,024 facts, all those of arity 3, the first rule is closed by 20 and the second is open
+unfoldable pub no-room : Entry
+no-room =
+    record {
+      question = shows crowding (flatMap (λ p. map (λ objects. p ∷ objects) (bindings 4 3)) (upTo 16)) 9;
+      expected = (1 ∷ 0 ∷ []) ∷ (1 ∷ 1 ∷ []) ∷ (1 ∷ 2 ∷ []) ∷ (1 ∷ 3 ∷ []) ∷ [];
+    }
+
 unfoldable pub table : List Entry
 table =
     bench-card ∷ presses-refused ∷ presses-made ∷ swallowed-add ∷ mixed-space ∷ conditions-56 ∷ wide-space ∷ no-bytes ∷ byte-more
     ∷ objects-65 ∷ objects-64 ∷ roles-1 ∷ roles-7 ∷ two-starts ∷ two-rounds ∷ three-arguments ∷ two-digits ∷ empty-lists ∷ conditions-64 ∷ condition-65
-    ∷ section-written ∷ section-past ∷ short-first ∷ card-first ∷ zeros-after ∷ table-written ∷ table-short ∷ atoms-first ∷ list-of-9 ∷ []
+    ∷ section-written ∷ section-past ∷ short-first ∷ card-first ∷ zeros-after ∷ table-written ∷ table-short ∷ atoms-first ∷ list-of-9
+    ∷ two-open ∷ after-closed ∷ given-refused ∷ state-first ∷ no-room ∷ []
 
 -- opens every definition of this module but the table, for what is proved by computation
 unfoldable pub vectors-open : Unit {0}
 unfolding
-    ascii lines said frontShown callReply playing fresh atOpening cleared extension reply cardOf answer k1 k4 k5 moving k6 starts turning eleven bare growing
-    act unary tableWith bench-card presses-refused presses-made swallowed-add mixed-space conditions-56 wide-space no-bytes byte-more
+    ascii lines said frontShown callReply playing fresh atOpening cleared extension holding actionNumbers saidNext reply cardOf answer
+    k1 k4 k5 moving k6 starts turning eleven bare growing act unary tableWith
+    bench-card presses-refused presses-made swallowed-add mixed-space conditions-56 wide-space no-bytes byte-more
     objects-65 objects-64 roles-1 roles-7 two-starts two-rounds three-arguments two-digits empty-lists conditions-64 condition-65 section-written
     section-past short-first card-first zeros-after table-written table-short atoms-first list-of-9
+    armed two-open after-closed given-refused state-first crowding no-room
 vectors-open = tt
