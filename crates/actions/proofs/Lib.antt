@@ -1,2 +1,3 @@
 pub mod GroundRows
 pub mod Passing
+pub mod Holding

@@ -3,9 +3,8 @@ use card::Atom;
 use card::AtomList;
 use card::FactList;
 use card::Schema;
-use sets::Found;
-use sets::find;
 use state::FILLER;
+use state::has_row;
 use state::row_number;
 ghost use Prim.Native.Nat.{_≤_, _<_};
 ghost use mathlib.Core.Bool.{true};
@@ -18,9 +17,8 @@ ghost use Rattle.model.specs.Card.{inRange};
 ghost use Rattle.model.specs.Strips.{ground, takenOut, putIn};
 ghost use Rattle.model.specs.Writer.{known};
 ghost use Rattle.card.specs.Represents.{atomOf, atomsOf, factsOf, schemaOf};
-ghost use Rattle.sets.specs.Numbers.{rising};
-ghost use Rattle.state.specs.Rows.{factNumber};
-ghost use Rattle.actions.specs.Grounds.{placeByte, factsKept, Bound, FactsRight};
+ghost use Rattle.state.specs.Rows.{factNumber, RowsAscend};
+ghost use Rattle.actions.specs.Grounds.{placeByte, factsKept, holdsIn, missingIn, Bound, FactsRight};
 
 // Facts as the numbers of their rows; entries past the count are 0.
 pub struct Facts {
@@ -74,7 +72,7 @@ fn ground(a: Atom, arities: &[u8], objects: &[u8]) -> u32
 }
 
 // The facts that a list of atoms becomes.
-pub fn grounded(list: AtomList, arities: &[u8], objects: &[u8]) -> Facts
+fn grounded(list: AtomList, arities: &[u8], objects: &[u8]) -> Facts
     requires { ⌜ Bound (now arities) (now objects) list ⌝ }
     ensures { λ r. ⌜ r ≡ factsKept (map (ground (now (objects .entry))) (atomsOf (now (arities .entry)) list)) ⌝ }
 {
@@ -107,20 +105,59 @@ pub fn put_in(schema: Schema, arities: &[u8], objects: &[u8]) -> Facts
     grounded(adds, arities, objects)
 }
 
-// Every number is on the ascending list.
-pub fn all_in(numbers: &[u32], facts: &[u32]) -> bool
-    requires { ⌜ rising 0 (now numbers) ≡ true ⌝ }
-    ensures { λ r. ⌜ r ≡ all (λ n. member n (now (numbers .entry))) (now (facts .entry)) ⌝ }
+// The fact that an atom becomes is in the state.
+fn holds(a: Atom, arities: &[u8], state: &[u8], count: usize, objects: &[u8]) -> bool
+    requires { ⌜
+        (inRange (now arities) ≡ true) × (known (now arities) (length (now objects)) (atomOf (now arities) a) ≡ true)
+        × RowsAscend count (now state)
+        ⌝ }
+    ensures { λ r. ⌜ r ≡ holdsIn count (now (state .entry)) (now (objects .entry)) (atomOf (now (arities .entry)) a) ⌝ }
 {
+    let n = ground(a, arities, objects);
+    has_row(state, count, n)
+}
+
+// Every fact that a list of atoms becomes is in the state.
+pub fn all_hold(list: AtomList, arities: &[u8], state: &[u8], count: usize, objects: &[u8]) -> bool
+    requires { ⌜ (Bound (now arities) (now objects) list) × (RowsAscend count (now state)) ⌝ }
+    ensures { λ r. ⌜ r ≡ all (holdsIn count (now (state .entry)) (now (objects .entry))) (atomsOf (now (arities .entry)) list) ⌝ }
+{
+    let atoms = list.count;
     let mut i = 0;
-    while i < facts.len() {
-        let there = find(numbers, facts[i]);
-        let Found::At(_) = there else {
+    while i < atoms {
+        let atom = list.atoms[i];
+        if !holds(atom, arities, state, count, objects) {
             return false;
-        };
+        }
         i = i + 1;
     }
     true
+}
+
+// How many facts that a list of atoms becomes are not in the state.
+pub fn missing_facts(
+    list: AtomList,
+    arities: &[u8],
+    state: &[u8],
+    count: usize,
+    objects: &[u8],
+) -> usize
+    requires { ⌜ (Bound (now arities) (now objects) list) × (RowsAscend count (now state)) ⌝ }
+    ensures { λ r. ⌜ r ≡ missingIn count (now (state .entry)) (now (objects .entry)) (atomsOf (now (arities .entry)) list) ⌝ }
+{
+    let atoms = list.count;
+    let mut missing = 0;
+    let mut i = 0;
+    while i < atoms {
+        let atom = list.atoms[i];
+        if holds(atom, arities, state, count, objects) {
+            i = i + 1;
+            continue;
+        }
+        missing = missing + 1;
+        i = i + 1;
+    }
+    missing
 }
 
 // Every object is below the bound.

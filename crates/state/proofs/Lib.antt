@@ -1,4 +1,5 @@
 pub mod RowBytes
 pub mod RightRows
 pub mod Writing
+pub mod Finding
 pub mod FactNumbers

@@ -82,6 +82,12 @@ clear-length at was now i low e h =
     let d = length-drop i was in
     omega arith)
 
+-- the zeros behind some of them
+pub drop-zeros : (k n : ℕ) → drop {A = ℕ} k (replicate n 0) ≡ replicate (n - k) 0
+drop-zeros zero n = ap (λ (m : ℕ). replicate {A = ℕ} m 0) (let e : n ≡ n - 0 = omega arith in e)
+drop-zeros (suc k) zero = ap (λ (m : ℕ). replicate {A = ℕ} m 0) (let e : 0 ≡ 0 - suc k = omega arith in e)
+drop-zeros (suc k) (suc n) = drop-zeros k n ∙ ap (λ (m : ℕ). replicate {A = ℕ} m 0) (let e : n - k ≡ suc n - suc k = omega arith in e)
+
 -- four bytes for each number
 pub length-rows : (ns : List ℕ) → length (flatMap rowBytes ns) ≡ 4 * length ns
 unfolding flatMap rowBytes

@@ -7,6 +7,7 @@ use lib.Dec.{leb, ltb, eqb}
 use lib.ListN.{length, getD, take, drop, replicate}
 use Rattle.model.specs.Card.{Atom, inRange}
 use Rattle.model.specs.Strips.{filler, stateBytes, factBytes, rowRight}
+use Rattle.sets.specs.Numbers.{rising}
 
 unfoldable pub rowNumber : List ℕ → ℕ
 rowNumber row = getD row 0 0 * 16777216 + getD row 1 0 * 65536 + getD row 2 0 * 256 + getD row 3 0
@@ -26,6 +27,11 @@ rowAt i buffer = take 4 (drop (4 * i) buffer)
 unfoldable pub numbersIn : ℕ → List ℕ → List ℕ
 numbersIn zero buffer = []
 numbersIn (suc n) buffer = rowNumber (take 4 buffer) ∷ numbersIn n (drop 4 buffer)
+
+-- The first n rows of a buffer are within it, and their numbers ascend.
+pub record RowsAscend (n : ℕ) (buffer : List ℕ) : Type 0 where
+  pub room : 4 * n ≤ length buffer
+  pub ascends : rising 0 (numbersIn n buffer) ≡ true
 
 -- What bounds the bytes of facts: arities of 1 to 3, and predicates and objects that fit a byte.
 pub record Shape (arities : List ℕ) (objects : ℕ) : Type 0 where

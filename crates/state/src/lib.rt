@@ -4,9 +4,11 @@ ghost use mathlib.Core.Bool.{true};
 ghost use mathlib.Core.Path.{_≡_};
 ghost use mathlib.Core.List.{_++_, _∷_, [], flatMap};
 ghost use lib.ListN.{length, take, drop, replicate};
+ghost use Rattle.laws.specs.Lists.{member};
 ghost use Rattle.model.specs.Card.{inRange};
 ghost use Rattle.model.specs.Strips.{stateBytes, mostFacts, rowRight, wellFormed};
-ghost use Rattle.state.specs.Rows.{rowNumber, rowBytes, rowAt, numbersIn, stored, placeRight, rowsIn};
+ghost use Rattle.sets.specs.Numbers.{place};
+ghost use Rattle.state.specs.Rows.{rowNumber, rowBytes, rowAt, numbersIn, stored, placeRight, rowsIn, RowsAscend};
 
 // How many bytes of its buffer a state takes, how many facts it has at most, and the byte that stands for a missing argument.
 // Document 01, "Pressing".
@@ -108,6 +110,36 @@ pub fn well_formed(state: &[u8], count: usize, arities: &[u8], objects: usize) -
         return false;
     }
     rows_right(state, count, arities, objects)
+}
+
+// How many of the first `count` rows have a number below n.
+pub fn rows_below(state: &[u8], count: usize, n: u32) -> usize
+    requires { ⌜ RowsAscend count (now state) ⌝ }
+    ensures { λ r. ⌜ r ≡ place n (numbersIn count (now (state .entry))) ⌝ }
+{
+    let mut low = 0;
+    let mut high = count;
+    while low < high {
+        let middle = low + (high - low) / 2;
+        if row(state, middle) < n {
+            low = middle + 1;
+        } else {
+            high = middle;
+        }
+    }
+    low
+}
+
+// One of the first `count` rows has the number.
+pub fn has_row(state: &[u8], count: usize, n: u32) -> bool
+    requires { ⌜ RowsAscend count (now state) ⌝ }
+    ensures { λ r. ⌜ r ≡ member n (numbersIn count (now (state .entry))) ⌝ }
+{
+    let i = rows_below(state, count, n);
+    if count <= i {
+        return false;
+    }
+    row(state, i) == n
 }
 
 // The numbers of the first `count` rows, at the front of an array of 0.

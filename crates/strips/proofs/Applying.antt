@@ -1,36 +1,41 @@
 -- Applying an action to a well-formed state: its numbers, whether it is applicable, and the numbers of the next state.
-use Prim.Native.Nat.{ℕ, zero, suc, _-_, _≤_, _<_}
+use Prim.Native.Nat.{ℕ, _+_, _-_, _≤_}
 use native.Mathlib.Nat.{sub-zero}
 use native.Mathlib.Omega.{arith}
 use mathlib.Core.Path.{_≡_, refl, sym, ap, _∙_, subst}
 use mathlib.Core.Bool.{Bool, true, false, not}
-use mathlib.Core.List.{List, [], _∷_, _++_, map, foldl}
-use mathlib.Core.Option.{none}
+use mathlib.Core.List.{List, [], _∷_, _++_, map, foldl, List·Memᴰ, Memᴰ·map}
+use lib.Dec.{leb}
 use lib.ListN.{length, take, drop, replicate, length-map, length-append, length-drop, length-replicate}
 use lib.Seq.{take-at, drop-at}
+use borrow.Author.Tests.{le-leb}
 use Rattle.laws.specs.Lists.{all, keep, member, padded}
 use Rattle.laws.proofs.Tests.{and-left, and-right}
-use Rattle.laws.proofs.Lists.{all-at, all-intro}
+use Rattle.laws.proofs.Lists.{all-at, all-intro, count-ext}
+use Rattle.laws.proofs.Counting.{count-most}
 use Rattle.laws.proofs.Mapped.{all-map, all-ext}
 use Rattle.model.specs.Answer.{_>>=_, _>>_, need}
 use Rattle.model.specs.Card.{Atom, has}
 use Rattle.model.specs.Card as model
 use Rattle.model.specs.Writer.{known}
-use Rattle.model.specs.Strips.{State, factsIn, ascending, ground, applicable, put, takenOut, putIn, successor, progress}
+use Rattle.model.specs.Strips.{State, mostFacts, factsIn, ground, applicable, put, takenOut, putIn, successor, progress}
 use Rattle.model.specs.Calls.{finish}
+use Rattle.model.specs.Open.{isAccepted}
 use Rattle.model.proofs.Checked.{CheckedSchema, checked-schema}
-use Rattle.model.proofs.Buffer.{WellFormed, well-formed, rows-known}
+use Rattle.model.proofs.Buffer.{WellFormed, well-formed, rows-known, length-factsIn}
 use Rattle.model.proofs.States.{ground-known}
+use Rattle.model.proofs.NextState.{newFacts, progress-by-room}
 use Rattle.card.specs.Represents.{atomsOf, schemaOf}
+use Rattle.card.proofs.Entries.{length-atoms}
 use Rattle.card.specs.declared.AtomList.{AtomList}
 use Rattle.card.specs.declared.Schema.{Schema}
 use Rattle.sets.specs.Numbers.{rising, insertedAll, SetKept, Becomes}
-use Rattle.state.specs.Rows.{factNumber, numbersIn, stored, Shape}
-use Rattle.state.proofs.Writing.{length-numbersIn}
+use Rattle.state.specs.Rows.{factNumber, numbersIn, stored, RowsAscend, Shape}
+use Rattle.state.proofs.Writing.{length-numbersIn, drop-zeros}
 use Rattle.state.proofs.FactNumbers.{allKnown, member-has, numbers-puts, numbers-removed, rising-state, numbers-of-rows, stored-written, put-known, keep-known}
-use Rattle.actions.specs.Grounds.{Bound}
+use Rattle.actions.specs.Grounds.{holdsIn, missingIn, Bound}
 use Rattle.strips.specs.Answers.{appliedSays, Matches}
-use Rattle.strips.specs.Steps.{storing, storingNumbers, allHeld, nextNumbers, ListKept, StateKept, ActionReady, NextReady}
+use Rattle.strips.specs.Steps.{storing, storingNumbers, nextNumbers, ListKept, StateKept, ActionReady, NextReady}
 use Rattle.strips.proofs.Replacing.{replaced-by-facts}
 use Rattle.strips.specs.declared.Applied.{Applied}
 use Rattle.strips.specs.declared.Applied.the-variants.{PreconditionMissing}
@@ -62,6 +67,13 @@ module _ {arities : List ℕ} {bound : ℕ} {buffer : List ℕ} {count : ℕ} (k
       let few = state-formed .count-fits in
       numbers-of-rows (kept .shape) count buffer (state-formed .rows) (omega arith)
 
+  -- its rows ascend
+  pub rows-ascend : RowsAscend count buffer
+  rows-ascend = record {
+    room = let room = state-formed .room in let few = state-formed .count-fits in omega arith;
+    ascends = ap (rising 0) state-numbers ∙ rising-state (kept .shape) stateIn state-known (state-formed .in-order);
+  }
+
   -- the state's numbers loaded to the front of zeros
   module _ {size : ℕ} (room : count ≤ size) {numbers : List ℕ} (loaded : numbers ≡ numbersIn count buffer ++ drop count (replicate size 0)) where
     pub loaded-numbers : take count numbers ≡ map factNumber stateIn
@@ -83,11 +95,6 @@ module _ {arities : List ℕ} {bound : ℕ} {buffer : List ℕ} {count : ℕ} (k
           ap (drop count) loaded ∙ drop-at (numbersIn count buffer) _ count (length-numbersIn count buffer) ∙ drop-zeros count size
           ∙ ap (λ (n : ℕ). replicate (n - count) 0) (sym loaded-length);
     }
-      where
-        drop-zeros : (k n : ℕ) → drop {A = ℕ} k (replicate n 0) ≡ replicate (n - k) 0
-        drop-zeros zero n = ap (λ (m : ℕ). replicate {A = ℕ} m 0) (let e : n ≡ n - 0 = omega arith in e)
-        drop-zeros (suc k) zero = ap (λ (m : ℕ). replicate {A = ℕ} m 0) (let e : 0 ≡ 0 - suc k = omega arith in e)
-        drop-zeros (suc k) (suc n) = drop-zeros k n ∙ ap (λ (m : ℕ). replicate {A = ℕ} m 0) (let e : n - k ≡ suc n - suc k = omega arith in e)
 
 -- An action with one known object for each parameter, and a well-formed state.
 module _ {arities objects : List ℕ} {schema : Schema} {buffer : List ℕ} {count : ℕ} (ready : ActionReady arities objects schema buffer count) where
@@ -122,7 +129,7 @@ module _ {arities objects : List ℕ} {schema : Schema} {buffer : List ℕ} {cou
   unfolding schemaOf
   deletes-bound = bound-list (schema .deletes) (ready .schema-kept .deletes) (right .deletes-right .atoms-known)
 
-  adds-bound : Bound arities objects (schema .adds)
+  pub adds-bound : Bound arities objects (schema .adds)
   unfolding schemaOf
   adds-bound = bound-list (schema .adds) (ready .schema-kept .adds) (right .adds-right .atoms-known)
 
@@ -137,19 +144,30 @@ module _ {arities objects : List ℕ} {schema : Schema} {buffer : List ℕ} {cou
   before-known : allKnown arities (ready .known-objects) before
   before-known = state-known (ready .state)
 
-  -- every precondition is among the state's numbers if the state has it
-  applicable-numbers : allHeld model-schema objects (map factNumber before) ≡ applicable model-schema objects before
-  unfolding allHeld applicable schemaOf
-  applicable-numbers =
-      all-map factNumber (λ n. member n (map factNumber before)) (map (ground objects) (atomsOf arities (schema .preconditions)))
-      ∙ all-same (map (ground objects) (atomsOf arities (schema .preconditions)))
-      (grounds-known (atomsOf arities (schema .preconditions)) (preconditions-bound .atoms-known))
-    where
-      all-same : (fs : List Atom) → allKnown arities (ready .known-objects) fs
-          → all (λ f. member (factNumber f) (map factNumber before)) fs ≡ all (has before) fs
-      all-same fs k =
-          all-ext (λ f. member (factNumber f) (map factNumber before)) (has before) fs
-          (λ f m. member-has shape f before (all-at (known arities (ready .known-objects)) fs k f m) before-known)
+  -- an atom's fact has a row if the state has it
+  held : (atoms : List Atom) → all (known arities (length objects)) atoms ≡ true → (a : Atom) → List·Memᴰ a atoms
+      → holdsIn count buffer objects a ≡ has before (ground objects a)
+  unfolding holdsIn
+  held atoms e a m =
+      ap (member (factNumber (ground objects a))) (state-numbers (ready .state))
+      ∙ member-has shape (ground objects a) before (all-at (known arities (ready .known-objects)) (map (ground objects) atoms) (grounds-known atoms e)
+      (ground objects a) (Memᴰ·map (ground objects) m)) before-known
+
+  -- what the test of the preconditions says
+  pub test-says : {r : Bool} → r ≡ all (holdsIn count buffer objects) (atomsOf arities (schema .preconditions)) → r ≡ applicable model-schema objects before
+  unfolding applicable schemaOf
+  test-says e =
+      let atoms : List Atom = atomsOf arities (schema .preconditions) in
+      e ∙ all-ext (holdsIn count buffer objects) (λ a. has before (ground objects a)) atoms (held atoms (preconditions-bound .atoms-known))
+      ∙ sym (all-map (ground objects) (has before) atoms)
+
+  -- and what the adds that are missing say
+  missing-says : missingIn count buffer objects (atomsOf arities (schema .adds)) ≡ newFacts model-schema objects before
+  unfolding missingIn schemaOf
+  missing-says =
+      let atoms : List Atom = atomsOf arities (schema .adds) in
+      count-ext (λ a. not (holdsIn count buffer objects a)) (λ a. not (has before (ground objects a))) atoms
+      (λ a m. ap not (held atoms (adds-bound .atoms-known) a m))
 
   out-known : allKnown arities (ready .known-objects) (takenOut model-schema objects)
   unfolding takenOut schemaOf
@@ -192,6 +210,37 @@ module _ {arities objects : List ℕ} {schema : Schema} {buffer : List ℕ} {cou
       let same = ap (λ (l : List ℕ). stored l buffer) q ∙ stored-written shape next buffer next-known in
       rw e (rw (replaced-by-facts numbers buffer next (ap length q ∙ length-map next factNumber) same) at matches)
 
+  -- Whether the action is allowed: 19 refuses it, or the room that the state has.
+  pub missing-closes : applicable model-schema objects before ≡ false → false ≡ isAccepted (progress model-schema objects before)
+  unfolding progress need _>>_ isAccepted
+  missing-closes e = rw e refl
+
+  -- how many facts more the state has room for
+  abbrev room : ℕ
+  room = mostFacts + schema .deletes .count - count
+
+  -- where the preconditions hold, the number of new facts decides
+  room-decides : applicable model-schema objects before ≡ true
+      → isAccepted (progress model-schema objects before) ≡ leb (newFacts model-schema objects before) room
+  unfolding schemaOf
+  room-decides e =
+      let formed = state-formed (ready .state) in
+      let size = length-factsIn arities count buffer in
+      let few = formed .count-fits in
+      progress-by-room right objects before (formed .in-order) (omega arith) (ready .one-for-each) (ready .different)
+      ∙ rw (e, length-atoms arities (schema .deletes), size)
+
+  pub adds-fit : applicable model-schema objects before ≡ true → schema .adds .count ≤ room → true ≡ isAccepted (progress model-schema objects before)
+  unfolding schemaOf
+  adds-fit e h =
+      let most = count-most (λ a. not (has before (ground objects a))) (atomsOf arities (schema .adds)) in
+      let size = length-atoms arities (schema .adds) in
+      sym (room-decides e ∙ le-leb (newFacts model-schema objects before) room (omega arith))
+
+  pub missing-decides : {n : ℕ} → applicable model-schema objects before ≡ true → n ≡ missingIn count buffer objects (atomsOf arities (schema .adds))
+      → leb n room ≡ isAccepted (progress model-schema objects before)
+  missing-decides e q = ap (λ (n : ℕ). leb n room) (q ∙ missing-says) ∙ sym (room-decides e)
+
   -- the state's numbers loaded to the front of an array of zeros
   module _ {numbers : List ℕ} (loaded : numbers ≡ numbersIn count buffer ++ drop count (replicate 1032 0)) where
     few-rows : count ≤ 1024
@@ -213,12 +262,6 @@ module _ {arities objects : List ℕ} {schema : Schema} {buffer : List ℕ} {cou
       set = set-loaded;
       room = let size = loaded-length (ready .state) enough loaded in let few = few-rows in omega arith;
     }
-
-    -- what the test of the preconditions says
-    pub test-says : {r : Bool} → r ≡ allHeld model-schema objects (take (count - 0) numbers) → r ≡ applicable model-schema objects before
-    test-says e =
-        e ∙ ap (λ (k : ℕ). allHeld model-schema objects (take k numbers)) (sub-zero count)
-        ∙ ap (allHeld model-schema objects) numbers-are ∙ applicable-numbers
 
     -- what the numbers of the next state say
     module _ {after : List ℕ} {n : ℕ} (becomes : Becomes (nextNumbers model-schema objects (take count numbers)) numbers after n) where

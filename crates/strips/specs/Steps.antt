@@ -1,15 +1,15 @@
 -- What applying an action leaves in the buffer, the numbers of the next state, and what each function relies on.
 use Prim.Native.Nat.{ℕ, _+_, _≤_}
 use mathlib.Core.Path.{_≡_}
-use mathlib.Core.Bool.{Bool, true}
+use mathlib.Core.Bool.{true}
 use mathlib.Core.List.{List, map}
 use lib.Dec.{leb, ltb}
 use lib.ListN.{length}
-use Rattle.laws.specs.Lists.{all, member}
+use Rattle.laws.specs.Lists.{all, distinct}
 use Rattle.model.specs.Answer.{Answer, accepted, _>>=_, _>>_, need}
 use Rattle.model.specs.Card as model
 use Rattle.model.specs.Writer.{checkSchema}
-use Rattle.model.specs.Strips.{State, mostFacts, wellFormed, ground, takenOut, putIn, checkObjects, progress}
+use Rattle.model.specs.Strips.{State, mostFacts, wellFormed, takenOut, putIn, checkObjects, progress}
 use Rattle.model.specs.Calls.{Call, finish, store}
 use Rattle.card.specs.Represents.{schemaOf}
 use Rattle.card.specs.declared.AtomList.{AtomList}
@@ -34,10 +34,6 @@ storingNumbers buffer numbers =
     finish buffer (do
       need (leb (length numbers) mostFacts) 20
       accepted (record { answer = accepted (length numbers); buffer = stored numbers buffer }))
-
--- the number of every precondition is among the state's numbers
-unfoldable pub allHeld : model.Schema → List ℕ → List ℕ → Bool
-allHeld schema objects numbers = all (λ n. member n numbers) (map factNumber (map (ground objects) (schema .preconditions)))
 
 -- the numbers of the next state
 unfoldable pub nextNumbers : model.Schema → List ℕ → List ℕ → List ℕ
@@ -68,10 +64,11 @@ pub record StateKept (arities : List ℕ) (objects : ℕ) (buffer : List ℕ) (c
   pub shape : Shape arities objects
   pub well : wellFormed arities objects buffer count ≡ true
 
--- One known object for each parameter, and a well-formed state.
+-- One known object for each parameter, all different, and a well-formed state.
 pub record ActionReady (arities objects : List ℕ) (schema : Schema) (buffer : List ℕ) (count : ℕ) : Type 0 where
   pub known-objects : ℕ
   pub state : StateKept arities known-objects buffer count
   pub schema-kept : SchemaKept arities schema
   pub one-for-each : length objects ≡ schema .parameters
   pub objects-known : all (λ o. ltb o known-objects) objects ≡ true
+  pub different : distinct objects ≡ true

@@ -1,9 +1,9 @@
 // The initial state and applying an action, on a state in a lent buffer.
 use actions::all_different;
-use actions::all_in;
+use actions::all_hold;
 use actions::all_known;
 use actions::fact_numbers;
-use actions::grounded;
+use actions::missing_facts;
 use actions::put_in;
 use actions::taken_out;
 use card::Refusal;
@@ -18,17 +18,16 @@ use state::STATE_BYTES;
 use state::load;
 use state::store;
 use state::well_formed;
-ghost use mathlib.Core.Bool.{true};
 ghost use mathlib.Core.Path.{_≡_};
 ghost use Prim.Native.Nat.{_≤_};
 ghost use lib.ListN.{length, take};
 ghost use Rattle.model.specs.Strips.{stateBytes, factsIn, progress};
+ghost use Rattle.model.specs.Open.{isAccepted};
 ghost use Rattle.model.specs.Calls.{finish, initialOf, initial, pressOf, press};
 ghost use Rattle.card.specs.Represents.{schemaOf, taskOf, Represented};
-ghost use Rattle.sets.specs.Numbers.{rising, Becomes};
+ghost use Rattle.sets.specs.Numbers.{Becomes};
 ghost use Rattle.strips.specs.Answers.{Matches};
-ghost use Rattle.strips.specs.Steps.{applySchema, storing, storingNumbers, allHeld, nextNumbers, ActionReady, NextReady, StateKept, SchemaKept};
-ghost use Rattle.actions.specs.Grounds.{Bound};
+ghost use Rattle.strips.specs.Steps.{applySchema, storing, storingNumbers, nextNumbers, ActionReady, NextReady, StateKept, SchemaKept};
 
 // What the opening call and applying an action answer: the number of facts, or why not. A refusal of the card is handed through.
 pub enum Applied {
@@ -69,18 +68,6 @@ fn next_numbers(
     insert_all(numbers, left, &new_numbers[0..new_count])
 }
 
-// Every precondition is in the state.
-fn applicable(numbers: &[u32], schema: Schema, arities: &[u8], objects: &[u8]) -> bool
-    requires { ⌜ (rising 0 (now numbers) ≡ true) × Bound (now arities) (now objects) (schema .preconditions) ⌝ }
-    ensures { λ r. ⌜ r ≡ allHeld (schemaOf (now (arities .entry)) schema) (now (objects .entry)) (now (numbers .entry)) ⌝ }
-{
-    let preconditions = schema.preconditions;
-    let needed = grounded(preconditions, arities, objects);
-    let needed_count = needed.count;
-    let needed_numbers = needed.numbers;
-    all_in(numbers, &needed_numbers[0..needed_count])
-}
-
 // 20, the last check; only then is the next state written.
 fn store_next(state: &mut [u8], numbers: &[u32]) -> Applied
     requires { ⌜ stateBytes ≤ length (now state) ⌝ }
@@ -108,13 +95,35 @@ fn apply_bound(
         (factsIn (now (arities .entry)) count (now (state .entry))))) (now (state .exit)) r
         ⌝ }
 {
-    let mut numbers = [0u32; NEXT_FACTS];
-    load(state, count, &mut numbers);
-    if !applicable(&numbers[0..count], schema, arities, objects) {
+    let preconditions = schema.preconditions;
+    if !all_hold(preconditions, arities, state, count, objects) {
         return Applied::PreconditionMissing;
     }
+    let mut numbers = [0u32; NEXT_FACTS];
+    load(state, count, &mut numbers);
     let next = next_numbers(&mut numbers, count, schema, arities, objects);
     store_next(state, &numbers[0..next])
+}
+
+// The state allows the action: every precondition is in it (19), and it has room for the adds that are not (20). The deletes, which are in
+// it, make room; only where the adds could be too many are they looked for.
+pub fn allows(schema: Schema, arities: &[u8], state: &[u8], count: usize, objects: &[u8]) -> bool
+    requires { ⌜ ActionReady (now arities) (now objects) schema (now state) count ⌝ }
+    ensures { λ r. ⌜
+        r ≡ isAccepted (progress (schemaOf (now (arities .entry)) schema) (now (objects .entry)) (factsIn (now (arities .entry)) count (now (state .entry))))
+        ⌝ }
+{
+    let preconditions = schema.preconditions;
+    if !all_hold(preconditions, arities, state, count, objects) {
+        return false;
+    }
+    let deletes = schema.deletes;
+    let room = MOST_FACTS + deletes.count - count;
+    let adds = schema.adds;
+    if adds.count <= room {
+        return true;
+    }
+    missing_facts(adds, arities, state, count, objects) <= room
 }
 
 // 17 to 20: the objects first.

@@ -55,6 +55,7 @@ apply-bound-requires c κs =
       schema-kept = start .pre .1;
       one-for-each = testing different .before .if1 .left;
       objects-known = objects-known (different .before);
+      different = sym (different .all-different .ensures) ∙ not-false _ (c .before .if3 .left);
     }
 
 same-length : tie.Need-same-length
