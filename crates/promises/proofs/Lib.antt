@@ -1,3 +1,4 @@
 pub mod Cards
 pub mod Histories
 pub mod Listings
+pub mod OpenCalls
