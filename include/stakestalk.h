@@ -27,18 +27,20 @@ extern "C" {
 /* The version of this header. CHANGELOG.md says what each version changed; a change of an answer or of the card raises it. */
 #define STAKESTALK_VERSION_MAJOR 0
 #define STAKESTALK_VERSION_MINOR 1
-#define STAKESTALK_VERSION_PATCH 0
+#define STAKESTALK_VERSION_PATCH 1
 #define STAKESTALK_VERSION (STAKESTALK_VERSION_MAJOR * 10000 + STAKESTALK_VERSION_MINOR * 100 + STAKESTALK_VERSION_PATCH)
 
 /* Sizes of buffers, in bytes. */
 #define STAKESTALK_STATE_BYTES 4096   /* the least buffer for a state */
 #define STAKESTALK_OUTPUT_BYTES 65536 /* the least buffer for a section or a rewritten card */
 #define STAKESTALK_FACT_BYTES 4       /* one fact of a state: predicate, objects, 255 for missing arguments */
+#define STAKESTALK_FOUND_BYTES 7      /* a press that is found: schema, objects, 0 for missing objects */
 
 /* Stack that is enough for a call, in bytes, and for any of them. `tests/c/stack --write` measures them anew. */
 #define STAKESTALK_STACK_CHECK 28672
 #define STAKESTALK_STACK_INITIAL 28672
 #define STAKESTALK_STACK_PRESS 32768
+#define STAKESTALK_STACK_NEXT_OPEN 32768
 #define STAKESTALK_STACK_REWRITE 28672
 #define STAKESTALK_STACK_SECTION 135168
 #define STAKESTALK_STACK STAKESTALK_STACK_SECTION
@@ -97,6 +99,26 @@ int32_t stakestalk_initial(const uint8_t *card, size_t card_len, uint8_t *state,
  */
 int32_t stakestalk_press(const uint8_t *card, size_t card_len, uint8_t *state, size_t state_len, size_t count, size_t schema,
                          const uint8_t *objects, size_t objects_len);
+
+/* Finds the next open press after a given one. A press is open if stakestalk_press would accept it in the state of `count` facts; open
+ * presses are ordered by schema number, then by the objects of the roles in order. The given press has `schema` and `objects` and need
+ * not be open. Where `given` is 0 none is given, `schema` and `objects` are not looked at, and the first open press is found; any other
+ * number says that one is given.
+ * Answers the number of objects of the press found, 1 to 6, or 0 at the end, where no open press is left, else -1 to -18.
+ * Where a press is found, 7 bytes are written at `found`: the schema, a byte for each object, and 0 past the objects. Else `found` stays
+ * as it is. The state is only read.
+ * From none until the end each open press is found just once. What was answered says the next time that a press is given:
+ *
+ *     uint8_t given[STAKESTALK_FOUND_BYTES] = {0}, found[STAKESTALK_FOUND_BYTES];
+ *     int32_t answer = 0;
+ *     while ((answer = stakestalk_next_open(card, card_len, state, state_len, count, answer, given[0], given + 1, (size_t)answer,
+ *                                           found)) > 0) {
+ *         show(found[0], found + 1, (size_t)answer);
+ *         memcpy(given, found, sizeof given);
+ *     }
+ */
+int32_t stakestalk_next_open(const uint8_t *card, size_t card_len, const uint8_t *state, size_t state_len, size_t count, int32_t given,
+                             size_t schema, const uint8_t *objects, size_t objects_len, uint8_t *found);
 
 /* Writes one section of the card's listing as text, from byte 0 of out; bytes past the text stay as they are.
  * Sections 0 to n-1 are those of the n spaces, n is the closing one.

@@ -1,5 +1,6 @@
-/* Opens the bench card K1 of docs/CARD.md, presses on it as a program would, and prints what the calls answer. */
+/* Opens the bench card K1 of docs/CARD.md, shows what may be pressed and presses as a program would, and prints what the calls answer. */
 #include <stdio.h>
+#include <string.h>
 #include "stakestalk.h"
 
 static const uint8_t card[] = {
@@ -18,6 +19,31 @@ static void press(size_t schema, const uint8_t *objects, size_t objects_len) {
     printf("press schema %zu: %d, and %zu facts\n", schema, answer, count);
 }
 
+/* Shows every open press, from none until the end. The number answered says the next time that a press is given. */
+static int32_t show_open(void) {
+    uint8_t given[STAKESTALK_FOUND_BYTES] = {0}, found[STAKESTALK_FOUND_BYTES];
+    int32_t answer = 0;
+    while ((answer = stakestalk_next_open(card, sizeof card, state, sizeof state, count, answer, given[0], given + 1,
+                                          (size_t)answer, found)) > 0) {
+        printf("open schema %d :", found[0]);
+        for (int32_t role = 1; role <= answer; role++)
+            printf(" %d", found[role]);
+        printf("\n");
+        memcpy(given, found, sizeof given);
+    }
+    return answer;
+}
+
+/* The next open press after one, which need not be open: the answer, and what is written beside it. */
+static void show_after(int32_t given, size_t schema, const uint8_t *objects, size_t objects_len) {
+    uint8_t found[STAKESTALK_FOUND_BYTES] = {9, 9, 9, 9, 9, 9, 9};
+    int32_t answer = stakestalk_next_open(card, sizeof card, state, sizeof state, count, given, schema, objects, objects_len, found);
+    printf("next open %d :", answer);
+    for (size_t i = 0; i < sizeof found; i++)
+        printf(" %d", found[i]);
+    printf("\n");
+}
+
 int main(void) {
     const uint8_t first[] = {0}, three[] = {0, 2, 3}, twice[] = {0, 2, 2};
 
@@ -33,8 +59,16 @@ int main(void) {
         return 1;
     count = (size_t)answer;
     printf("initial %zu\n", count);
+    if (show_open() < 0)
+        return 1;
+    show_after(0, 9, twice, 0);             /* none is given, so that the rest is not looked at */
+    show_after(-1, 0, first, sizeof first); /* any other number says that one is given */
+    show_after(1, 1, three, sizeof three);  /* not open, but a press; nothing comes after it */
+    show_after(1, 1, twice, sizeof twice);  /* refused: one object in two roles */
     press(1, three, sizeof three); /* refused: object 0 is not armed yet */
     press(0, first, sizeof first);
+    if (show_open() < 0)
+        return 1;
     press(1, twice, sizeof twice); /* refused: one object in two roles */
     press(1, three, sizeof three);
     for (size_t i = 0; i < count; i++) {

@@ -10,15 +10,17 @@
 #include <sys/mman.h>
 #include "stakestalk.h"
 
-enum { PAINT = 0xA5, STACK = 1 << 20, PAGE = 4096, CALLS = 5, MOST_BINDINGS = 60 };
-static const char *const names[CALLS] = {"check", "initial", "press", "section", "rewrite"};
+enum { PAINT = 0xA5, STACK = 1 << 20, PAGE = 4096, CALLS = 6, MOST_BINDINGS = 60, MOST_OPEN = 20 };
+static const char *const names[CALLS] = {"check", "initial", "press", "section", "rewrite", "next_open"};
 static const size_t said[CALLS] = {
-    STAKESTALK_STACK_CHECK, STAKESTALK_STACK_INITIAL, STAKESTALK_STACK_PRESS, STAKESTALK_STACK_SECTION, STAKESTALK_STACK_REWRITE,
+    STAKESTALK_STACK_CHECK,   STAKESTALK_STACK_INITIAL, STAKESTALK_STACK_PRESS,
+    STAKESTALK_STACK_SECTION, STAKESTALK_STACK_REWRITE, STAKESTALK_STACK_NEXT_OPEN,
 };
 static size_t most[CALLS];
 static const char *where[CALLS];
 
 static uint8_t *stack, card[1 << 16], state[STAKESTALK_STATE_BYTES], out[STAKESTALK_OUTPUT_BYTES], objects[6];
+static uint8_t found[STAKESTALK_FOUND_BYTES];
 static size_t card_len, count, schema, objects_len, number;
 static int call;
 static int32_t answer;
@@ -32,7 +34,10 @@ static void *make(void *nothing) {
     case 1: answer = stakestalk_initial(card, card_len, state, sizeof state); break;
     case 2: answer = stakestalk_press(card, card_len, state, sizeof state, count, schema, objects, objects_len); break;
     case 3: answer = stakestalk_section(card, card_len, number, out, sizeof out); break;
-    default: answer = stakestalk_rewrite(card, card_len, out, sizeof out);
+    case 4: answer = stakestalk_rewrite(card, card_len, out, sizeof out); break;
+    default:
+        answer = stakestalk_next_open(card, card_len, state, sizeof state, count, (int32_t)objects_len, schema, objects, objects_len,
+                                      found);
     }
     return nothing;
 }
@@ -106,6 +111,17 @@ static void press_all(const char *name) {
     }
 }
 
+/* The first open presses of the opening state, from none on. */
+static void ask_open(const char *name) {
+    count = (size_t)stakestalk_initial(card, card_len, state, sizeof state);
+    objects_len = 0;
+    for (int asked = 0; asked < MOST_OPEN && measured(5, name) > 0; asked++) {
+        schema = found[0];
+        objects_len = (size_t)answer;
+        memcpy(objects, found + 1, objects_len);
+    }
+}
+
 int main(int argc, char **argv) {
     stack = mmap(NULL, STACK, PROT_READ | PROT_WRITE, MAP_PRIVATE | MAP_ANONYMOUS, -1, 0);
     if (stack == MAP_FAILED)
@@ -123,10 +139,11 @@ int main(int argc, char **argv) {
         for (number = 0; measured(3, argv[i]) >= 0; number++)
             ;
         measured(4, argv[i]);
+        ask_open(argv[i]);
     }
     int short_ones = 0;
     for (int i = 0; i < CALLS; i++) {
-        printf("%-8s takes %6zu bytes (%s), the header says %6zu, a figure for it is %6zu\n", names[i], most[i],
+        printf("%-9s takes %6zu bytes (%s), the header says %6zu, a figure for it is %6zu\n", names[i], most[i],
                where[i] ? where[i] : "no card", said[i], (most[i] / PAGE + 2) * PAGE);
         short_ones += !where[i] || said[i] < most[i] || STAKESTALK_STACK < said[i];
     }

@@ -2,3 +2,4 @@ pub mod Codes
 pub mod Sizes
 pub mod Checking
 pub mod Sections
+pub mod Asking

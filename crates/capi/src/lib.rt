@@ -5,24 +5,33 @@ use card::Verdict;
 use card::refusal_number;
 use listing::Listed;
 use listing::section;
+use open_actions::Found;
+use open_actions::Given;
+use open_actions::NextOpen;
+use open_actions::next_open;
 use reader::decode;
 use strips::Applied;
 use strips::apply;
 use strips::initial;
 use writer::Writing;
 use writer::encode;
+ghost use mathlib.Core.List.{_∷_};
 ghost use mathlib.Core.Path.{_≡_};
+ghost use Prim.Native.Nat.{_<_};
 ghost use Rattle.model.specs.Answer.{refused};
 ghost use Rattle.model.specs.Calls.{initial, press, section};
+ghost use Rattle.model.specs.Open.{nextOpen};
 ghost use Rattle.card.specs.Represents.{refusalNumber};
 ghost use Rattle.listing.specs.Answers.{listedSays};
 ghost use Rattle.strips.specs.Answers.{appliedSays};
 ghost use Rattle.writer.specs.Answers.{writingSays};
+ghost use Rattle.open_actions.specs.Answers.{givenOf};
 ghost use Rattle.capi.specs.Numbers.{signed, checks, rewrites, Small, versionNumber};
+ghost use Rattle.capi.specs.Asking.{givenAs, countSaid, bytesSaid, objectCount, shownIn, SmallAction};
 ghost use lib.IntN.{pos};
 
-// The version of these calls, 0.1.0, as include/stakestalk.h has it: two decimal digits each for minor and patch.
-const VERSION: i32 = 100;
+// The version of these calls, 0.1.1, as include/stakestalk.h has it: two decimal digits each for minor and patch.
+const VERSION: i32 = 101;
 
 fn refusal_code(refusal: Refusal) -> i32
     ensures { λ r. ⌜ r ≡ signed (refused (refusalNumber refusal)) ⌝ }
@@ -67,6 +76,54 @@ fn listed_code(listed: Listed) -> i32
         Listed::CardRefused(refusal) => refusal_code(refusal),
         Listed::OutputShort => -21,
         Listed::SectionUnknown => -22,
+    }
+}
+
+// The given action, or none if the number is 0.
+fn given_action(given: i32, schema: usize) -> Given
+    ensures { λ r. ⌜ r ≡ givenAs given schema ⌝ }
+{
+    if given == 0 {
+        return Given::Nothing;
+    }
+    Given::Action(schema)
+}
+
+// An action in seven bytes: the schema, then the objects.
+fn action_bytes(schema: usize, objects: [u8; 6]) -> [u8; 7]
+    requires { ⌜ schema < 256 ⌝ }
+    ensures { λ r. ⌜ r ≡ schema ∷ objects ⌝ }
+{
+    [
+        schema as u8,
+        objects[0],
+        objects[1],
+        objects[2],
+        objects[3],
+        objects[4],
+        objects[5],
+    ]
+}
+
+// The bytes of an action that is found are written; nothing is where none is.
+fn next_open_code(next: NextOpen, found: &mut [u8; 7]) -> i32
+    requires { ⌜ SmallAction (next .found) ⌝ }
+    ensures { λ r. ⌜ r ≡ signed (countSaid (next .found)) ⌝ }
+    ensures { λ _. ⌜ now (found .exit) ≡ bytesSaid (next .found) (next .objects) (now (found .entry)) ⌝ }
+{
+    let answer = next.found;
+    match answer {
+        Found::Action(schema, count) => {
+            let objects = next.objects;
+            *found = action_bytes(schema, objects);
+            count as i32
+        }
+        Found::End => 0,
+        Found::CardRefused(refusal) => refusal_code(refusal),
+        Found::StateMalformed => -15,
+        Found::SchemaUnknown => -16,
+        Found::ObjectsWrong => -17,
+        Found::ObjectsRepeated => -18,
     }
 }
 
@@ -117,6 +174,31 @@ pub extern "C" fn stakestalk_press(
 {
     let applied = apply(card, state, count, schema, objects);
     applied_code(applied)
+}
+
+// Finds the next open action after a given one, or the first with none given (0): the number of its objects, or 0 at the end. Only where one
+// is found `found` is written: its schema, its objects, and 0 in the places past them.
+#[no_mangle]
+pub extern "C" fn stakestalk_next_open(
+    card: &[u8],
+    state: &[u8],
+    count: usize,
+    given: i32,
+    schema: usize,
+    objects: &[u8],
+    found: &mut [u8; 7],
+) -> i32
+    ensures { λ r. ⌜
+        r ≡ signed (objectCount (nextOpen (now (card .entry)) (now (state .entry)) count (givenOf (givenAs given schema) (now (objects .entry)))))
+        ⌝ }
+    ensures { λ _. ⌜
+        now (found .exit)
+        ≡ shownIn (nextOpen (now (card .entry)) (now (state .entry)) count (givenOf (givenAs given schema) (now (objects .entry)))) (now (found .entry))
+        ⌝ }
+{
+    let after = given_action(given, schema);
+    let next = next_open(card, state, count, after, objects);
+    next_open_code(next, found)
 }
 
 // Reads a card and writes what was read as a card again: its length.
