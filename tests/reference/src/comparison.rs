@@ -1,11 +1,15 @@
 //! Two implementations side by side: the same calls on the same bytes, answers and every lent byte compared.
 
-use crate::card::{decode, Task, OUTPUT_LEN};
+mod open;
+
+pub use open::{every_press, missing_of_open};
+
+use crate::card::{decode, Schema, Task, OUTPUT_LEN};
 use crate::met::{every_answer, Call, Case, Met, LINES, SPACES};
-use crate::proved::Calls;
-use crate::random::{write_unchecked, Malformed, Press, Random, MALFORMED_PARTS};
+use crate::proved::{Calls, Found};
+use crate::random::{write_unchecked, Malformed, Random, MALFORMED_PARTS};
 use crate::refusal::{BINDING, OUTPUT, SECTION, STATE};
-use crate::strips::{FACT_LEN, MAX_STATE_FACTS, STATE_LEN};
+use crate::strips::{Press, FACT_LEN, MAX_STATE_FACTS, STATE_LEN};
 use crate::vectors::to_hex;
 use std::cmp::Ordering;
 use std::fmt;
@@ -35,6 +39,7 @@ enum Request<'a> {
     Rewrite,
     Section(usize),
     Press { count: usize, press: &'a Press },
+    NextOpen { state: &'a [u8], count: usize, given: Option<&'a Press> },
 }
 
 impl Request<'_> {
@@ -45,6 +50,7 @@ impl Request<'_> {
             Request::Rewrite => Call::Rewrite,
             Request::Section(_) => Call::Section,
             Request::Press { .. } => Call::Press,
+            Request::NextOpen { .. } => Call::NextOpen,
         }
     }
 
@@ -56,12 +62,23 @@ impl Request<'_> {
             Request::Initial => format!("initial into {length} bytes"),
             Request::Rewrite => format!("rewrite into {length} bytes"),
             Request::Section(number) => format!("section {number} into {length} bytes"),
-            Request::Press { count, press: Press { schema, objects } } => {
-                let facts = to_hex(&buffer[..length.min((*count).min(MAX_STATE_FACTS) * FACT_LEN)]);
-                format!("press schema {schema}, objects {objects:?}, state of {length} bytes, count {count}, facts {facts}")
+            Request::Press { count, press } => format!("press {}, {}", in_words(press), state_in_words(buffer, *count)),
+            Request::NextOpen { state, count, given } => {
+                let given = given.map_or("none".into(), in_words);
+                format!("next open press after {given}, {}", state_in_words(state, *count))
             }
         }
     }
+}
+
+fn in_words(Press { schema, objects }: &Press) -> String {
+    format!("schema {schema}, objects {objects:?}")
+}
+
+fn state_in_words(state: &[u8], count: usize) -> String {
+    let length = state.len();
+    let facts = to_hex(&state[..length.min(count.min(MAX_STATE_FACTS) * FACT_LEN)]);
+    format!("state of {length} bytes, count {count}, facts {facts}")
 }
 
 /// What stands before and behind each lent run of bytes, and has to be there afterwards.
@@ -96,22 +113,35 @@ struct Outcome {
     bytes: Vec<u8>,
 }
 
-/// Makes the call on copies. Says so where it altered what it may not: card, objects, bytes that were not lent, anything on a refusal.
+/// Makes the call on copies. Says so where it altered what it may not: card, objects, a state that is only read, bytes that were not
+/// lent, anything on a refusal or at the end of the open presses.
 fn outcome(calls: &dyn Calls, card: &[u8], request: Request, before: &[u8]) -> Result<Outcome, String> {
-    let objects: &[u8] = if let Request::Press { press, .. } = request { &press.objects } else { &[] };
-    let (mut lent_card, mut lent_objects, mut buffer) = (Lent::new(card), Lent::new(objects), Lent::new(before));
+    let (objects, state): (&[u8], &[u8]) = match request {
+        Request::Press { press, .. } => (&press.objects, &[]),
+        Request::NextOpen { state, given, .. } => (given.map_or(&[], |given| &given.objects), state),
+        _ => (&[], &[]),
+    };
+    let (mut lent_card, mut lent_objects, mut lent_state) = (Lent::new(card), Lent::new(objects), Lent::new(state));
+    let mut buffer = Lent::new(before);
     let answer = match request {
         Request::Check => calls.check(lent_card.lend()).map(|()| 0),
         Request::Initial => calls.initial(lent_card.lend(), buffer.lend()),
         Request::Rewrite => calls.rewrite(lent_card.lend(), buffer.lend()),
         Request::Section(number) => calls.section(lent_card.lend(), number, buffer.lend()),
         Request::Press { count, press } => calls.press(lent_card.lend(), buffer.lend(), count, press.schema, lent_objects.lend()),
+        Request::NextOpen { count, given, .. } => {
+            let given = given.map(|given| (given.schema, &*lent_objects.lend()));
+            let found: &mut Found = buffer.lend().try_into().map_err(|_| "needs room for a press".to_string())?;
+            calls.next_open(lent_card.lend(), lent_state.lend(), count, given, found)
+        }
     };
-    if lent_card.back().as_deref() != Some(card) || lent_objects.back().as_deref() != Some(objects) {
+    let read = [(lent_card, card), (lent_objects, objects), (lent_state, state)];
+    if read.into_iter().any(|(lent, bytes)| lent.back().as_deref() != Some(bytes)) {
         return Err(format!("answers {answer:?} and bytes that are only read are altered"));
     }
     let bytes = buffer.back().ok_or(format!("answers {answer:?} and bytes around the buffer are altered"))?;
-    if answer.is_err() && bytes != before {
+    let writes = answer.is_ok() && (request.call() != Call::NextOpen || answer != Ok(0));
+    if !writes && bytes != before {
         return Err(format!("answers {answer:?} and the buffer is altered"));
     }
     if !request.call().answers().contains(&answer.err().unwrap_or(0)) {
@@ -160,7 +190,7 @@ fn case(card: &[u8], request: Request, length: usize, answer: Result<usize, u8>)
         (Request::Rewrite | Request::Section(_), Ok(_)) if length > OUTPUT_LEN => Some(LONG_OUTPUT),
         (Request::Rewrite | Request::Section(_), Err(OUTPUT)) => Some(SHORT_OUTPUT),
         (Request::Section(number), Err(SECTION)) => Some(if number <= MAX_SECTIONS { NEAR_SECTION } else { FAR_SECTION }),
-        (Request::Press { press, .. }, Err(BINDING)) => {
+        (Request::Press { press, .. } | Request::NextOpen { given: Some(press), .. }, Err(BINDING)) => {
             let roles = decode(card).ok()?.schemas().get(press.schema)?.parameters as usize;
             Some(match press.objects.len().cmp(&roles) {
                 Ordering::Less => TOO_FEW,
@@ -273,8 +303,7 @@ impl<'a> Comparison<'a> {
     pub fn random_history(&mut self) -> Result<(), Difference> {
         let task = if self.random.once_in(8) { self.random.roomy_task() } else { self.random.task() };
         let card = write_unchecked(&task);
-        let length = STATE_LEN + if self.random.once_in(4) { self.random.within(1, 100) } else { 0 };
-        let mut history = self.opening(&card, length)?;
+        let mut history = self.opening_of_some_length(&card)?;
         for _ in 0..self.random.below(30) {
             let (state, count) = (&history.state, history.count);
             match self.random.below(20) {
@@ -296,6 +325,12 @@ impl<'a> Comparison<'a> {
             }
         }
         Ok(())
+    }
+
+    /// The opening state in a buffer that may be longer than it needs to be.
+    fn opening_of_some_length(&mut self, card: &[u8]) -> Result<History, Difference> {
+        let length = STATE_LEN + if self.random.once_in(4) { self.random.within(1, 100) } else { 0 };
+        self.opening(card, length)
     }
 
     fn opening(&mut self, card: &[u8], length: usize) -> Result<History, Difference> {

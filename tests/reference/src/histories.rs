@@ -3,8 +3,8 @@
 use crate::card::Task;
 use crate::met::{Call, Met, LINES, SPACES};
 use crate::proved::Calls;
-use crate::random::{write_unchecked, Press, Random};
-use crate::strips::{FACT_LEN, STATE_LEN};
+use crate::random::{write_unchecked, Random};
+use crate::strips::{Press, FACT_LEN, STATE_LEN};
 use crate::truth::{check, Listing};
 use crate::vectors::to_hex;
 use std::fmt;

@@ -4,9 +4,11 @@
 pub mod card;
 pub mod comparison;
 pub mod examples;
+pub mod hard;
 pub mod histories;
 pub mod listing;
 pub mod met;
+pub mod open;
 pub mod proved;
 pub mod random;
 pub mod reachable;
@@ -19,4 +21,5 @@ pub mod vectors;
 
 pub use card::{decode, encode, Task};
 pub use listing::{listing, section};
+pub use open::next_open;
 pub use strips::{initial, press};

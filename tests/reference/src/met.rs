@@ -12,6 +12,7 @@ pub enum Call {
     Rewrite,
     Section,
     Press,
+    NextOpen,
     Encode,
 }
 
@@ -25,6 +26,7 @@ impl Call {
             Call::Rewrite => (14, &[21]),
             Call::Section => (14, &[21, 22]),
             Call::Press => (20, &[]),
+            Call::NextOpen => (18, &[]),
         };
         (0..=last).chain(more.iter().copied()).collect()
     }
@@ -36,6 +38,7 @@ impl Call {
             Call::Rewrite => "rewrite",
             Call::Section => "section",
             Call::Press => "press",
+            Call::NextOpen => "next open",
             Call::Encode => "encode",
         }
     }

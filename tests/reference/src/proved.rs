@@ -1,5 +1,18 @@
 //! The proved library, target/staticlib/libcapi.a, by its C interface (include/stakestalk.h).
 
+use crate::card::MAX_PARAMETERS;
+use crate::open::Given;
+use crate::strips::Press;
+
+/// Where a press that is found is written: its schema, its objects, and then 0.
+pub type Found = [u8; 1 + MAX_PARAMETERS];
+
+/// The press that was found, by the number of its objects; none if there are none.
+pub fn found_press(found: &Found, objects: usize) -> Option<Press> {
+    let objects = found[1..].get(..objects).filter(|objects| !objects.is_empty())?;
+    Some(Press { schema: found[0].into(), objects: objects.to_vec() })
+}
+
 /// The calls that both implementations have.
 pub trait Calls {
     /// Whether the card is accepted.
@@ -8,6 +21,9 @@ pub trait Calls {
     fn initial(&self, card: &[u8], state: &mut [u8]) -> Result<usize, u8>;
     /// A press: the new count.
     fn press(&self, card: &[u8], state: &mut [u8], count: usize, schema: usize, objects: &[u8]) -> Result<usize, u8>;
+    /// The next open press after the given one, or the first if none is given: the number of its objects, or 0 at the end.
+    /// `found` is written only where a press is found.
+    fn next_open(&self, card: &[u8], state: &[u8], count: usize, given: Given, found: &mut Found) -> Result<usize, u8>;
     /// One section of the listing: its length.
     fn section(&self, card: &[u8], number: usize, out: &mut [u8]) -> Result<usize, u8>;
     /// The card read and written again: its length.
@@ -44,6 +60,16 @@ impl Calls for Reference {
         crate::press(card, state, count, schema, objects)
     }
 
+    fn next_open(&self, card: &[u8], state: &[u8], count: usize, given: Given, found: &mut Found) -> Result<usize, u8> {
+        let Some(Press { schema, objects }) = crate::next_open(card, state, count, given)? else {
+            return Ok(0);
+        };
+        *found = Found::default();
+        found[0] = schema as u8;
+        found[1..=objects.len()].copy_from_slice(&objects);
+        Ok(objects.len())
+    }
+
     fn section(&self, card: &[u8], number: usize, out: &mut [u8]) -> Result<usize, u8> {
         crate::section(card, number, out)
     }
@@ -71,6 +97,18 @@ mod foreign {
             schema: usize,
             objects: *const u8,
             objects_len: usize,
+        ) -> i32;
+        pub fn stakestalk_next_open(
+            card: *const u8,
+            card_len: usize,
+            state: *const u8,
+            state_len: usize,
+            count: usize,
+            given: i32,
+            schema: usize,
+            objects: *const u8,
+            objects_len: usize,
+            found: *mut u8,
         ) -> i32;
         pub fn stakestalk_section(card: *const u8, card_len: usize, number: usize, out: *mut u8, out_len: usize) -> i32;
         pub fn stakestalk_rewrite(card: *const u8, card_len: usize, out: *mut u8, out_len: usize) -> i32;
@@ -104,6 +142,19 @@ impl Calls for Proved {
         let (state, state_len) = (state.as_mut_ptr(), state.len());
         answer(unsafe {
             foreign::stakestalk_press(card.as_ptr(), card.len(), state, state_len, count, schema, objects.as_ptr(), objects.len())
+        })
+    }
+
+    fn next_open(&self, card: &[u8], state: &[u8], count: usize, given: Given, found: &mut Found) -> Result<usize, u8> {
+        // Any number but 0 says that a press is given. Beside 0 stands what would be refused if it were looked at.
+        let (says, schema, objects) = match given {
+            None => (0, usize::MAX, [0xFF].as_slice()),
+            Some((schema, objects)) => (if objects.len() % 2 == 0 { 1 } else { i32::MIN }, schema, objects),
+        };
+        let (card, card_len, state, state_len) = (card.as_ptr(), card.len(), state.as_ptr(), state.len());
+        let (objects, objects_len) = (objects.as_ptr(), objects.len());
+        answer(unsafe {
+            foreign::stakestalk_next_open(card, card_len, state, state_len, count, says, schema, objects, objects_len, found.as_mut_ptr())
         })
     }
 

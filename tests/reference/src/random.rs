@@ -2,7 +2,7 @@
 
 use crate::card::*;
 use crate::met::Case;
-use crate::strips::{FACT_LEN, FILLER, MAX_STATE_FACTS, STATE_LEN};
+use crate::strips::{ground, Press, FACT_LEN, FILLER, MAX_STATE_FACTS, STATE_LEN};
 
 /// SplitMix64.
 pub struct Random {
@@ -630,12 +630,6 @@ pub fn trimmed(task: &Task) -> Task {
 
 // States and presses.
 
-#[derive(Clone, Debug)]
-pub struct Press {
-    pub schema: usize,
-    pub objects: Vec<u8>,
-}
-
 impl Random {
     /// A press: most are allowed if the state allows any, some are refused by 16 to 19.
     pub fn press(&mut self, task: &Task, state: &[u8]) -> Press {
@@ -701,21 +695,25 @@ impl Random {
 
     /// A well-formed state of at most `count` facts, and its count.
     pub fn state(&mut self, task: &Task, count: usize) -> (Vec<u8>, usize) {
-        let mut facts: Vec<[u8; FACT_LEN]> = Vec::new();
+        self.state_with(task, Vec::new(), count)
+    }
+
+    /// The same, with facts among them that are made to meet preconditions.
+    pub fn allowing_state(&mut self, task: &Task, count: usize) -> (Vec<u8>, usize) {
+        let facts = self.facts(task, count / 2);
+        self.state_with(task, facts, count)
+    }
+
+    /// These facts, and others up to `count`.
+    fn state_with(&mut self, task: &Task, mut facts: Vec<Atom>, count: usize) -> (Vec<u8>, usize) {
         // Some rounds reach the wanted number where the card has as many facts.
         for _ in 0..20 {
             for _ in facts.len()..count {
-                let atom = self.atom(task, task.object_count);
-                let mut fact = [FILLER; FACT_LEN];
-                fact[0] = atom.predicate;
-                let arguments = task.arguments(&atom);
-                fact[1..=arguments.len()].copy_from_slice(arguments);
-                facts.push(fact);
+                facts.push(self.atom(task, task.object_count));
             }
-            facts.sort();
-            facts.dedup();
+            sort(&mut facts);
         }
-        let mut state = facts.concat();
+        let mut state: Vec<u8> = facts.iter().flat_map(|fact| ground(task, fact, |object| object)).collect();
         state.resize(STATE_LEN, 0);
         (state, facts.len())
     }

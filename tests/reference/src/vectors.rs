@@ -1,5 +1,6 @@
 //! The outside vectors of tests/vectors, and document 01's bench card.
 
+use crate::strips::Press;
 use std::fs;
 use std::path::PathBuf;
 
@@ -17,17 +18,25 @@ pub struct Listing {
     pub text: String,
 }
 
-pub struct Press {
-    pub schema: usize,
-    pub objects: Vec<u8>,
-    pub answer: Result<usize, u8>,
+/// A call that names a press, and its answer.
+pub struct Answered<T> {
+    pub press: Press,
+    pub answer: Result<T, u8>,
 }
 
 /// Presses in order from the opening state, and the facts that stand after them.
 pub struct History {
     pub card: Vec<u8>,
-    pub presses: Vec<Press>,
+    pub presses: Vec<Answered<usize>>,
     pub facts: Vec<u8>,
+}
+
+/// The facts of a state, its open presses in order, and the next open one after some presses, open or not.
+pub struct OpenPresses {
+    pub card: Vec<u8>,
+    pub facts: Vec<u8>,
+    pub open: Vec<Press>,
+    pub after: Vec<Answered<Option<Press>>>,
 }
 
 /// The repository's directory of tests.
@@ -81,20 +90,47 @@ pub fn histories() -> Vec<History> {
 fn history(lines: &[&str]) -> History {
     let (last, presses) = lines[1..].split_last().expect("a history ends with its state");
     let facts = from_hex(last.strip_prefix("state").expect("a history ends with its state"));
-    History { card: from_hex(lines[0]), presses: presses.iter().map(|line| press(line)).collect(), facts }
+    let count = |answer: &str| answer.parse().expect("a count is a number");
+    let press = |line: &&str| answered(line.strip_prefix("press").expect("a history has presses"), count);
+    History { card: from_hex(lines[0]), presses: presses.iter().map(press).collect(), facts }
 }
 
-fn press(line: &str) -> Press {
-    let (call, answer) = line.split_once("->").expect("a press has its answer");
-    let (schema, objects) = call.strip_prefix("press").and_then(|call| call.split_once(':')).expect("a press has its objects");
+/// The 150 states of open.txt.
+pub fn open_presses() -> Vec<OpenPresses> {
+    let text = read("vectors/open.txt");
+    blocks(&text).into_iter().map(|lines| open_presses_of(&lines)).collect()
+}
+
+fn open_presses_of(lines: &[&str]) -> OpenPresses {
+    let facts = from_hex(lines[1].strip_prefix("state").expect("a state comes after its card"));
+    let next = |answer: &str| (answer != "end").then(|| press(answer));
+    let (mut open, mut after) = (Vec::new(), Vec::new());
+    for line in &lines[2..] {
+        match line.split_once(' ') {
+            Some(("open", words)) => open.push(press(words)),
+            Some(("after", words)) => after.push(answered(words, next)),
+            _ => panic!("open.txt: {line}"),
+        }
+    }
+    OpenPresses { card: from_hex(lines[0]), facts, open, after }
+}
+
+/// A press, an arrow and its answer, which is a refusal or something else.
+fn answered<T>(words: &str, accepted: impl Fn(&str) -> T) -> Answered<T> {
+    let (words, answer) = words.split_once("->").expect("a press has its answer");
     let answer = match answer.trim().strip_prefix("refused ") {
         Some(number) => Err(number.parse().expect("a refusal is a number")),
-        None => Ok(answer.trim().parse().expect("a count is a number")),
+        None => Ok(accepted(answer.trim())),
     };
+    Answered { press: press(words), answer }
+}
+
+/// A schema, a colon and objects.
+fn press(words: &str) -> Press {
+    let (schema, objects) = words.split_once(':').expect("a press has its objects");
     Press {
         schema: schema.trim().parse().expect("a schema is a number"),
         objects: objects.split_whitespace().map(|object| object.parse().expect("an object is a number")).collect(),
-        answer,
     }
 }
 

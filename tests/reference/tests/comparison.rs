@@ -1,8 +1,9 @@
 //! The comparison passes two equal implementations and finds a fault in each part of a faulty one.
 
-use reference::comparison::{missing_of_cards, missing_of_histories, Comparison};
+use reference::comparison::{missing_of_cards, missing_of_histories, missing_of_open, Comparison};
 use reference::met::{Call, Met};
-use reference::proved::{Calls, Reference};
+use reference::open::Given;
+use reference::proved::{Calls, Found, Reference};
 
 /// The reference with one fault put in.
 #[derive(Clone, Copy, Debug)]
@@ -18,9 +19,16 @@ enum Fault {
     WrongClosing,
     RefusesShortBufferFirst,
     AnswersAnothersRefusal,
+    AnswersTheGivenAgain,
+    LeavesOneOut,
+    EndsWithTheSchema,
+    RefusesAGivenOneThatIsNotOpen,
+    ChecksTheGivenBeforeTheState,
+    WritesAtTheEnd,
+    LeavesPlacesPastTheObjects,
 }
 
-const FAULTS: [Fault; 11] = [
+const FAULTS: [Fault; 18] = [
     Fault::AcceptsTrailingBytes,
     Fault::RewritesOneByte,
     Fault::WritesPastTheCard,
@@ -32,6 +40,13 @@ const FAULTS: [Fault; 11] = [
     Fault::WrongClosing,
     Fault::RefusesShortBufferFirst,
     Fault::AnswersAnothersRefusal,
+    Fault::AnswersTheGivenAgain,
+    Fault::LeavesOneOut,
+    Fault::EndsWithTheSchema,
+    Fault::RefusesAGivenOneThatIsNotOpen,
+    Fault::ChecksTheGivenBeforeTheState,
+    Fault::WritesAtTheEnd,
+    Fault::LeavesPlacesPastTheObjects,
 ];
 
 struct Faulty(Fault);
@@ -56,6 +71,36 @@ impl Calls for Faulty {
             (Fault::AnswersAnothersRefusal, Err(20)) => return Err(21),
             (Fault::LeavesTheTail, Ok(new)) if new < count => state[new * 4..count * 4].copy_from_slice(&before[new * 4..count * 4]),
             (Fault::AltersOnRefusal, Err(20)) => state[0] ^= 1,
+            _ => {}
+        }
+        answer
+    }
+
+    fn next_open(&self, card: &[u8], state: &[u8], count: usize, given: Given, found: &mut Found) -> Result<usize, u8> {
+        let before = *found;
+        let answer = Reference.next_open(card, state, count, given, found);
+        let is_open = |(schema, objects)| Reference.press(card, &mut state.to_vec(), count, schema, objects).is_ok();
+        match (self.0, given, answer) {
+            (Fault::AnswersTheGivenAgain, Some(press), Ok(next)) if next > 0 && press.1.len() == 3 && is_open(press) => {
+                found[0] = press.0 as u8;
+                found[1..4].copy_from_slice(press.1);
+                return Ok(3);
+            }
+            (Fault::LeavesOneOut, Some(_), Ok(next)) if next > 2 => {
+                let left_out = *found;
+                return Reference.next_open(card, state, count, Some((left_out[0].into(), &left_out[1..=next])), found);
+            }
+            (Fault::EndsWithTheSchema, Some((schema, _)), Ok(_)) if usize::from(found[0]) != schema => {
+                *found = before;
+                return Ok(0);
+            }
+            (Fault::RefusesAGivenOneThatIsNotOpen, Some(press), Ok(_)) if !is_open(press) => {
+                *found = before;
+                return Err(19);
+            }
+            (Fault::ChecksTheGivenBeforeTheState, Some((schema, _)), Err(15)) if schema > 32 => return Err(16),
+            (Fault::WritesAtTheEnd, _, Ok(0)) => *found = Found::default(),
+            (Fault::LeavesPlacesPastTheObjects, _, Ok(next)) if next > 0 => found[1 + next..].copy_from_slice(&before[1 + next..]),
             _ => {}
         }
         answer
@@ -93,19 +138,25 @@ impl Calls for Faulty {
 
 fn finds(calls: &dyn Calls) -> bool {
     let mut comparison = Comparison::new(calls, &Reference, 7);
-    (0..1_500).any(|_| comparison.random_card().is_err() || comparison.random_history().is_err())
+    (0..1_500).any(|_| comparison.random_card().is_err() || comparison.random_history().is_err() || comparison.random_open().is_err())
 }
 
 #[test]
 fn equal_implementations_pass_and_every_case_comes_up() {
     let mut cards = Comparison::new(&Reference, &Reference, 7);
     let mut histories = Comparison::new(&Reference, &Reference, 8);
+    let mut open = Comparison::new(&Reference, &Reference, 9);
     for _ in 0..3_000 {
         cards.random_card().unwrap();
         histories.random_history().unwrap();
     }
+    for _ in 0..1_000 {
+        open.random_open().unwrap();
+    }
+    println!("{}", open.met);
     assert_eq!(missing_of_cards(&cards.met), [""; 0]);
     assert_eq!(missing_of_histories(&histories.met), [""; 0]);
+    assert_eq!(missing_of_open(&open.met), [""; 0]);
 }
 
 /// A record with nothing in it misses everything: 15, 16, 16 and 17 answers, 5 kinds of spaces, 8 of lines and 6 of buffers and numbers.

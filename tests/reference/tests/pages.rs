@@ -137,6 +137,7 @@ fn the_header_has_every_number() {
         ("STATE_BYTES", reference::strips::STATE_LEN),
         ("OUTPUT_BYTES", reference::card::OUTPUT_LEN),
         ("FACT_BYTES", reference::strips::FACT_LEN),
+        ("FOUND_BYTES", reference::proved::Found::default().len()),
     ] {
         assert!(header.contains(&format!("#define STAKESTALK_{name} {value} ")), "{name}");
     }

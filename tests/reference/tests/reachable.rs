@@ -3,9 +3,10 @@
 //! The listing is the stored one, crates/examples/stdout. Both implementations print it: tests/examples.rs makes it from the card by the
 //! reference, and `rt check examples` and `rt ci` hold what the proved program prints to that file.
 
+use reference::comparison::every_press;
 use reference::examples::{card, task};
 use reference::reachable::{allowed, hold, Reached};
-use reference::strips::{initial, press, FACT_LEN, STATE_LEN};
+use reference::strips::{initial, press, Press, FACT_LEN, STATE_LEN};
 use std::collections::BTreeMap;
 use std::fs::read_to_string;
 use std::path::Path;
@@ -102,21 +103,10 @@ fn allowed_presses_are_the_accepted_ones() {
         let card = card(&description(name)).unwrap();
         let mut state = vec![0; STATE_LEN];
         let count = initial(&card, &mut state).unwrap();
-        let mut found: Vec<(usize, Vec<u8>)> =
-            allowed(&task, &state[..count * FACT_LEN]).into_iter().map(|press| (press.schema, press.objects)).collect();
-        let mut accepted = Vec::new();
-        for (schema, parameters) in task.schemas().iter().map(|schema| schema.parameters as u32).enumerate() {
-            let objects = task.object_count as usize;
-            for number in 0..objects.pow(parameters) {
-                let bound: Vec<u8> = (0..parameters).map(|role| (number / objects.pow(role) % objects) as u8).collect();
-                if press(&card, &mut state.clone(), count, schema, &bound).is_ok() {
-                    accepted.push((schema, bound));
-                }
-            }
-        }
+        let mut found = allowed(&task, &state[..count * FACT_LEN]);
         found.sort();
-        accepted.sort();
-        assert_eq!(found, accepted, "{name}");
+        let accepts = |call: &Press| press(&card, &mut state.clone(), count, call.schema, &call.objects).is_ok();
+        assert_eq!(found, every_press(&task).filter(accepts).collect::<Vec<_>>(), "{name}");
         assert!(!found.is_empty(), "{name}");
     }
 }

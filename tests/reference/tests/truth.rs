@@ -1,7 +1,8 @@
 //! The check of a listing against a state finds each kind of false line.
 
 use reference::histories::Histories;
-use reference::proved::{Calls, Reference};
+use reference::open::Given;
+use reference::proved::{Calls, Found, Reference};
 use reference::strips::{FACT_LEN, STATE_LEN};
 use reference::truth::{check, Listing};
 use reference::vectors::{from_hex, K1};
@@ -73,6 +74,10 @@ impl Calls for Changed {
 
     fn press(&self, card: &[u8], state: &mut [u8], count: usize, schema: usize, objects: &[u8]) -> Result<usize, u8> {
         Reference.press(card, state, count, schema, objects)
+    }
+
+    fn next_open(&self, card: &[u8], state: &[u8], count: usize, given: Given, found: &mut Found) -> Result<usize, u8> {
+        Reference.next_open(card, state, count, given, found)
     }
 
     fn section(&self, card: &[u8], number: usize, out: &mut [u8]) -> Result<usize, u8> {

@@ -2,8 +2,8 @@
 
 use reference::card::OUTPUT_LEN;
 use reference::strips::{FACT_LEN, STATE_LEN};
-use reference::vectors::{extremes, histories, listings, Listing};
-use reference::{decode, encode, initial, listing, press, section};
+use reference::vectors::{extremes, histories, listings, open_presses, Listing};
+use reference::{decode, encode, initial, listing, next_open, press, section};
 
 #[test]
 fn listings_agree() {
@@ -66,7 +66,7 @@ fn histories_agree() {
         let mut count = initial(&history.card, &mut state).expect("the card of a history is accepted");
         for (index, call) in history.presses.iter().enumerate() {
             let before = state.clone();
-            let answer = press(&history.card, &mut state, count, call.schema, &call.objects);
+            let answer = press(&history.card, &mut state, count, call.press.schema, &call.press.objects);
             assert_eq!(answer, call.answer, "history {number}, press {index}");
             match answer {
                 Ok(new) => count = new,
@@ -77,5 +77,31 @@ fn histories_agree() {
         assert_eq!(state[..end], history.facts, "history {number}");
         assert!(state[end..STATE_LEN].iter().all(|&byte| byte == 0), "history {number}");
         assert!(state[STATE_LEN..].iter().all(|&byte| byte == 0xAA), "history {number}");
+    }
+}
+
+#[test]
+fn open_presses_agree() {
+    let stored = open_presses();
+    assert_eq!(stored.len(), 150);
+    for (number, vector) in stored.iter().enumerate() {
+        let count = vector.facts.len() / FACT_LEN;
+        let mut state = vector.facts.clone();
+        state.resize(STATE_LEN, 0xAA);
+        let mut given = None;
+        for open in &vector.open {
+            let next = next_open(&vector.card, &state, count, given);
+            assert_eq!(next.as_ref(), Ok(&Some(open.clone())), "state {number}, after {given:?}");
+            given = Some(open.parts());
+        }
+        assert_eq!(next_open(&vector.card, &state, count, given), Ok(None), "state {number}, after {given:?}");
+        for call in &vector.after {
+            assert_eq!(
+                next_open(&vector.card, &state, count, Some(call.press.parts())),
+                call.answer,
+                "state {number}, after {:?}",
+                call.press
+            );
+        }
     }
 }

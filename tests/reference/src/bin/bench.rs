@@ -1,14 +1,16 @@
 //! What the proved library and the reference cost, side by side: medians of repeated runs, and instructions where valgrind is
-//! installed. Closes with the means of each kind of call and whether they meet their targets.
+//! installed. Closes with the means of each kind of call and whether they meet their targets, and with states in which the next open press
+//! is hard to find.
 //!
 //!     bench [SECONDS]             the least time that each median is taken over, 0.3 if not given; at least five runs
 //!     bench --work ROW SIDE N     does the work of one row N times on one side, for the instructions to be counted
 
 use reference::examples;
-use reference::proved::{Calls, Proved, Reference};
+use reference::hard::{hard_states, Hard};
+use reference::proved::{Calls, Found, Proved, Reference};
 use reference::random::Random;
 use reference::strips::{FACT_LEN, STATE_LEN};
-use reference::vectors::{extremes, histories, listings, K1};
+use reference::vectors::{extremes, histories, listings, open_presses, Answered, OpenPresses, K1};
 use std::hint::black_box;
 use std::path::PathBuf;
 use std::process::{Command, Stdio};
@@ -47,6 +49,7 @@ fn work(row: &str, side: &str, times: &str) {
 enum Kind {
     Decode,
     Press,
+    Open,
     Listing,
     Program,
 }
@@ -70,12 +73,14 @@ fn rows() -> Vec<Row> {
     rows.group("K1");
     rows.row("decode", Kind::Decode, || Some(decode(vec![K1.to_vec()])));
     rows.row("press, four in a ring", Kind::Press, || Some(ring()));
+    rows.row("open presses, in a ring", Kind::Open, || Some(open_in_ring()));
     rows.row("listing, all sections", Kind::Listing, || Some(listing(vec![K1.to_vec()])));
 
-    rows.group("listings.txt and presses.txt");
+    rows.group("listings.txt, presses.txt and open.txt");
     let cards = || listings().into_iter().map(|listing| listing.card).collect();
     rows.row("decode, 800 cards", Kind::Decode, move || Some(decode(cards())));
     rows.row("press, 400 histories", Kind::Press, || Some(stored_histories()));
+    rows.row("open presses, 150 states", Kind::Open, || Some(open_in_stored_states()));
     rows.row("listing, 800 cards", Kind::Listing, move || Some(listing(cards())));
 
     for extreme in extremes() {
@@ -255,15 +260,49 @@ impl Drop for Cleared {
 }
 
 /// Four presses of K1 that bring the opening state back.
+const RING: [(usize, &[u8]); 4] = [(0, &[0]), (1, &[0, 2, 3]), (0, &[0]), (1, &[0, 3, 2])];
+
 fn ring() -> Work {
-    let presses: [(usize, &[u8]); 4] = [(0, &[0]), (1, &[0, 2, 3]), (0, &[0]), (1, &[0, 3, 2])];
     let mut state = vec![0; STATE_LEN];
     let mut count = Reference.initial(&K1, &mut state).expect("the card is accepted");
     Box::new(move |Side { calls, .. }| {
-        for (schema, objects) in presses {
+        for (schema, objects) in RING {
             count = calls.press(black_box(&K1), &mut state, count, schema, objects).expect("the press is accepted");
         }
     })
+}
+
+/// All open presses of a state, one call each and one for the end.
+fn ask_for_open(calls: &dyn Calls, card: &[u8], state: &[u8], count: usize) {
+    let (mut last, mut found, mut objects) = (Found::default(), Found::default(), 0);
+    loop {
+        let given = (objects > 0).then(|| (last[0].into(), &last[1..=objects]));
+        match calls.next_open(black_box(card), state, count, given, &mut found) {
+            Ok(next @ 1..) => (last, objects) = (found, next),
+            _ => break,
+        }
+    }
+}
+
+/// The open presses of K1 in each state of the ring.
+fn open_in_ring() -> Work {
+    let mut state = vec![0; STATE_LEN];
+    let mut count = Reference.initial(&K1, &mut state).expect("the card is accepted");
+    let states = RING.map(|(schema, objects)| {
+        count = Reference.press(&K1, &mut state, count, schema, objects).expect("the press is accepted");
+        (state.clone(), count)
+    });
+    Box::new(move |Side { calls, .. }| states.iter().for_each(|(state, count)| ask_for_open(*calls, &K1, state, *count)))
+}
+
+fn open_in_stored_states() -> Work {
+    let in_buffer = |OpenPresses { card, mut facts, .. }| {
+        let count = facts.len() / FACT_LEN;
+        facts.resize(STATE_LEN, 0);
+        (card, facts, count)
+    };
+    let states: Vec<_> = open_presses().into_iter().map(in_buffer).collect();
+    Box::new(move |Side { calls, .. }| states.iter().for_each(|(card, state, count)| ask_for_open(*calls, card, state, *count)))
 }
 
 /// The opening call and every press of each stored history.
@@ -273,7 +312,7 @@ fn stored_histories() -> Work {
     Box::new(move |Side { calls, .. }| {
         for history in &histories {
             let mut count = calls.initial(&history.card, &mut state).expect("the card is accepted");
-            for press in &history.presses {
+            for Answered { press, .. } in &history.presses {
                 count = calls.press(&history.card, &mut state, count, press.schema, &press.objects).unwrap_or(count);
             }
         }
@@ -337,6 +376,26 @@ fn table(seconds: f64) {
         costs.push((row, Cost { seconds, instructions }));
     }
     means(&costs);
+    hard();
+}
+
+/// The most seconds that a call may take in a hard state.
+const AIM: f64 = 0.5;
+
+/// What a call takes in the hard states, by the proved library alone: the other implementation takes too long.
+fn hard() {
+    println!("next open press, 64 objects and roles a to f, the proved library alone; the aim is at most {AIM} s for a call");
+    println!("{:<36}{:>13}{:>24}", "", "after none", "after the first binding");
+    for Hard { name, card, state, count } in hard_states(64) {
+        let seconds = [None, Some((0, [0, 1, 2, 3, 4, 5].as_slice()))].map(|given| {
+            let mut call = || assert_eq!(Proved.next_open(black_box(&card), &state, count, given, &mut Found::default()), Ok(0), "{name}");
+            let first = time(1, &mut call);
+            let runs = if first <= AIM { 5 } else { 0 };
+            median((0..runs).map(|_| time(1, &mut call)).chain([first]).collect())
+        });
+        let verdict = if seconds[0].max(seconds[1]) <= AIM { "met" } else { "missed" };
+        println!("  {name:<34}{:>13}{:>24}  {verdict}", duration(seconds[0]), duration(seconds[1]));
+    }
 }
 
 fn columns(one: &str, other: &str, ratio: &str) -> String {
@@ -354,9 +413,10 @@ fn ratio(pair: [f64; 2]) -> f64 {
 /// The rows that a mean is taken over.
 type Choice = fn(&Row) -> bool;
 
-const MEANS: [(&str, Choice); 5] = [
+const MEANS: [(&str, Choice); 6] = [
     ("decode", |row| row.counts && row.kind == Kind::Decode),
     ("press", |row| row.counts && row.kind == Kind::Press),
+    ("open presses", |row| row.counts && row.kind == Kind::Open),
     ("listing", |row| row.counts && row.kind == Kind::Listing),
     ("program", |row| row.counts && row.kind == Kind::Program),
     ("listing of slow", |row| row.group == "slow" && row.kind == Kind::Listing),
