@@ -25,8 +25,8 @@ use Rattle.reader_bytes.proofs.Answers.{goes, halts, fails, differ, byteThat-he
 use Rattle.reader_atoms.proofs.Many.{many-all}
 use Rattle.reader_lists.specs.declared.FactsRead.{FactsRead}
 use Rattle.reader_lists.specs.ListReads.{FactsReads}
-use Rattle.reader.specs.declared.SchemasRead.{SchemasRead}
-use Rattle.reader.specs.TaskReads.{decodedRefused, SchemasReads}
+use Rattle.reader.specs.declared.SchemaRead.{SchemaRead}
+use Rattle.reader.specs.TaskReads.{decodedRefused, SchemaReads}
 
 module _ (card : List ℕ) where
   -- the predicates are refused
@@ -107,10 +107,10 @@ decodes-accepted a k = record { answer = sym a; kept = k ∙ sym (ap taskBeside 
 
 -- reads with the part of the array are reads with the arities
 module _ {l : ArityList} (kept : l ≡ aritiesFor (aritiesOf l)) {card : List ℕ} (s : List ℕ) where
-  pub schemas-with : {r : SchemasRead}
-      → SchemasReads (take (l .count - 0) (l .arities)) card (model.schemas (take (l .count - 0) (l .arities)) s) r
-      → SchemasReads (aritiesOf l) card (model.schemas (aritiesOf l) s) r
-  schemas-with {r} w = subst (λ a. SchemasReads a card (model.schemas a s) r) (arities-part l (arities-room kept)) w
+  pub schema-with : {r : SchemaRead}
+      → SchemaReads (take (l .count - 0) (l .arities)) card (model.schema (take (l .count - 0) (l .arities)) s) r
+      → SchemaReads (aritiesOf l) card (model.schema (aritiesOf l) s) r
+  schema-with {r} w = subst (λ a. SchemaReads a card (model.schema a s) r) (arities-part l (arities-room kept)) w
 
   pub facts-with : (objects : ℕ) {r : FactsRead}
       → FactsReads (take (l .count - 0) (l .arities)) card (model.facts (take (l .count - 0) (l .arities)) objects s) r

@@ -1,4 +1,4 @@
 pub mod Headers
 pub mod SchemaParts
-pub mod SchemaLoop
 pub mod Decoding
+pub mod SchemaLoop

@@ -22,7 +22,7 @@ ghost use Rattle.card.specs.Represents.{blankSchema, schemasFor, Decodes};
 ghost use Rattle.model.specs.Card.{inRange, byteThat, roleCount, schemaLists, schema, predicates};
 ghost use Rattle.reader_bytes.specs.Reads.{ByteReads};
 ghost use Rattle.reader_lists.specs.ListReads.{AritiesReads};
-ghost use Rattle.reader.specs.TaskReads.{SchemaReadAt, SchemasReadAt, FactsListReadAt, schemaRefused, decodedRefused};
+ghost use Rattle.reader.specs.TaskReads.{SchemaReadAt, FactsListReadAt, schemaRefused, decodedRefused};
 
 // The bit map of a schema: its high bits are 0.
 fn map_byte(card: &[u8], c: Cursor) -> ByteRead
@@ -156,54 +156,12 @@ fn schema(card: &[u8], c: Cursor, arities: &[u8]) -> SchemaRead
     lists(card, c, arities, map, roles as usize)
 }
 
-pub struct SchemasRead {
-    pub step: Step,
-    pub list: SchemaList,
-}
-
 fn no_schemas() -> SchemaList
     ensures { λ r. ⌜ r ≡ schemasFor [] ⌝ }
 {
     SchemaList {
         count: 0,
         schemas: [blank_schema(); 32],
-    }
-}
-
-// The schema count, then each schema.
-fn schemas(card: &[u8], c: Cursor, arities: &[u8]) -> SchemasRead
-    requires { ⌜ inRange (now arities) ≡ true ⌝ }
-    ensures { λ r. ⌜ SchemasReadAt (now (arities .entry)) (now (card .entry)) (c .at) r ⌝ }
-{
-    let mut list = no_schemas();
-    let counted = reader_bytes::byte_between(card, c, 0, 32, Refusal::SchemaRange);
-    let ByteRead::Byte(number, start) = counted else {
-        return SchemasRead {
-            step: Step::Refused(counted.refusal()),
-            list: list,
-        };
-    };
-    let count = number as usize;
-    let mut at = start.at;
-    let mut i = 0;
-    while i < count {
-        let read = schema(card, Cursor { at: at }, arities);
-        let step = read.step;
-        let Step::At(after) = step else {
-            return SchemasRead {
-                step: Step::Refused(step.refusal()),
-                list: no_schemas(),
-            };
-        };
-        let s = read.schema;
-        list.schemas[i] = s;
-        at = after.at;
-        i = i + 1;
-    }
-    list.count = count;
-    SchemasRead {
-        step: Step::At(Cursor { at: at }),
-        list: list,
     }
 }
 
@@ -256,7 +214,8 @@ fn refused(refusal: Refusal) -> Decoded
     }
 }
 
-// The task that a card describes, or why it describes none.
+// The task that a card describes, or why it describes none: the predicates, the number of objects, the schemas, the facts, and nothing
+// after them. The schemas are listed here: a function that answered their list, of 4 KB, would copy it once more.
 pub fn decode(card: &[u8]) -> Decoded
     ensures { λ r. ⌜ Decodes (now (card .entry)) r ⌝ }
 {
@@ -273,13 +232,27 @@ pub fn decode(card: &[u8]) -> Decoded
         return refused(counted.refusal());
     };
     let objects = number as usize;
-    let read = schemas(card, c, &arities[0..count]);
-    let step = read.step;
-    let Step::At(c) = step else {
-        return refused(step.refusal());
+    let counted = reader_bytes::byte_between(card, c, 0, 32, Refusal::SchemaRange);
+    let ByteRead::Byte(number, start) = counted else {
+        return refused(counted.refusal());
     };
-    let schemas = read.list;
-    let read = facts(card, c, &arities[0..count], objects);
+    let schema_count = number as usize;
+    let mut schemas = no_schemas();
+    let mut at = start.at;
+    let mut i = 0;
+    while i < schema_count {
+        let read = schema(card, Cursor { at: at }, &arities[0..count]);
+        let step = read.step;
+        let Step::At(after) = step else {
+            return refused(step.refusal());
+        };
+        let s = read.schema;
+        schemas.schemas[i] = s;
+        at = after.at;
+        i = i + 1;
+    }
+    schemas.count = schema_count;
+    let read = facts(card, Cursor { at: at }, &arities[0..count], objects);
     let step = read.step;
     let Step::At(c) = step else {
         return refused(step.refusal());
