@@ -37,10 +37,10 @@ extern "C" {
 #define STAKESTALK_FOUND_BYTES 7      /* a press that is found: schema, objects, 0 for missing objects */
 
 /* Stack that is enough for a call, in bytes, and for any of them. `tests/c/stack --write` measures them anew. */
-#define STAKESTALK_STACK_CHECK 28672
+#define STAKESTALK_STACK_CHECK 24576
 #define STAKESTALK_STACK_INITIAL 28672
 #define STAKESTALK_STACK_PRESS 32768
-#define STAKESTALK_STACK_NEXT_OPEN 32768
+#define STAKESTALK_STACK_NEXT_OPEN 28672
 #define STAKESTALK_STACK_REWRITE 28672
 #define STAKESTALK_STACK_SECTION 135168
 #define STAKESTALK_STACK STAKESTALK_STACK_SECTION
