@@ -2,16 +2,16 @@
 use Prim.Native.Nat.{ℕ, zero, suc, _+_, _*_, _≤_, _<_}
 use native.Mathlib.Nat.{not-suc-le-zero}
 use native.Mathlib.Omega.{arith}
-use mathlib.Core.Path.{_≡_, refl, sym, ap, _∙_, subst}
+use mathlib.Core.Path.{_≡_, refl, sym, ap, ap₂, _∙_, subst}
 use mathlib.Core.Bool.{Bool, true, false, _||_}
 use mathlib.Core.Logic.{_⊎_, inl, inr, ⊎-elim}
 use mathlib.Core.List.{List, [], _∷_, map}
 use lib.Dec.{ltb, eqb}
 use lib.ListN.{length, getD, take, drop}
 use lib.Seq.{getD-take, getD-drop, drop-drop}
-use borrow.Author.Tests.{lt-ltb, eq-eqb}
+use borrow.Author.Tests.{lt-ltb, le-ltb, eq-eqb}
 use Rattle.laws.specs.Lists.{any}
-use Rattle.laws.proofs.Tests.{or-left, or-right, and-left, never, by-test}
+use Rattle.laws.proofs.Tests.{or-left, or-right, and-left, cond-true, cond-false, never, by-test}
 use Rattle.laws.proofs.Orders.{compared}
 use Rattle.model.specs.Card.{Atom, has, sameAtom}
 use Rattle.model.specs.Strips.{factAt, factsIn, ground}
@@ -27,8 +27,27 @@ use Rattle.state.proofs.Finding.{below-within, below-up-to, below-past}
 use Rattle.masks.specs.Sets.{isMember, unionOf, singleOf, commonOf, allBelow}
 use Rattle.masks.proofs.Operations.{union-member, single-member, all-member, none-member, common-member}
 use Rattle.open_actions.specs.Masked.{Agree, Inside}
-use Rattle.open_actions.specs.Supports.{RowShows, ParametersWithin, PlaceOf, Ranges, Supported, AtomReady, AtomSupported}
+use Rattle.open_actions.specs.Supports.{RowShows, ParametersWithin, parametersOf, PlaceOf, Ranges, Supported, AtomReady, AtomSupported}
 use Rattle.open_actions.specs.declared.support.Support.{Support}
+
+-- ---- the parameters of an atom
+
+module _ {arity : ℕ} (a : Kept) {one : ℕ} (first : one ≡ singleOf (a .first)) where
+  pub one-parameter : arity < 2 → one ≡ parametersOf arity a
+  unfolding parametersOf
+  one-parameter h = first ∙ sym (cond-true (ltb arity 2) _ _ (lt-ltb arity 2 h))
+
+  module _ {other two : ℕ} (second : other ≡ singleOf (a .second)) (both : two ≡ unionOf one other) where
+    pub two-parameters : 2 ≤ arity → arity < 3 → two ≡ parametersOf arity a
+    unfolding parametersOf
+    two-parameters h k =
+        both ∙ ap₂ unionOf first second ∙ sym (cond-true (ltb arity 3) _ _ (lt-ltb arity 3 k)) ∙ sym (cond-false (ltb arity 2) _ _ (le-ltb arity 2 h))
+
+    pub three-parameters : {last three : ℕ} → last ≡ singleOf (a .third) → three ≡ unionOf two last → 3 ≤ arity → three ≡ parametersOf arity a
+    unfolding parametersOf
+    three-parameters third all h =
+        all ∙ ap₂ unionOf (both ∙ ap₂ unionOf first second) third ∙ sym (cond-false (ltb arity 3) _ _ (le-ltb arity 3 h))
+        ∙ sym (cond-false (ltb arity 2) _ _ (le-ltb arity 2 (omega arith)))
 
 -- ---- the place of a parameter
 

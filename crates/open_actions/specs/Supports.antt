@@ -1,8 +1,9 @@
 -- What the rows of a state say of the facts that an atom of a schema can become.
 use Prim.Native.Nat.{ℕ, _+_, _*_, _≤_, _<_}
 use mathlib.Core.Path.{_≡_}
-use mathlib.Core.Bool.{Bool, true, false}
+use mathlib.Core.Bool.{Bool, true, false, cond}
 use mathlib.Core.List.{List}
+use lib.Dec.{ltb}
 use lib.ListN.{length, getD}
 use Rattle.laws.specs.Lists.{upTo}
 use Rattle.laws.specs.Lists.{count as counted}
@@ -13,7 +14,7 @@ use Rattle.card.specs.Represents.{atomOf, blankAtom}
 use Rattle.model.specs.Card.{Atom as Model}
 use Rattle.card.specs.declared.Atom.{Atom}
 use Rattle.card.specs.declared.AtomList.{AtomList}
-use Rattle.masks.specs.Sets.{isMember}
+use Rattle.masks.specs.Sets.{isMember, unionOf, singleOf}
 use Rattle.state.specs.Rows.{rowNumber, rowAt, RowsAscend}
 use Rattle.open_actions.specs.Masked.{Agree, Inside}
 use Rattle.open_actions.specs.declared.support.Support.{Support}
@@ -34,6 +35,13 @@ pub record ParametersWithin (arity : ℕ) (a : Atom) (x : List ℕ) : Type 0 whe
   pub second : 2 ≤ arity → a .second < length x
   pub third : 3 ≤ arity → a .third < length x
   pub few : length x ≤ 64
+
+-- the parameters of an atom, as a mask
+unfoldable pub parametersOf : ℕ → Atom → ℕ
+parametersOf arity a =
+    let one = singleOf (a .first) in
+    let two = unionOf one (singleOf (a .second)) in
+    cond (ltb arity 2) one (cond (ltb arity 3) two (unionOf two (singleOf (a .third))))
 
 -- The place of a parameter in an atom, 1 to 3: a row that shows the atom has the parameter's object there. 0 says nothing.
 pub record PlaceOf (arity : ℕ) (a : Atom) (parameter r : ℕ) : Type 0 where

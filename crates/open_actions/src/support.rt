@@ -8,9 +8,10 @@ use masks::common;
 use masks::single;
 use masks::union;
 use state::rows_below;
+ghost use mathlib.Core.Path.{_≡_};
 ghost use Prim.Native.Nat.{_≤_};
 ghost use Rattle.state.specs.Rows.{RowsAscend};
-ghost use Rattle.open_actions.specs.Supports.{ParametersWithin, PlaceOf, Supported, AtomReady, AtomSupported};
+ghost use Rattle.open_actions.specs.Supports.{ParametersWithin, parametersOf, PlaceOf, Supported, AtomReady, AtomSupported};
 ghost use Rattle.open_actions.specs.Supports.{ListReady, LeavesCandidates, LeavesSupports};
 
 // The objects with which an atom can be in the state, and the bound parameters that this depends on.
@@ -55,18 +56,20 @@ fn place_of(a: Atom, arity: u8, parameter: usize) -> usize
     0
 }
 
-// The parameters of an atom. Only how much a search tests depends on them, and not what it answers.
+// The parameters of an atom.
 fn parameters_of(a: Atom, arity: u8, objects: &[u8]) -> u64
     requires { ⌜ ParametersWithin arity a (now objects) ⌝ }
+    ensures { λ r. ⌜ r ≡ parametersOf arity a ⌝ }
 {
-    let mut mask = single(a.first as usize);
-    if 2 <= arity {
-        mask = union(mask, single(a.second as usize));
+    let one = single(a.first as usize);
+    if arity < 2 {
+        return one;
     }
-    if 3 <= arity {
-        mask = union(mask, single(a.third as usize));
+    let two = union(one, single(a.second as usize));
+    if arity < 3 {
+        return two;
     }
-    mask
+    union(two, single(a.third as usize))
 }
 
 // The objects with which a parameter can be bound so that the atom becomes a fact of the state; all where the atom does not have it.
