@@ -30,8 +30,8 @@ ghost use Rattle.capi.specs.Numbers.{signed, checks, rewrites, Small, ve
 ghost use Rattle.capi.specs.Asking.{givenAs, countSaid, bytesSaid, objectCount, shownIn, SmallAction};
 ghost use lib.IntN.{pos};
 
-// The version of these calls, 0.1.1, as include/stakestalk.h has it: two decimal digits each for minor and patch.
-const VERSION: i32 = 101;
+// The version of these calls, 0.2.0, as include/stakestalk.h has it: two decimal digits each for minor and patch.
+const VERSION: i32 = 200;
 
 fn refusal_code(refusal: Refusal) -> i32
     ensures { λ r. ⌜ r ≡ signed (refused (refusalNumber refusal)) ⌝ }

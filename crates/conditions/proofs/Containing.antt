@@ -1,121 +1,85 @@
 -- Conditions that contain others, by their masks.
-use Prim.Native.Nat.{ℕ, _+_, _≤_, _<_}
-use native.Mathlib.Nat.{le-antisymm}
-use native.Mathlib.Omega.{arith}
+use Prim.Native.Nat.{ℕ, _≤_, _<_}
 use mathlib.Core.Path.{_≡_, refl, sym, ap, ap₂, _∙_, subst}
-use mathlib.Core.Bool.{Bool, true, false, not, _&&_}
+use mathlib.Core.Bool.{Bool, true, false, not, _&&_, _||_}
 use mathlib.Core.List.{List, [], map}
 use lib.Dec.{eqb}
 use lib.ListN.{length, getD, length-map}
+use borrow.Author.Tests.{eqb-true, eq-eqb}
 use Rattle.laws.proofs.Padded.{padded-at}
-use Rattle.laws.specs.Bags.{Bag, contains, strictlyContains}
-use Rattle.laws.specs.Lists.{any, keep, upTo, same, padded}
-use Rattle.laws.proofs.Bags.{contains-refl, contains-antisym, strictly-at}
-use Rattle.laws.proofs.Lists.{same-eq, same-refl, upTo-at, length-upTo, getD-upTo}
-use Rattle.laws.proofs.Mapped.{getD-map, keep-ext, any-ext, any-map}
-use Rattle.laws.proofs.Tests.{by-test, and-false-right}
+use Rattle.laws.specs.Bags as laws
+use Rattle.laws.specs.Bags.{Bag, contains, compare, isEqual, isAround, strictlyContains, covers}
+use Rattle.laws.specs.Lists.{any, keep, upTo, padded}
+use Rattle.laws.proofs.Comparisons.{turned, compare-turned, strictly-by-contains, covers-contains}
+use Rattle.laws.proofs.Lists.{any-false, any-none, upTo-at, length-upTo, getD-upTo}
+use Rattle.laws.proofs.Mapped.{getD-map, map-ext, keep-ext, any-ext, any-map}
+use Rattle.laws.proofs.Tests.{same-test, not-true, to-not-true}
 use Rattle.laws.proofs.Walks.{listed}
-use Rattle.masks.specs.Sets.{maskOf, isMember, commonOf, unionOf, singleOf}
-use Rattle.masks.proofs.Joining.{kept-start, kept-joined, kept-skipped, kept-empty}
+use Rattle.masks.specs.Sets.{maskOf, isMember, commonOf}
+use Rattle.masks.proofs.Joining.{kept-empty}
 use Rattle.masks.proofs.Kept.{common-kept}
 use Rattle.masks.proofs.Operations.{kept-member}
 use Rattle.model.specs.Lines.{minimal, excluded}
 use Rattle.properties.specs.Tables.{bagAt, bagsIn}
 use Rattle.properties.proofs.RowTables.{length-bagsIn, getD-bagsIn}
-use Rattle.conditions.specs.Comparing.{comparedWith}
-use Rattle.conditions.specs.Minimal.{containingAt, strictlyBy}
+use Rattle.conditions.specs.Comparing.{inCode}
+use Rattle.conditions.specs.Minimal.{containingAt, enteredAt, enteredIf, Masks, masksBy, PairEntered, rowMask, AllEntered}
 use Rattle.conditions.specs.declared.bags.Comparison.{Comparison}
-use Rattle.conditions.specs.declared.bags.Comparison.the-variants.{Same, Above, Other}
+use Rattle.conditions.specs.declared.bags.Comparison.the-variants.{Equal, Within, Around, Apart}
 use Rattle.conditions.proofs.Filling.{Picked, picked-all}
-use Rattle.conditions.proofs.Compared.{compared-same, compared-above, compared-other}
+use Rattle.conditions.proofs.Compared.{told-equal, told-within, told-around, told-apart}
+use Rattle.conditions.proofs.Entering.{entered-all}
 
--- ---- what a comparison says of containing
+-- ---- what a comparison says of containing, in both directions
 
-module _ (b other : Bag) {answer : Comparison} (e : answer ≡ comparedWith b other) where
-  pub contains-same : answer ≡ Same → true ≡ contains b other
-  contains-same f = sym (contains-refl b) ∙ ap (contains b) (same-eq b other (compared-same b other e f .0))
+by-answer : (a b : Bag) {c : laws.Comparison} → compare a b ≡ c → contains a b ≡ (isEqual c || isAround c)
+unfolding covers
+by-answer a b e = sym (covers-contains a b) ∙ ap (λ (c : laws.Comparison). isEqual c || isAround c) e
 
-  pub contains-above : answer ≡ Above → true ≡ contains b other
-  contains-above f = sym (strictly-at b other (compared-above b other e f .1) .0)
+module _ (b other : Bag) where
+  both-ways : {c : laws.Comparison} → compare b other ≡ c
+      → (contains b other ≡ (isEqual c || isAround c)) × (contains other b ≡ (isEqual (turned c) || isAround (turned c)))
+  both-ways e = (by-answer b other e, by-answer other b (compare-turned b other ∙ ap turned e))
 
-  pub contains-other : answer ≡ Other → false ≡ contains b other
-  unfolding strictlyContains
-  contains-other f =
-      let h = compared-other b other e f in sym (sym (neutral (contains b other)) ∙ ap (λ (t : Bool). contains b other && not t) (sym (h .0)) ∙ h .1)
-    where
-      neutral : (a : Bool) → (a && true) ≡ a
-      neutral true = refl
-      neutral false = refl
+  -- so a pair is entered by what the answer says
+  module _ {answer : Comparison} (e : answer ≡ inCode (compare b other)) {i k : ℕ} {before after : Masks} where
+    pair-by : {p q : Bool} → (contains b other ≡ p) × (contains other b ≡ q)
+        → after .containing ≡ enteredIf p k i (enteredIf q i k (before .containing))
+        → after .contained ≡ enteredIf p i k (enteredIf q k i (before .contained)) → PairEntered b other i k before after
+    pair-by h up down =
+        record {
+          containing = up ∙ sym (ap₂ (λ (p q : Bool). enteredIf p k i (enteredIf q i k (before .containing))) (h .0) (h .1));
+          contained = down ∙ sym (ap₂ (λ (p q : Bool). enteredIf p i k (enteredIf q k i (before .contained))) (h .0) (h .1));
+        }
 
--- strictly containing is containing without being contained
-strictly-by-contains : (a b : Bag) → (contains a b && not (contains b a)) ≡ strictlyContains a b
-unfolding strictlyContains
-strictly-by-contains a b =
-    by-test (contains a b)
-    (λ e. ap (λ (t : Bool). contains a b && not t) (sym (same-is e)))
-    (λ e. ap (λ (t : Bool). t && not (contains b a)) e ∙ ap (λ (t : Bool). t && not (same a b)) (sym e))
-  where
-    same-is : contains a b ≡ true → same a b ≡ contains b a
-    same-is e =
-        by-test (contains b a)
-        (λ f. subst (λ (c : Bag). same a c ≡ true) (contains-antisym a b e f) (same-refl a) ∙ sym f)
-        (λ f. by-test (same a b)
-        (λ s. s ∙ sym (subst (λ (c : Bag). contains c a ≡ true) (same-eq a b s) (contains-refl a)))
-        (λ s. s ∙ sym f))
+    pub pair-equal : answer ≡ Equal → after .containing ≡ enteredAt k i (enteredAt i k (before .containing))
+        → after .contained ≡ enteredAt i k (enteredAt k i (before .contained)) → PairEntered b other i k before after
+    unfolding isEqual isAround turned enteredIf
+    pair-equal f = pair-by (both-ways (told-equal b other e f))
 
--- the two tests of a pair by its masks: the first fails, the second passes, or both decide
-module _ (masks : List ℕ) (i j : ℕ) where
-  pub not-contained : {r : Bool} → r ≡ isMember (getD masks j 0) i → r ≡ false → strictlyBy masks i j ≡ false
-  unfolding strictlyBy
-  not-contained e f = ap (λ (t : Bool). t && not (isMember (getD masks i 0) j)) (sym e ∙ f)
+    pub pair-within : answer ≡ Within → after .containing ≡ enteredAt i k (before .containing) → after .contained ≡ enteredAt k i (before .contained)
+        → PairEntered b other i k before after
+    unfolding isEqual isAround turned enteredIf
+    pair-within f = pair-by (both-ways (told-within b other e f))
 
-  pub each-contained : {s : Bool} → s ≡ isMember (getD masks i 0) j → s ≡ true → strictlyBy masks i j ≡ false
-  unfolding strictlyBy
-  each-contained e f = ap (λ (t : Bool). isMember (getD masks j 0) i && not t) (sym e ∙ f) ∙ and-false-right (isMember (getD masks j 0) i) false refl
+    pub pair-around : answer ≡ Around → after .containing ≡ enteredAt k i (before .containing) → after .contained ≡ enteredAt i k (before .contained)
+        → PairEntered b other i k before after
+    unfolding isEqual isAround turned enteredIf
+    pair-around f = pair-by (both-ways (told-around b other e f))
 
-  pub strictly-contained : {r s : Bool} → r ≡ isMember (getD masks j 0) i → r ≡ true → s ≡ isMember (getD masks i 0) j → s ≡ false
-      → strictlyBy masks i j ≡ true
-  unfolding strictlyBy
-  strictly-contained e f g h = ap₂ (λ (a b : Bool). a && not b) (sym e ∙ f) (sym g ∙ h)
+    pub pair-apart : answer ≡ Apart → after .containing ≡ before .containing → after .contained ≡ before .contained
+        → PairEntered b other i k before after
+    unfolding isEqual isAround turned enteredIf
+    pair-apart f = pair-by (both-ways (told-apart b other e f))
 
--- ---- the mask of the rows that contain row i, made row by row
-
-abbrev inRow : ℕ → List ℕ → ℕ → ℕ → Bool
-inRow size table i k = contains (bagAt size table k) (bagAt size table i)
-
--- The mask of those below row k.
-pub record MaskedTo (size count : ℕ) (table : List ℕ) (i mask k : ℕ) : Type 0 where
-  pub within : k ≤ count
-  is : mask ≡ maskOf (keep (inRow size table i) (upTo k))
-
-pub masked-start : {size count : ℕ} {table : List ℕ} {i : ℕ} → MaskedTo size count table i 0 0
-masked-start = record { within = omega arith; is = kept-start _ }
-
-module _ {size count : ℕ} {table : List ℕ} {i mask k : ℕ} (m : MaskedTo size count table i mask k) where
-  -- the next contains row i and joins them, or does not
-  pub masked-joined : {r : Bool} {one new : ℕ} → k < count → r ≡ inRow size table i k → r ≡ true → one ≡ singleOf k → new ≡ unionOf mask one
-      → MaskedTo size count table i new (k + 1)
-  masked-joined h e f single union =
-      record { within = omega arith; is = union ∙ ap₂ unionOf (m .is) single ∙ kept-joined (inRow size table i) k (sym e ∙ f) }
-
-  pub masked-skipped : {r : Bool} → k < count → r ≡ inRow size table i k → r ≡ false → MaskedTo size count table i mask (k + 1)
-  masked-skipped h e f = record { within = omega arith; is = m .is ∙ kept-skipped (inRow size table i) k (sym e ∙ f) }
-
-  -- at the end it is the mask of all that contain condition i
-  pub masked-all : i < count → count ≤ k → mask ≡ containingAt (bagsIn size count table) i
-  unfolding containingAt
-  masked-all h all =
-      let bags = bagsIn size count table in
-      m .is
-      ∙ ap (λ (n : ℕ). maskOf (keep (inRow size table i) (upTo n))) (le-antisymm (m .within) all)
-      ∙ ap maskOf (keep-ext (inRow size table i) (λ n. contains (getD bags n []) (getD bags i [])) (upTo count)
-      (λ n l. ap₂ contains (sym (getD-bagsIn size count table n (upTo-at count n l))) (sym (getD-bagsIn size count table i h))))
-      ∙ ap (λ (n : ℕ). maskOf (keep (λ j. contains (getD bags j []) (getD bags i [])) (upTo n))) (sym (length-bagsIn size count table))
+-- a test of all conditions is one of all indices
+by-index : (bags : List Bag) (test : Bag → Bool) → any (λ j. test (getD bags j [])) (upTo (length bags)) ≡ any test bags
+by-index bags test = sym (any-map test (λ j. getD bags j []) (upTo (length bags))) ∙ ap (any test) (listed bags [])
 
 -- ---- the masks of all conditions of a list
 
 module _ (bags : List Bag) (few : length bags ≤ 64) {masks : List ℕ} (are : masks ≡ padded 64 0 (map (containingAt bags) (upTo (length bags)))) where
-  mask-at : (i : ℕ) → i < length bags → getD masks i 0 ≡ containingAt bags i
+  pub mask-at : (i : ℕ) → i < length bags → getD masks i 0 ≡ containingAt bags i
   mask-at i h =
       ap (λ (l : List ℕ). getD l i 0) are
       ∙ padded-at 64 0 (map (containingAt bags) (upTo (length bags))) i 0 (subst (λ (n : ℕ). i < n) (sym long) h)
@@ -131,26 +95,6 @@ module _ (bags : List Bag) (few : length bags ≤ 64) {masks : List ℕ} (are : 
   contains-by i k h l =
       ap (λ (m : ℕ). isMember m k) (mask-at i h) ∙ kept-member (λ n. contains (getD bags n []) (getD bags i [])) (length bags) k l
 
-  -- a test of all conditions is one of all indices
-  by-index : (test : Bag → Bool) → any (λ j. test (getD bags j [])) (upTo (length bags)) ≡ any test bags
-  by-index test = sym (any-map test (λ j. getD bags j []) (upTo (length bags))) ∙ ap (any test) (listed bags [])
-
-  -- so the masks tell which are minimal
-  minimal-by : (i : ℕ) → i < length bags
-      → any (strictlyBy masks i) (upTo (length bags)) ≡ any (strictlyContains (getD bags i [])) bags
-  unfolding strictlyBy
-  minimal-by i h =
-      any-ext (strictlyBy masks i) (λ j. strictlyContains (getD bags i []) (getD bags j [])) (upTo (length bags))
-      (λ j m.
-      let l = upTo-at (length bags) j m in
-      ap₂ (λ (a b : Bool). a && not b) (contains-by j i l h) (contains-by i j h l)
-      ∙ strictly-by-contains (getD bags i []) (getD bags j []))
-      ∙ by-index (strictlyContains (getD bags i []))
-
-  minimal-all : minimal bags ≡ keep (λ i. not (any (strictlyBy masks i) (upTo (length bags)))) (upTo (length bags))
-  unfolding minimal
-  minimal-all = keep-ext _ _ (upTo (length bags)) (λ i m. ap not (sym (minimal-by i (upTo-at (length bags) i m))))
-
   -- and of which two there is no condition that contains both
   pub excluded-by : (i j : ℕ) → i < length bags → j < length bags
       → eqb (commonOf (getD masks i 0) (getD masks j 0)) 0 ≡ excluded bags i j
@@ -159,22 +103,85 @@ module _ (bags : List Bag) (few : length bags ≤ 64) {masks : List ℕ} (are : 
       ap₂ (λ (a b : ℕ). eqb (commonOf a b) 0) (mask-at i h) (mask-at j k)
       ∙ ap (λ (m : ℕ). eqb m 0) (common-kept (λ n. contains (getD bags n []) (getD bags i [])) (λ n. contains (getD bags n []) (getD bags j [])) (length bags))
       ∙ kept-empty (λ n. contains (getD bags n []) (getD bags i []) && contains (getD bags n []) (getD bags j [])) (upTo (length bags))
-      ∙ ap not (by-index (λ b. contains b (getD bags i []) && contains b (getD bags j [])))
+      ∙ ap not (by-index bags (λ b. contains b (getD bags i []) && contains b (getD bags j [])))
+      ∙ ap not (any-ext _ _ bags (λ b m. ap₂ (λ (p q : Bool). p && q) (sym (covers-contains b (getD bags i []))) (sym (covers-contains b (getD bags j [])))))
 
 -- ---- the minimal conditions of a table, picked by these masks
 
--- condition i strictly contains none
-abbrev pub leastBy : List ℕ → ℕ → ℕ → Bool
-leastBy masks count i = not (any (strictlyBy masks i) (upTo count))
+-- a set is part of another if their common members are all of it
+part-of : (f g : ℕ → Bool) (n : ℕ)
+    → eqb (commonOf (maskOf (keep f (upTo n))) (maskOf (keep g (upTo n)))) (maskOf (keep f (upTo n))) ≡ not (any (λ k. f k && not (g k)) (upTo n))
+part-of f g n =
+    let own = maskOf (keep f (upTo n)) in
+    let both = commonOf own (maskOf (keep g (upTo n))) in
+    same-test (eqb both own) (not (any (λ k. f k && not (g k)) (upTo n)))
+    (λ e.
+    to-not-true (any (λ k. f k && not (g k)) (upTo n))
+    (any-false (λ k. f k && not (g k)) (upTo n)
+    (λ k m.
+    let h = upTo-at n k m in
+    inside (f k) (g k)
+    (sym (kept-member (λ j. f j && g j) n k h) ∙ ap (λ (x : ℕ). isMember x k) (sym (common-kept f g n) ∙ eqb-true both own e) ∙ kept-member f n k h))))
+    (λ e.
+    eq-eqb both own
+    (common-kept f g n
+    ∙ ap maskOf (keep-ext (λ k. f k && g k) f (upTo n)
+    (λ k m. whole (f k) (g k) (any-none (λ k. f k && not (g k)) (upTo n) (not-true (any (λ k. f k && not (g k)) (upTo n)) e) k m)))))
+  where
+    inside : (p q : Bool) → (p && q) ≡ p → (p && not q) ≡ false
+    inside true q e = ap not e
+    inside false q e = refl
 
-pub minimal-found : (size count : ℕ) (table : List ℕ) {masks indices : List ℕ} {n i : ℕ} → count ≤ 64
-    → masks ≡ padded 64 0 (map (containingAt (bagsIn size count table)) (upTo count)) → Picked (leastBy masks count) 64 count indices n i → count ≤ i
-    → (n ≡ length (minimal (bagsIn size count table))) × (indices ≡ padded 64 0 (minimal (bagsIn size count table)))
-    × (masks ≡ padded 64 0 (map (containingAt (bagsIn size count table)) (upTo (length (bagsIn size count table)))))
-minimal-found size count table {masks} few are p all =
-    let bags = bagsIn size count table in
-    let long = length-bagsIn size count table in
-    let known = are ∙ ap (λ (k : ℕ). padded 64 0 (map (containingAt bags) (upTo k))) (sym long) in
-    let same = minimal-all bags (omega (arith, long)) known ∙ ap (λ (k : ℕ). keep (leastBy masks k) (upTo k)) long in
-    let found = picked-all p all in
-    (found .0 ∙ ap length (sym same), found .1 ∙ ap (padded 64 0) (sym same), known)
+    whole : (p q : Bool) → (p && not q) ≡ false → (p && q) ≡ p
+    whole true true e = refl
+    whole true false e = sym e
+    whole false q e = refl
+
+-- whatever condition i contains contains it
+abbrev pub leastBy : List ℕ → List ℕ → ℕ → Bool
+leastBy containing contained i = eqb (commonOf (getD contained i 0) (getD containing i 0)) (getD contained i 0)
+
+module _ (size count : ℕ) (table : List ℕ) (few : count ≤ 64) {containing contained : List ℕ}
+    (all : AllEntered size table count (masksBy containing contained)) where
+  abbrev bags : List Bag
+  bags = bagsIn size count table
+
+  -- so the masks tell which are minimal
+  least-is : (i : ℕ) → i < count → leastBy containing contained i ≡ not (any (strictlyContains (getD bags i [])) bags)
+  unfolding rowMask
+  least-is i h =
+      let inside : ℕ → Bool = λ k. contains (bagAt size table i) (bagAt size table k) in
+      let around : ℕ → Bool = λ k. contains (bagAt size table k) (bagAt size table i) in
+      ap₂ (λ (down up : ℕ). eqb (commonOf down up) down) (all .contained .rows i h) (all .containing .rows i h)
+      ∙ part-of inside around count
+      ∙ ap not (any-ext (λ k. inside k && not (around k)) (λ k. strictlyContains (getD bags i []) (getD bags k [])) (upTo count)
+      (λ k m.
+      sym (strictly-by-contains (bagAt size table i) (bagAt size table k))
+      ∙ ap₂ strictlyContains (sym (getD-bagsIn size count table i h)) (sym (getD-bagsIn size count table k (upTo-at count k m))))
+      ∙ ap (λ (n : ℕ). any (λ k. strictlyContains (getD bags i []) (getD bags k [])) (upTo n)) (sym (length-bagsIn size count table))
+      ∙ by-index bags (strictlyContains (getD bags i [])))
+
+  minimal-are : minimal bags ≡ keep (leastBy containing contained) (upTo count)
+  unfolding minimal
+  minimal-are =
+      ap (λ (n : ℕ). keep (λ i. not (any (strictlyContains (getD bags i [])) bags)) (upTo n)) (length-bagsIn size count table)
+      ∙ keep-ext _ _ (upTo count) (λ i m. sym (least-is i (upTo-at count i m)))
+
+  -- and which contain each
+  containing-are : containing ≡ padded 64 0 (map (containingAt bags) (upTo (length bags)))
+  unfolding rowMask containingAt
+  containing-are =
+      entered-all few (all .containing)
+      ∙ ap (padded 64 0) (map-ext _ _ (upTo count)
+      (λ i m.
+      ap maskOf (keep-ext _ _ (upTo count)
+      (λ k l. ap₂ contains (sym (getD-bagsIn size count table k (upTo-at count k l))) (sym (getD-bagsIn size count table i (upTo-at count i m)))))
+      ∙ ap (λ (n : ℕ). maskOf (keep (λ k. contains (getD bags k []) (getD bags i [])) (upTo n))) (sym (length-bagsIn size count table))))
+      ∙ ap (λ (n : ℕ). padded 64 0 (map (containingAt bags) (upTo n))) (sym (length-bagsIn size count table))
+
+  pub minimal-found : {indices : List ℕ} {n i : ℕ} → Picked (leastBy containing contained) 64 count indices n i → count ≤ i
+      → (n ≡ length (minimal bags)) × (indices ≡ padded 64 0 (minimal bags))
+      × (containing ≡ padded 64 0 (map (containingAt bags) (upTo (length bags))))
+  minimal-found p whole =
+      let found = picked-all p whole in
+      (found .0 ∙ ap length (sym minimal-are), found .1 ∙ ap (padded 64 0) (sym minimal-are), containing-are)

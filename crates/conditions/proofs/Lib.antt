@@ -1,4 +1,4 @@
 pub mod Compared
 pub mod Filling
-pub mod Deciding
+pub mod Entering
 pub mod Containing

@@ -1,17 +1,15 @@
 // Which conditions contain which, as masks, and the conditions that strictly contain no other.
 use crate::bags::Comparison;
 use crate::bags::compare;
-use masks::is_member;
+use masks::common;
 use masks::single;
 use masks::union;
 ghost use mathlib.Core.Path.{_≡_};
-ghost use mathlib.Core.Bool.{not};
-ghost use mathlib.Core.List.{map};
-ghost use Prim.Native.Nat.{_≤_, _<_};
-ghost use Rattle.laws.specs.Bags as laws;
-ghost use Rattle.laws.specs.Lists.{any, upTo, padded};
+ghost use Prim.Native.Nat.{_+_, _≤_, _<_};
+ghost use lib.Dec.{eqb};
+ghost use Rattle.masks.specs.Sets.{commonOf};
 ghost use Rattle.properties.specs.Tables.{bagAt, bagsIn, HasRow, HasRows};
-ghost use Rattle.conditions.specs.Minimal.{containingAt, strictlyBy, MinimalOf};
+ghost use Rattle.conditions.specs.Minimal.{enteredAt, masksBy, PairEntered, AllEntered, MinimalOf};
 
 // The minimal conditions by their indices, ascending, with their number; and for each condition the mask of those that contain it.
 pub struct Minimal {
@@ -20,72 +18,102 @@ pub struct Minimal {
     pub containing: [u64; 64],
 }
 
-// The condition of row k contains that of row i.
-fn contains(table: &[u16], size: usize, k: usize, i: usize) -> bool
-    requires { ⌜ HasRow size k (now table) × HasRow size i (now table) ⌝ }
-    ensures { λ r. ⌜ r ≡ laws.contains (bagAt size (now (table .entry)) k) (bagAt size (now (table .entry)) i) ⌝ }
+// Condition k contains condition i: k is entered into the mask of those that contain i, and i into that of those that k contains.
+fn enter(containing: &mut [u64; 64], contained: &mut [u64; 64], k: usize, i: usize)
+    requires { ⌜ (k < 64) × (i < 64) ⌝ }
+    ensures { λ _. ⌜
+        (now (containing .exit) ≡ enteredAt i k (now (containing .entry))) × (now (contained .exit) ≡ enteredAt k i (now (contained .entry)))
+        ⌝ }
 {
-    match compare(table, size, k, i) {
-        Comparison::Same => true,
-        Comparison::Above => true,
-        Comparison::Other => false,
-    }
+    containing[i] = union(containing[i], single(k));
+    contained[k] = union(contained[k], single(i));
 }
 
-// The mask of the conditions that contain that of row i.
-fn containing_of(table: &[u16], count: usize, size: usize, i: usize) -> u64
-    requires { ⌜ HasRows size count (now table) × (count ≤ 64) × (i < count) ⌝ }
-    ensures { λ r. ⌜ r ≡ containingAt (bagsIn size count (now (table .entry))) i ⌝ }
+// Conditions i and k compared once, for both directions.
+fn compare_pair(
+    table: &[u16],
+    size: usize,
+    i: usize,
+    k: usize,
+    containing: &mut [u64; 64],
+    contained: &mut [u64; 64],
+)
+    requires { ⌜ HasRow size i (now table) × HasRow size k (now table) × (i < 64) × (k < 64) ⌝ }
+    ensures { λ _. ⌜
+        PairEntered
+        (bagAt size (now (table .entry)) i)
+        (bagAt size (now (table .entry)) k)
+        i
+        k
+        (masksBy (now (containing .entry)) (now (contained .entry)))
+        (masksBy (now (containing .exit)) (now (contained .exit)))
+        ⌝ }
 {
-    let mut mask = 0;
-    for k in 0..count {
-        if !contains(table, size, k, i) {
-            continue;
+    match compare(table, size, i, k) {
+        Comparison::Equal => {
+            enter(containing, contained, k, i);
+            enter(containing, contained, i, k);
         }
-        mask = union(mask, single(k));
+        Comparison::Within => enter(containing, contained, k, i),
+        Comparison::Around => enter(containing, contained, i, k),
+        Comparison::Apart => {}
     }
-    mask
 }
 
-// These masks of all conditions.
-fn containing_masks(table: &[u16], count: usize, size: usize) -> [u64; 64]
+// Condition i compared with each before it. It contains itself.
+fn compare_earlier(
+    table: &[u16],
+    size: usize,
+    i: usize,
+    containing: &mut [u64; 64],
+    contained: &mut [u64; 64],
+)
+    requires { ⌜ HasRows size (i + 1) (now table) × (i < 64) ⌝ }
+    requires { ⌜ AllEntered size (now table) i (masksBy (now containing) (now contained)) ⌝ }
+    ensures { λ _. ⌜ AllEntered size (now (table .entry)) (i + 1) (masksBy (now (containing .exit)) (now (contained .exit))) ⌝ }
+{
+    for k in 0..i {
+        compare_pair(table, size, i, k, containing, contained);
+    }
+    enter(containing, contained, i, i);
+}
+
+// Each two of the conditions compared: which contain which, from empty masks.
+fn compare_all(
+    table: &[u16],
+    count: usize,
+    size: usize,
+    containing: &mut [u64; 64],
+    contained: &mut [u64; 64],
+)
     requires { ⌜ HasRows size count (now table) × (count ≤ 64) ⌝ }
-    ensures { λ r. ⌜ r ≡ padded 64 0 (map (containingAt (bagsIn size count (now (table .entry)))) (upTo count)) ⌝ }
+    requires { ⌜ AllEntered size (now table) 0 (masksBy (now containing) (now contained)) ⌝ }
+    ensures { λ _. ⌜ AllEntered size (now (table .entry)) count (masksBy (now (containing .exit)) (now (contained .exit))) ⌝ }
 {
-    let mut containing = [0u64; 64];
     for i in 0..count {
-        containing[i] = containing_of(table, count, size, i);
+        compare_earlier(table, size, i, containing, contained);
     }
-    containing
 }
 
-// Condition i strictly contains none: whatever it contains contains it.
-fn is_minimal(containing: &[u64; 64], count: usize, i: usize) -> bool
-    requires { ⌜ (count ≤ 64) × (i < count) ⌝ }
-    ensures { λ r. ⌜ r ≡ not (any (strictlyBy (now (containing .entry)) i) (upTo count)) ⌝ }
+// A condition strictly contains none: whatever it contains contains it.
+fn is_minimal(containing: u64, contained: u64) -> bool
+    ensures { λ r. ⌜ r ≡ eqb (commonOf contained containing) contained ⌝ }
 {
-    let own = containing[i];
-    for j in 0..count {
-        if !is_member(containing[j], i) {
-            continue;
-        }
-        if !is_member(own, j) {
-            return false;
-        }
-    }
-    true
+    common(contained, containing) == contained
 }
 
-// The indices of the conditions that strictly contain no other, and the masks by which this is told.
+// The indices of the conditions that strictly contain no other, and for each condition the mask of those that contain it.
 pub fn minimal_of(table: &[u16], count: usize, size: usize) -> Minimal
     requires { ⌜ HasRows size count (now table) × (count ≤ 64) ⌝ }
     ensures { λ r. ⌜ MinimalOf (bagsIn size count (now (table .entry))) r ⌝ }
 {
-    let containing = containing_masks(table, count, size);
+    let mut containing = [0u64; 64];
+    let mut contained = [0u64; 64];
+    compare_all(table, count, size, &mut containing, &mut contained);
     let mut indices = [0u8; 64];
     let mut n = 0;
     for i in 0..count {
-        if !is_minimal(&containing, count, i) {
+        if !is_minimal(containing[i], contained[i]) {
             continue;
         }
         indices[n] = i as u8;

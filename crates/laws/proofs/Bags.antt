@@ -1,7 +1,6 @@
--- Bags, for any number of properties: their operations property by property, containment as an order, the least bags of a list;
--- and what lists of them, without repeats or made by folds, have.
+-- Bags, for any number of properties: their operations property by property, containment as an order; and what lists of them have.
 use Prim.Native.Nat.{ℕ, zero, suc, _+_, _-_, _≤_, _<_, min, zero-le, suc-le-suc}
-use native.Mathlib.Nat.{not-suc-le-zero, suc-inj, suc-ne-zero, le-refl}
+use native.Mathlib.Nat.{suc-inj, suc-ne-zero, le-refl}
 use native.Mathlib.Omega.{arith}
 use mathlib.Core.Path.{_≡_, refl, sym, ap, _∙_, subst}
 use mathlib.Core.Bool.{Bool, true, false, cond, not}
@@ -12,8 +11,8 @@ use lib.ListN.{length, getD, length-map, List·getD-eq-default}
 use lib.Seq.{ext-getD}
 use borrow.Author.Tests.{eqb-true, eqb-false, eq-eqb, ne-eqb, leb-true, le-leb, ltb-true, ltb-false, lt-ltb}
 use Rattle.laws.specs.Lists.{any, all, upTo, sum, same}
-use Rattle.laws.specs.Bags.{Bag, plus, less, meet, contains, strictlyContains, isEmpty, single, support, restrict, listed}
-use Rattle.laws.proofs.Tests.{never, and-left, and-right, and-intro, not-true, to-not-true, by-test, same-test, cond-true, cond-false}
+use Rattle.laws.specs.Bags.{Bag, plus, less, meet, contains, isEmpty, single, support, restrict, listed}
+use Rattle.laws.proofs.Tests.{never, and-left, and-right, and-intro, by-test, same-test, cond-true, cond-false}
 use Rattle.laws.proofs.Mapped.{getD-map}
 use Rattle.laws.proofs.Lists.{all-at, all-intro, any-at, any-intro, keep-at, keep-intro, mem-getD, place-of, length-upTo, upTo-at, upTo-intro}
 use Rattle.laws.proofs.Lists.{getD-upTo, same-eq, same-refl}
@@ -160,26 +159,7 @@ less-less n b e o p q r k =
       getD-less b e (p ∙ sym q) i,
     ))
 
--- strict containment: contained, and another bag
-pub strictly-at : (a b : Bag) → strictlyContains a b ≡ true → (contains a b ≡ true) × (a ≡ b → ⊥)
-unfolding strictlyContains
-strictly-at a b e = (
-  and-left (contains a b) (not (same a b)) e,
-  λ p.
-      never (sym (subst (λ (c : Bag). same a c ≡ true) p (same-refl a)) ∙ not-true (same a b) (and-right (contains a b) (not (same a b)) e)),
-)
-
-pub strictly-intro : (a b : Bag) → contains a b ≡ true → (a ≡ b → ⊥) → strictlyContains a b ≡ true
-unfolding strictlyContains
-strictly-intro a b p d =
-    and-intro (contains a b) (not (same a b)) p
-    (to-not-true (same a b) (by-test (same a b) (λ e. absurd (d (same-eq a b e))) (λ e. e)))
-
--- no bag strictly contains itself, and what a bag strictly contains contains strictly less
-pub strictly-irrefl : (a : Bag) → strictlyContains a a ≡ false
-strictly-irrefl a = by-test (strictlyContains a a) (λ e. absurd (strictly-at a a e .1 refl)) (λ e. e)
-
--- a bag has at least as many occurrences in all as one that it contains, and more than one that it strictly contains
+-- a bag has at least as many occurrences in all as one that it contains, and more where the two differ
 pub contains-sum : (b a : Bag) → contains b a ≡ true → sum a ≤ sum b
 unfolding contains sum
 contains-sum [] [] e = le-refl 0
@@ -204,29 +184,9 @@ contains-same-sum (x ∷ b) (y ∷ a) e h =
     rest : y ≤ x → sum a ≤ sum b → sum b ≤ sum a
     rest p q = omega arith
 
-pub strictly-sum : (b a : Bag) → strictlyContains b a ≡ true → sum a < sum b
-strictly-sum b a e =
-    let s = strictly-at b a e in
-    by-test (ltb (sum a) (sum b)) (ltb-true (sum a) (sum b))
-    (λ f. absurd (s .1 (contains-same-sum b a (s .0) (ltb-false (sum a) (sum b) f))))
-
--- below each bag of a list there is one of the list that strictly contains none of the list
-pub least-below : (bags : List Bag) (b : Bag) → List·Memᴰ b bags
-    → (m : Bag) × List·Memᴰ m bags × (contains b m ≡ true) × (any (strictlyContains m) bags ≡ false)
-least-below bags b k = descend (suc (sum b)) b k (le-refl (suc (sum b)))
-  where
-    descend : (fuel : ℕ) (b : Bag) → List·Memᴰ b bags → sum b < fuel
-        → (m : Bag) × List·Memᴰ m bags × (contains b m ≡ true) × (any (strictlyContains m) bags ≡ false)
-    descend zero b k h = absurd (not-suc-le-zero h)
-    descend (suc fuel) b k h =
-        by-test (any (strictlyContains b) bags)
-        (λ e.
-        let r = any-at (strictlyContains b) bags e in
-        let c = r .0 in
-        let s = strictly-sum b c (r .2) in
-        let m = descend fuel c (r .1) (omega arith) in
-        (m .0, m .1, contains-trans b c (m .0) (strictly-at b c (r .2) .0) (m .2), m .3))
-        (λ e. (b, k, contains-refl b, e))
+pub contains-sum-less : (b a : Bag) → contains b a ≡ true → (b ≡ a → ⊥) → sum a < sum b
+contains-sum-less b a p d =
+    by-test (ltb (sum a) (sum b)) (ltb-true (sum a) (sum b)) (λ f. absurd (d (contains-same-sum b a p (ltb-false (sum a) (sum b) f))))
 
 -- ---- a bag on a list
 
@@ -302,10 +262,9 @@ pub less-single-sum : (n : ℕ) (b : Bag) (c : ℕ) → length b ≡ n → c < n
 less-single-sum n b c p h k =
     let one = single n c in
     let l = length-single n c in
-    strictly-sum b (less b one)
-    (strictly-intro b (less b one)
+    contains-sum-less b (less b one)
     (contains-intro b (less b one) (p ∙ sym (length-less n b one p l)) (λ i j. omega (arith, getD-less b one (p ∙ sym l) i)))
-    (λ e. omega (arith, k, ap (λ (x : Bag). getD x c 0) e, getD-less b one (p ∙ sym l) c, single-here n c h)))
+    (λ e. omega (arith, k, ap (λ (x : Bag). getD x c 0) e, getD-less b one (p ∙ sym l) c, single-here n c h))
 
 -- a bag contains one occurrence of each of its properties
 pub contains-single : (n : ℕ) (b : Bag) (c : ℕ) → length b ≡ n → 0 < getD b c 0 → contains b (single n c) ≡ true

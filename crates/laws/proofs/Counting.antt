@@ -3,7 +3,7 @@ use Prim.Native.Nat.{ℕ, suc, _+_, _-_, min, _≤_, zero-le, suc-le-suc}
 use native.Mathlib.Nat.{le-antisymm, le-of-suc-le-suc}
 use native.Mathlib.Omega.{arith}
 use mathlib.Core.Path.{_≡_, refl, sym, ap, _∙_, subst}
-use mathlib.Core.Bool.{Bool, true, false, cond, not}
+use mathlib.Core.Bool.{Bool, true, false, cond, not, _&&_}
 use mathlib.Core.Logic.{_⊎_, inl, inr, ⊎-elim}
 use mathlib.Core.List.{List, [], _∷_, _++_, map, List·Memᴰ, List·Memᴰ·head, List·Memᴰ·tail, List·Memᴰ·cases-cons, List·Memᴰ·not-nil}
 use mathlib.Core.List.{List·Memᴰ·append-cases, List·Memᴰ·eq-of-singleton, Memᴰ·append-left, Memᴰ·append-right, Memᴰ·of-map}
@@ -165,6 +165,18 @@ module _ {A : Type 0} where
           + count f (cond (not b) (x ∷ keep (λ x. not (g x)) xs) (keep (λ x. not (g x)) xs))
       go true e = omega (arith, count-front f x (keep g xs))
       go false e = omega (arith, count-front f x (keep (λ x. not (g x)) xs))
+
+  -- a count of what was kept
+  pub count-keep : (test kept : A → Bool) (xs : List A) → count test (keep kept xs) ≡ count (λ x. kept x && test x) xs
+  unfolding count keep
+  count-keep test kept [] = refl
+  count-keep test kept (x ∷ xs) = go (kept x) (count-keep test kept xs)
+    where
+      go : (b : Bool) → count test (keep kept xs) ≡ count (λ y. kept y && test y) xs
+          → count test (cond b (x ∷ keep kept xs) (keep kept xs))
+          ≡ cond (b && test x) (suc (count (λ y. kept y && test y) xs)) (count (λ y. kept y && test y) xs)
+      go true e = ap (λ (n : ℕ). cond (test x) (suc n) n) e
+      go false e = e
 
   -- those that pass a test and those that fail it make up the length
   pub count-both : (test : A → Bool) (xs : List A) → count test xs + count (λ x. not (test x)) xs ≡ length xs

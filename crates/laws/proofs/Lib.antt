@@ -2,6 +2,7 @@ pub mod Tests
 pub mod Lists
 pub mod Sums
 pub mod Bags
+pub mod Comparisons
 pub mod Counting
 pub mod Numbers
 pub mod Closure
@@ -17,3 +18,4 @@ pub mod Padded
 pub mod Restricted
 pub mod Places
 pub mod Increasing
+pub mod Pairs

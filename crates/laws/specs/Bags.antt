@@ -1,6 +1,6 @@
 -- Bags. A bag over a list of properties is the list of their counts, in the same order; operations go property by property.
 use Prim.Native.Nat.{ℕ, _+_, _-_, min}
-use mathlib.Core.Bool.{Bool, true, false, cond, not, _&&_}
+use mathlib.Core.Bool.{Bool, true, false, cond, _&&_, _||_}
 use mathlib.Core.List.{List, [], _∷_, map}
 use lib.Dec.{leb, eqb, ltb}
 use lib.ListN.{length, getD}
@@ -34,9 +34,53 @@ contains [] (y ∷ ys) = false
 contains (x ∷ xs) [] = false
 contains (x ∷ xs) (y ∷ ys) = leb y x && contains xs ys
 
--- the first bag contains the second, and the two differ
+-- How one bag stands to another.
+pub data Comparison : Type 0 where
+  equal : Comparison  -- each contains the other
+  within : Comparison  -- the second contains the first, and not the first the second
+  around : Comparison  -- the first contains the second, and not the second the first
+  apart : Comparison  -- neither contains the other
+
+-- by whether the first bag contains the second, and whether the second contains the first
+unfoldable pub comparison : Bool → Bool → Comparison
+comparison true true = equal
+comparison true false = around
+comparison false true = within
+comparison false false = apart
+
+-- the comparison of two bags, by which the mixed test, D, X and E go
+unfoldable pub compare : Bag → Bag → Comparison
+compare xs ys = comparison (contains xs ys) (contains ys xs)
+
+unfoldable pub isEqual : Comparison → Bool
+isEqual equal = true
+isEqual within = false
+isEqual around = false
+isEqual apart = false
+
+unfoldable pub isWithin : Comparison → Bool
+isWithin equal = false
+isWithin within = true
+isWithin around = false
+isWithin apart = false
+
+unfoldable pub isAround : Comparison → Bool
+isAround equal = false
+isAround within = false
+isAround around = true
+isAround apart = false
+
+-- the first bag strictly contains the second
 unfoldable pub strictlyContains : Bag → Bag → Bool
-strictlyContains xs ys = contains xs ys && not (same xs ys)
+strictlyContains xs ys = isAround (compare xs ys)
+
+-- the first bag is strictly within the second
+unfoldable pub strictlyWithin : Bag → Bag → Bool
+strictlyWithin xs ys = isWithin (compare xs ys)
+
+-- the first bag is around the second or equal to it
+unfoldable pub covers : Bag → Bag → Bool
+covers xs ys = isEqual (compare xs ys) || isAround (compare xs ys)
 
 -- every count is 0
 unfoldable pub isEmpty : Bag → Bool
@@ -60,5 +104,6 @@ listed bags xs = any (same xs) bags
 
 -- opens every definition of this module, for what is proved by computation
 unfoldable pub bags-open : Unit {0}
-unfolding plus less meet contains strictlyContains isEmpty single support restrict listed
+unfolding
+    plus less meet contains comparison compare isEqual isWithin isAround strictlyContains strictlyWithin covers isEmpty single support restrict listed
 bags-open = tt

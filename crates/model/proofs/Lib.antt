@@ -37,3 +37,5 @@ pub mod OpenActions
 pub mod OpenBySchema
 pub mod NextState
 pub mod OpenCalls
+pub mod Nestings
+pub mod FormerTests

@@ -6,7 +6,7 @@
 use Prim.Native.Nat.{ℕ, _≤_, _<_}
 use native.Mathlib.Nat.{le-trans}
 use native.Mathlib.Omega.{arith}
-use mathlib.Core.Path.{_≡_, refl, sym, ap, _∙_, subst}
+use mathlib.Core.Path.{_≡_, refl, sym, ap, ap₂, _∙_, subst}
 use mathlib.Core.Bool.{Bool, true, false, cond, not, _&&_}
 use mathlib.Core.Logic.{⊎-elim}
 use mathlib.Core.List.{List, [], _∷_, map, List·Memᴰ, List·Memᴰ·head, List·Memᴰ·cases-cons, List·Memᴰ·not-nil, List·Memᴰ·eq-of-singleton, Memᴰ·map, Memᴰ·of-map}
@@ -14,10 +14,11 @@ use lib.Dec.{ltb, eqb}
 use lib.ListN.{length, getD}
 use borrow.Author.Tests.{eqb-true, ltb-true}
 use Rattle.laws.specs.Lists.{any, all, upTo, member, distinct}
-use Rattle.laws.specs.Bags.{Bag, contains, strictlyContains, support}
+use Rattle.laws.specs.Bags.{Bag, contains, strictlyContains, covers, support}
 use Rattle.laws.proofs.Tests.{by-test, and-intro, not-true, to-not-true}
 use Rattle.laws.proofs.Lists.{all-at, all-intro, any-intro, any-none, keep-intro, member-intro, mem-getD, place-of, upTo-intro}
-use Rattle.laws.proofs.Bags.{least-below, contains-at, support-at}
+use Rattle.laws.proofs.Bags.{contains-at, support-at}
+use Rattle.laws.proofs.Comparisons.{covers-contains, least-below}
 use Rattle.model.specs.Answer.{accepted}
 use Rattle.model.specs.Card.{Task, decode}
 use Rattle.model.specs.Writer.{checkTask}
@@ -35,8 +36,8 @@ use Rattle.model.proofs.RoundTrip.{decode-checks}
 use Rattle.model.proofs.ListedSpace.{extensionOf, listed-as-property, conditions-listed, space-of-analysis, analysed, spaces-of-analysis}
 use Rattle.model.proofs.OwnLists.{joined-has, own-lists-length}
 use Rattle.model.proofs.SpaceFacts.{space-of, members-known, members-distinct}
-use Rattle.model.proofs.Sections.{on-space, on-limit, on-exclusion, on-total, on-ceiling, on-types, types-on, typed, states-of-space, state-on}
-use Rattle.model.proofs.Sections.{membership-on}
+use Rattle.model.proofs.Sections.{on-space, on-limit, on-exclusion, on-nesting, on-total, on-ceiling, on-types, types-on, typed, states-of-space}
+use Rattle.model.proofs.Sections.{state-on, membership-on}
 use Rattle.model.proofs.Totals.{total-by-members, count-of-condition}
 use Rattle.model.proofs.Effect.{effect-on-parameter}
 use Rattle.model.proofs.ParameterRules.{length-bagOf}
@@ -203,8 +204,11 @@ module _ (t : Task) (ok : checkTask t ≡ accepted tt) (s : State) (valid : Vali
       contains (condition t (r .of .space .properties) s o) (getD l i [])
       && contains (condition t (r .of .space .properties) s o) (getD l j []))
       states
-      ∙ any-none (λ b. contains b (getD bags i []) && contains b (getD bags j [])) bags
-      (not-true (any (λ b. contains b (getD bags i []) && contains b (getD bags j [])) bags) (e .0))
+      ∙ ap₂ (λ (p q : Bool). p && q)
+      (sym (covers-contains (condition t (r .of .space .properties) s o) (getD bags i [])))
+      (sym (covers-contains (condition t (r .of .space .properties) s o) (getD bags j [])))
+      ∙ any-none (λ b. covers b (getD bags i []) && covers b (getD bags j [])) bags
+      (not-true (any (λ b. covers b (getD bags i []) && covers b (getD bags j [])) bags) (e .0))
       (condition t (r .of .space .properties) s o) here
 
   -- F: members have one count each, the others none
@@ -268,6 +272,7 @@ module _ (t : Task) (ok : checkTask t ≡ accepted tt) (s : State) (valid : Vali
         limit-true = limit-holds;
         membership-true = membership-holds;
         exclusion-true = exclusion-holds;
+        nesting-true = on-nesting t;
         total-true = total-holds;
         ceiling-true = ceiling-holds;
         types-true =

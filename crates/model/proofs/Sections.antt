@@ -11,7 +11,7 @@ use lib.Dec.{leb, eqb}
 use lib.ListN.{length, getD, take}
 use borrow.Author.Tests.{eq-eqb}
 use Rattle.laws.specs.Lists.{all, keep, from, upTo, member}
-use Rattle.laws.specs.Bags.{Bag, support}
+use Rattle.laws.specs.Bags.{Bag, strictlyWithin, support}
 use Rattle.laws.proofs.Tests.{never}
 use Rattle.laws.proofs.Lists.{keep-at, flatMap-at, upTo-at, upTo-intro, mem-take}
 use Rattle.model.specs.Card.{Task, Schema}
@@ -19,9 +19,9 @@ use Rattle.model.specs.Strips.{schemaAt}
 use Rattle.model.specs.Transitions
 use Rattle.model.specs.Transitions.{bagOf}
 use Rattle.model.specs.Spaces.{Space, Kind, hasMember}
-use Rattle.model.specs.Lines.{Line, space, state, limit, membership, exclusion, total, ceiling, types, Analysis, analysis, countOf, largest}
-use Rattle.model.specs.Lines.{arityOf, limits, minimal, excluded, exclusions, spaceLines, spaceSections, propertyNumber, oneNumber, totalsBy}
-use Rattle.model.specs.Lines.{totals, ofPredicate, ceilings, typesOf, typeLines, closingLines, sections}
+use Rattle.model.specs.Lines.{Line, space, state, limit, membership, exclusion, nesting, total, ceiling, types, Analysis, analysis, countOf}
+use Rattle.model.specs.Lines.{largest, arityOf, limits, minimal, excluded, exclusions, surrounding, nestings, spaceLines, spaceSections}
+use Rattle.model.specs.Lines.{propertyNumber, oneNumber, totalsBy, totals, ofPredicate, ceilings, typesOf, typeLines, closingLines, sections}
 use Rattle.model.specs.Truth.{_isOn_, _isSectionOf_, statesOf}
 
 -- a line of the section of a space
@@ -31,11 +31,14 @@ data SpaceLine (t : Task) (n : ℕ) (a : Analysis) (line : Line) : Type 0 where
   is-limit : List·Memᴰ line (limits t (a .space .properties) (a .conditions)) → SpaceLine t n a line
   is-membership : (i : ℕ) → List·Memᴰ i (minimal (a .conditions)) → line ≡ membership i → SpaceLine t n a line
   is-exclusion : List·Memᴰ line (exclusions (a .conditions) (minimal (a .conditions))) → SpaceLine t n a line
+  is-nesting : List·Memᴰ line (nestings (a .conditions)) → SpaceLine t n a line
 
 space-line : (t : Task) (n : ℕ) (a : Analysis) (line : Line) → List·Memᴰ line (spaceLines t n a) → SpaceLine t n a line
 unfolding spaceLines
 space-line t n a line m =
     ⊎-elim is-space
+    (λ whole.
+    ⊎-elim
     (λ rest.
     ⊎-elim
     (λ front.
@@ -51,6 +54,11 @@ space-line t n a line m =
     (List·Memᴰ·append-cases
     (map state (a .conditions) ++ limits t (a .space .properties) (a .conditions) ++ map membership (minimal (a .conditions)))
     rest))
+    is-nesting
+    (List·Memᴰ·append-cases
+    (map state (a .conditions) ++ limits t (a .space .properties) (a .conditions) ++ map membership (minimal (a .conditions))
+    ++ exclusions (a .conditions) (minimal (a .conditions)))
+    whole))
     (List·Memᴰ·cases-cons m)
 
 -- an M line gives a property of the space and the largest of its counts
@@ -72,18 +80,30 @@ unfolding limits
 limit-needs t properties [] line m = absurd (List·Memᴰ·not-nil m)
 limit-needs t properties (b ∷ bags) line m = (b, List·Memᴰ·head refl)
 
--- an X line gives two conditions that no condition contains both of
+-- an X line gives two of the conditions that no condition contains both of
 pub exclusion-line : (bags : List Bag) (indices : List ℕ) (line : Line) → List·Memᴰ line (exclusions bags indices)
-    → (i : ℕ) × (j : ℕ) × (excluded bags i j ≡ true) × (line ≡ exclusion i j)
+    → (i : ℕ) × (j : ℕ) × (excluded bags i j ≡ true) × (line ≡ exclusion i j) × List·Memᴰ i indices × List·Memᴰ j indices
 unfolding exclusions
 exclusion-line bags [] line m = absurd (List·Memᴰ·not-nil m)
 exclusion-line bags (i ∷ later) line m =
     ⊎-elim
     (λ now.
     let r = Memᴰ·of-map (exclusion i) (keep (excluded bags i) later) now in
-    (i, r .0, keep-at (excluded bags i) later (r .0) (r .1) .1, sym (r .2)))
-    (λ rest. exclusion-line bags later line rest)
+    let k = keep-at (excluded bags i) later (r .0) (r .1) in
+    (i, r .0, k .1, sym (r .2), List·Memᴰ·head refl, List·Memᴰ·tail (k .0)))
+    (λ rest. let r = exclusion-line bags later line rest in (r .0, r .1, r .2, r .3, List·Memᴰ·tail (r .4), List·Memᴰ·tail (r .5)))
     (List·Memᴰ·append-cases (map (exclusion i) (keep (excluded bags i) later)) m)
+
+-- an E line gives two conditions, the first strictly within the second
+pub nesting-line : (bags : List Bag) (line : Line) → List·Memᴰ line (nestings bags)
+    → (i : ℕ) × (j : ℕ) × (i < length bags) × (j < length bags) × (strictlyWithin (getD bags i []) (getD bags j []) ≡ true)
+    × (line ≡ nesting i j)
+unfolding nestings surrounding
+nesting-line bags line m =
+    let r = flatMap-at (λ i. map (nesting i) (surrounding bags i)) (upTo (length bags)) line m in
+    let s = Memᴰ·of-map (nesting (r .0)) (surrounding bags (r .0)) (r .2) in
+    let k = keep-at (λ j. strictlyWithin (getD bags (r .0) []) (getD bags j [])) (upTo (length bags)) (s .0) (s .1) in
+    (r .0, s .0, upTo-at (length bags) (r .0) (r .1), upTo-at (length bags) (s .0) (k .0), k .1, sym (s .2))
 
 -- how an F line comes about: at a position of the predicate, all conditions of the property's space have one count
 pub record TotalLine (t : Task) (p n : ℕ) : Type 0 where
@@ -234,9 +254,10 @@ letter (state counts) = 1
 letter (limit c most) = 2
 letter (membership i) = 3
 letter (exclusion i j) = 4
-letter (total p n) = 5
-letter (ceiling p n) = 6
-letter (types n k objects) = 7
+letter (nesting i j) = 5
+letter (total p n) = 6
+letter (ceiling p n) = 7
+letter (types n k objects) = 8
 
 clash : {A : Type 0} (x y : Line) → x ≡ y → eqb (letter x) (letter y) ≡ false → A
 clash x y e f = never (sym (eq-eqb (letter x) (letter y) (ap letter e)) ∙ f)
@@ -253,33 +274,38 @@ unfolding letter
 exclusion-only bags indices line m e =
     let r = exclusion-line bags indices line m in clash line (exclusion (r .0) (r .1)) (r .3) e
 
+nesting-only : {A : Type 0} (bags : List Bag) (line : Line) → List·Memᴰ line (nestings bags) → eqb (letter line) 5 ≡ false → A
+unfolding letter
+nesting-only bags line m e = let r = nesting-line bags line m in clash line (nesting (r .0) (r .1)) (r .5) e
+
 types-only : {A : Type 0} (t : Task) (line : Line)
-    → List·Memᴰ line (typeLines t (map (λ a. a .space) (analysis t)) 0 (t .schemas)) → eqb (letter line) 7 ≡ false → A
+    → List·Memᴰ line (typeLines t (map (λ a. a .space) (analysis t)) 0 (t .schemas)) → eqb (letter line) 8 ≡ false → A
 unfolding letter typesOf
 types-only t line m e =
     let r = types-line t (map (λ a. a .space) (analysis t)) 0 (t .schemas) (record { parameters = 0; preconditions = []; deletes = []; adds = [] }) line m in
     clash line (types _ _ _) (r .4) e
 
--- the lines of a space have the letters S, T, M, D, X, and those of the closing section F, C, R
-space-letter : (t : Task) (n : ℕ) (a : Analysis) (line : Line) → SpaceLine t n a line → leb (letter line) 4 ≡ true
+-- the lines of a space have the letters S, T, M, D, X, E, and those of the closing section F, C, R
+space-letter : (t : Task) (n : ℕ) (a : Analysis) (line : Line) → SpaceLine t n a line → leb (letter line) 5 ≡ true
 unfolding letter
-space-letter t n a line (is-space e) = ap (λ (l : Line). leb (letter l) 4) e
-space-letter t n a line (is-state b m e) = ap (λ (l : Line). leb (letter l) 4) e
+space-letter t n a line (is-space e) = ap (λ (l : Line). leb (letter l) 5) e
+space-letter t n a line (is-state b m e) = ap (λ (l : Line). leb (letter l) 5) e
 space-letter t n a line (is-limit m) =
-    ap (λ (l : Line). leb (letter l) 4) (limit-line t (a .space .properties) (a .conditions) line m .2)
-space-letter t n a line (is-membership i m e) = ap (λ (l : Line). leb (letter l) 4) e
+    ap (λ (l : Line). leb (letter l) 5) (limit-line t (a .space .properties) (a .conditions) line m .2)
+space-letter t n a line (is-membership i m e) = ap (λ (l : Line). leb (letter l) 5) e
 space-letter t n a line (is-exclusion m) =
-    ap (λ (l : Line). leb (letter l) 4) (exclusion-line (a .conditions) (minimal (a .conditions)) line m .3)
+    ap (λ (l : Line). leb (letter l) 5) (exclusion-line (a .conditions) (minimal (a .conditions)) line m .3)
+space-letter t n a line (is-nesting m) = ap (λ (l : Line). leb (letter l) 5) (nesting-line (a .conditions) line m .5)
 
 blank : Schema
 blank = record { parameters = 0; preconditions = []; deletes = []; adds = [] }
 
-closing-letter : (t : Task) (line : Line) → ClosingLine t line → leb (letter line) 4 ≡ false
+closing-letter : (t : Task) (line : Line) → ClosingLine t line → leb (letter line) 5 ≡ false
 unfolding letter typesOf
-closing-letter t line (is-total p n l e) = ap (λ (l : Line). leb (letter l) 4) e
-closing-letter t line (is-ceiling p l e) = ap (λ (l : Line). leb (letter l) 4) e
+closing-letter t line (is-total p n l e) = ap (λ (l : Line). leb (letter l) 5) e
+closing-letter t line (is-ceiling p l e) = ap (λ (l : Line). leb (letter l) 5) e
 closing-letter t line (is-types m) =
-    ap (λ (l : Line). leb (letter l) 4) (types-line t (map (λ a. a .space) (analysis t)) 0 (t .schemas) blank line m .4)
+    ap (λ (l : Line). leb (letter l) 5) (types-line t (map (λ a. a .space) (analysis t)) 0 (t .schemas) blank line m .4)
 
 -- a line of a space, in the section that it stands in
 record OfSpace (t : Task) (lines : List Line) (line : Line) : Type 0 where
@@ -289,7 +315,7 @@ record OfSpace (t : Task) (lines : List Line) (line : Line) : Type 0 where
   pub section-is : lines ≡ spaceLines t number of
   pub stands : SpaceLine t number of line
 
-of-a-space : (t : Task) (lines : List Line) (line : Line) → lines isSectionOf t → line isOn lines → leb (letter line) 4 ≡ true
+of-a-space : (t : Task) (lines : List Line) (line : Line) → lines isSectionOf t → line isOn lines → leb (letter line) 5 ≡ true
     → OfSpace t lines line
 of-a-space t lines line s m h = go (section-of t lines s)
   where
@@ -306,7 +332,7 @@ of-a-space t lines line s m h = go (section-of t lines s)
         never (sym h ∙ closing-letter t line (closing-line t line (subst (λ (x : List Line). List·Memᴰ line x) e m)))
 
 of-the-closing : (t : Task) (lines : List Line) (line : Line) → lines isSectionOf t → line isOn lines
-    → leb (letter line) 4 ≡ false → ClosingLine t line
+    → leb (letter line) 5 ≡ false → ClosingLine t line
 of-the-closing t lines line s m h = go (section-of t lines s)
   where
     go : Section t lines → ClosingLine t line
@@ -344,6 +370,7 @@ on-space t lines n kind properties members s m = go (of-a-space t lines (space n
     found i a h e (is-limit k) = limit-only t _ _ (space n kind properties members) k refl
     found i a h e (is-membership j k p) = clash (space n kind properties members) (membership j) p refl
     found i a h e (is-exclusion k) = exclusion-only _ _ (space n kind properties members) k refl
+    found i a h e (is-nesting k) = nesting-only _ (space n kind properties members) k refl
 
     go : OfSpace t lines (space n kind properties members) → OnSpace t lines n kind properties members
     go r = found (r .number) (r .of) (r .of-listed) (r .section-is) (r .stands)
@@ -382,6 +409,7 @@ on-limit t lines c most s m = go (of-a-space t lines (limit c most) s m refl)
             first ∙ ap (λ (x : ℕ). largest (map (countOf (a .space .properties) x) (a .conditions))) second
     found i a h (is-membership j k p) = clash (limit c most) (membership j) p refl
     found i a h (is-exclusion k) = exclusion-only _ _ (limit c most) k refl
+    found i a h (is-nesting k) = nesting-only _ (limit c most) k refl
 
     go : OfSpace t lines (limit c most) → OnLimit t c most
     go r = found (r .number) (r .of) (r .of-listed) (r .stands)
@@ -410,6 +438,7 @@ on-exclusion t n a i j m = found (space-line t n a (exclusion i j) m)
           ap (λ (x : ℕ). excluded (a .conditions) x j) first ∙ ap (excluded (a .conditions) (r .0)) second ∙ r .2,
           exclusion-needs (a .conditions) (exclusion i j) k,
         )
+    found (is-nesting k) = nesting-only _ (exclusion i j) k refl
 
 pub on-total : (t : Task) (lines : List Line) (p n : ℕ) → lines isSectionOf t → total p n isOn lines → TotalLine t p n
 unfolding letter
@@ -496,6 +525,7 @@ states-append (state counts ∷ xs) ys = ap {B = List Bag} (λ l. counts ∷ l) 
 states-append (limit c most ∷ xs) ys = states-append xs ys
 states-append (membership i ∷ xs) ys = states-append xs ys
 states-append (exclusion i j ∷ xs) ys = states-append xs ys
+states-append (nesting i j ∷ xs) ys = states-append xs ys
 states-append (total p n ∷ xs) ys = states-append xs ys
 states-append (ceiling p n ∷ xs) ys = states-append xs ys
 states-append (types n k objects ∷ xs) ys = states-append xs ys
@@ -527,35 +557,76 @@ no-exclusion-states bags (i ∷ later) =
     ∙ ap (λ (l : List Bag). l ++ statesOf (exclusions bags later)) (no-states (exclusion i) (λ j lines. refl) (keep (excluded bags i) later))
     ∙ no-exclusion-states bags later
 
+no-nesting-states : (bags : List Bag) → statesOf (nestings bags) ≡ []
+unfolding statesOf nestings flatMap
+no-nesting-states bags = go (upTo (length bags))
+  where
+    go : (indices : List ℕ) → statesOf (flatMap (λ i. map (nesting i) (surrounding bags i)) indices) ≡ []
+    go [] = refl
+    go (i ∷ indices) =
+        states-append (map (nesting i) (surrounding bags i)) (flatMap (λ k. map (nesting k) (surrounding bags k)) indices)
+        ∙ ap (λ (l : List Bag). l ++ statesOf (flatMap (λ k. map (nesting k) (surrounding bags k)) indices))
+        (no-states (nesting i) (λ j lines. refl) (surrounding bags i))
+        ∙ go indices
+
 -- the conditions of the section of a space are its T lines
 pub states-of-space : (t : Task) (n : ℕ) (a : Analysis) → statesOf (spaceLines t n a) ≡ a .conditions
 unfolding spaceLines statesOf
 states-of-space t n a =
-    states-append
-    (map state (a .conditions) ++ limits t (a .space .properties) (a .conditions) ++ map membership (minimal (a .conditions)))
-    (exclusions (a .conditions) (minimal (a .conditions)))
-    ∙ ap
-    (λ (l : List Bag). l ++ statesOf (exclusions (a .conditions) (minimal (a .conditions))))
-    (states-append
-    (map state (a .conditions) ++ limits t (a .space .properties) (a .conditions))
-    (map membership (minimal (a .conditions)))
-    ∙ ap
-    (λ (l : List Bag). l ++ statesOf (map membership (minimal (a .conditions))))
-    (states-append (map state (a .conditions)) (limits t (a .space .properties) (a .conditions))))
-    ∙ simp (states-of-states, no-limit-states, no-states membership (λ i lines. refl), no-exclusion-states, append-nil)
+    let bags = a .conditions in
+    let most = limits t (a .space .properties) bags in
+    let pairs = exclusions bags (minimal bags) in
+    states-append (map state bags ++ most ++ map membership (minimal bags) ++ pairs) (nestings bags)
+    ∙ ap (λ (l : List Bag). l ++ statesOf (nestings bags)) (states-append (map state bags ++ most ++ map membership (minimal bags)) pairs)
+    ∙ ap (λ (l : List Bag). l ++ statesOf pairs ++ statesOf (nestings bags)) (states-append (map state bags ++ most) (map membership (minimal bags)))
+    ∙ ap (λ (l : List Bag). l ++ statesOf (map membership (minimal bags)) ++ statesOf pairs ++ statesOf (nestings bags))
+    (states-append (map state bags) most)
+    ∙ simp (states-of-states, no-limit-states, no-states membership (λ i lines. refl), no-exclusion-states, no-nesting-states, append-nil)
 
 pub state-on : (t : Task) (n : ℕ) (a : Analysis) (b : Bag) → List·Memᴰ b (a .conditions) → state b isOn spaceLines t n a
 unfolding spaceLines
 state-on t n a b m =
     List·Memᴰ·tail
+    (Memᴰ·append-left (nestings (a .conditions))
     (Memᴰ·append-left (exclusions (a .conditions) (minimal (a .conditions)))
     (Memᴰ·append-left (map membership (minimal (a .conditions)))
-    (Memᴰ·append-left (limits t (a .space .properties) (a .conditions)) (Memᴰ·map state m))))
+    (Memᴰ·append-left (limits t (a .space .properties) (a .conditions)) (Memᴰ·map state m)))))
 
 pub membership-on : (t : Task) (n : ℕ) (a : Analysis) (i : ℕ) → List·Memᴰ i (minimal (a .conditions))
     → membership i isOn spaceLines t n a
 unfolding spaceLines
 membership-on t n a i m =
     List·Memᴰ·tail
+    (Memᴰ·append-left (nestings (a .conditions))
     (Memᴰ·append-left (exclusions (a .conditions) (minimal (a .conditions)))
-    (Memᴰ·append-right (map state (a .conditions) ++ limits t (a .space .properties) (a .conditions)) (Memᴰ·map membership m)))
+    (Memᴰ·append-right (map state (a .conditions) ++ limits t (a .space .properties) (a .conditions)) (Memᴰ·map membership m))))
+
+-- an E line in a section: two of its conditions, the first strictly within the second
+pub on-nesting : (t : Task) (lines : List Line) (i j : ℕ) → lines isSectionOf t → nesting i j isOn lines
+    → (i < length (statesOf lines)) × (j < length (statesOf lines))
+    × (strictlyWithin (getD (statesOf lines) i []) (getD (statesOf lines) j []) ≡ true)
+unfolding letter
+on-nesting t lines i j s m = go (of-a-space t lines (nesting i j) s m refl)
+  where
+    Nested : List Bag → Type 0
+    Nested bags = (i < length bags) × (j < length bags) × (strictlyWithin (getD bags i []) (getD bags j []) ≡ true)
+
+    found : (n : ℕ) (a : Analysis) → SpaceLine t n a (nesting i j) → Nested (a .conditions)
+    found n a (is-space p) = clash (nesting i j) (space _ _ _ _) p refl
+    found n a (is-state b k p) = clash (nesting i j) (state b) p refl
+    found n a (is-limit k) = limit-only t _ _ (nesting i j) k refl
+    found n a (is-membership x k p) = clash (nesting i j) (membership x) p refl
+    found n a (is-exclusion k) = exclusion-only _ _ (nesting i j) k refl
+    found n a (is-nesting k) =
+        let r = nesting-line (a .conditions) (nesting i j) k in
+        let first : r .0 ≡ i = cc in
+        let second : r .1 ≡ j = cc in
+        let bags = a .conditions in (
+          subst (λ (x : ℕ). x < length bags) first (r .2),
+          subst (λ (x : ℕ). x < length bags) second (r .3),
+          subst (λ (x : ℕ). strictlyWithin (getD bags x []) (getD bags j []) ≡ true) first
+              (subst (λ (x : ℕ). strictlyWithin (getD bags (r .0) []) (getD bags x []) ≡ true) second (r .4)),
+        )
+
+    go : OfSpace t lines (nesting i j) → Nested (statesOf lines)
+    go r = subst Nested (sym (ap statesOf (r .section-is) ∙ states-of-space t (r .number) (r .of))) (found (r .number) (r .of) (r .stands))

@@ -17,7 +17,7 @@ use Rattle.laws.proofs.Tests.{never, and-left, and-right, and-intro, to-not-fal
 use Rattle.laws.proofs.Lists.{same-eq}
 use Rattle.laws.proofs.Reading.{all-append, all-weaken}
 use Rattle.model.specs.Spaces.{Kind, static, attribute, property, mixed, wide}
-use Rattle.model.specs.Lines.{Line, space, state, limit, membership, exclusion, total, ceiling, types}
+use Rattle.model.specs.Lines.{Line, space, state, limit, membership, exclusion, nesting, total, ceiling, types}
 use Rattle.model.specs.Text.{digitsWithin, decimal, kindLetter, colon, items, spaced, lineText, text}
 
 -- ---- numbers
@@ -182,6 +182,7 @@ items-lettered (state counts) = lettered refl (also colon-plain (last-plain coun
 items-lettered (limit c most) = lettered refl (also (decimal-plain c) (also (decimal-plain most) none))
 items-lettered (membership i) = lettered refl (also (decimal-plain i) none)
 items-lettered (exclusion i j) = lettered refl (also (decimal-plain i) (also (decimal-plain j) none))
+items-lettered (nesting i j) = lettered refl (also (decimal-plain i) (also (decimal-plain j) none))
 items-lettered (total p n) = lettered refl (also (decimal-plain p) (also (decimal-plain n) none))
 items-lettered (ceiling p n) = lettered refl (also (decimal-plain p) (also (decimal-plain n) none))
 items-lettered (types n k objects) =
@@ -231,9 +232,10 @@ lineBy letter xs =
     (cond (eqb letter 77) (limit (numberAt 1 xs) (numberAt 2 xs))
     (cond (eqb letter 68) (membership (numberAt 1 xs))
     (cond (eqb letter 88) (exclusion (numberAt 1 xs) (numberAt 2 xs))
+    (cond (eqb letter 69) (nesting (numberAt 1 xs) (numberAt 2 xs))
     (cond (eqb letter 70) (total (numberAt 1 xs) (numberAt 2 xs))
     (cond (eqb letter 67) (ceiling (numberAt 1 xs) (numberAt 2 xs))
-    (types (numberAt 1 xs) (numberAt 2 xs) (map numberOf (drop 4 xs)))))))))
+    (types (numberAt 1 xs) (numberAt 2 xs) (map numberOf (drop 4 xs))))))))))
 
 lineOf : List (List ℕ) → Line
 lineOf xs = lineBy (getD (getD xs 0 []) 0 0) xs
@@ -249,6 +251,7 @@ line-again (state counts) = ap state (numbers-again counts)
 line-again (limit c most) = λ i. limit (number-again c i) (number-again most i)
 line-again (membership index) = ap membership (number-again index)
 line-again (exclusion one other) = λ i. exclusion (number-again one i) (number-again other i)
+line-again (nesting one other) = λ i. nesting (number-again one i) (number-again other i)
 line-again (total p n) = λ i. total (number-again p i) (number-again n i)
 line-again (ceiling p n) = λ i. ceiling (number-again p i) (number-again n i)
 line-again (types n k objects) = λ i. types (number-again n i) (number-again k i) (numbers-again objects i)

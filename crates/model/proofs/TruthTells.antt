@@ -1,5 +1,5 @@
--- What demand 3 says can be false: for each of its clauses (specs/Truth.antt) but `TypesListed`, which asks nothing of the facts, a set of facts
--- over K1's task of which that clause is not so. A clause that asked for less would let its set of facts pass.
+-- What demand 3 says can be false: for each of its clauses (specs/Truth.antt) but `TypesListed` and `NestingsTrue`, which ask nothing of the
+-- facts, a set of facts over K1's task of which that clause is not so. A clause that asked for less would let its set of facts pass.
 use Prim.Native.Nat.{ℕ, _≤_, _<_}
 use native.Mathlib.Omega.{arith}
 use mathlib.Core.Path.{_≡_, refl, sym, _∙_}
@@ -16,7 +16,7 @@ use Rattle.model.specs.Answer.{Answer, refused, accepted}
 use Rattle.model.specs.Card.{Atom, Task, decode}
 use Rattle.model.specs.Strips.{State}
 use Rattle.model.specs.Spaces.{property}
-use Rattle.model.specs.Lines.{Line, space, state, limit, membership, exclusion, total, ceiling, types, sections}
+use Rattle.model.specs.Lines.{Line, space, state, limit, membership, exclusion, nesting, total, ceiling, types, sections}
 use Rattle.model.specs.Truth.{_isOn_, _isSectionOf_, statesOf, countIn}
 use Rattle.model.specs.Truth.{StatesListed, NoneOutside, LimitsTrue, MembershipsTrue, ExclusionsTrue, TotalsTrue, CeilingsTrue, TypesTrue}
 use Rattle.model.specs.Vectors.{k1, act}
@@ -87,6 +87,7 @@ contained (space n kind properties members) = false
 contained (state counts) = false
 contained (limit c most) = false
 contained (exclusion i j) = false
+contained (nesting i j) = false
 contained (total p n) = false
 contained (ceiling p n) = false
 contained (types n k objects) = false

@@ -18,7 +18,7 @@ use Rattle.model.specs.Open.{open-opens}
 use Rattle.model.specs.Vectors.{Entry, table, answer, vectors-open}
 use Rattle.model.specs.Vectors.{bench-card, presses-refused, presses-made, swallowed-add, mixed-space, conditions-56, wide-space}
 use Rattle.model.specs.Vectors.{no-bytes, byte-more, objects-65, objects-64, roles-1, roles-7}
-use Rattle.model.specs.Vectors.{two-starts, two-rounds, three-arguments, two-digits, empty-lists, conditions-64, condition-65}
+use Rattle.model.specs.Vectors.{two-starts, nested-chain, two-rounds, three-arguments, two-digits, empty-lists, conditions-64, condition-65}
 use Rattle.model.specs.Vectors.{section-written, section-past, short-first, card-first, zeros-after, table-written, table-short}
 use Rattle.model.specs.Vectors.{atoms-first, list-of-9, two-open, after-closed, given-refused, state-first, no-room}
 
@@ -88,6 +88,10 @@ roles-7-holds = refl
 two-starts-holds : Holds two-starts
 unfolding definitions-open
 two-starts-holds = refl
+
+nested-chain-holds : Holds nested-chain
+unfolding definitions-open
+nested-chain-holds = refl
 
 two-rounds-holds : Holds two-rounds
 unfolding definitions-open
@@ -199,6 +203,7 @@ every-entry =
     and roles-1-holds
     and roles-7-holds
     and two-starts-holds
+    and nested-chain-holds
     and two-rounds-holds
     and three-arguments-holds
     and two-digits-holds

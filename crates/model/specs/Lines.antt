@@ -1,11 +1,11 @@
--- Document 01, "Listing": the lines of each section.
+-- Document 01, "Listing": the lines of each section; and document 02, No. 2: the E lines.
 use Prim.Native.Nat.{ℕ, suc, _+_, _*_, max}
 use mathlib.Core.Bool.{Bool, cond, not, _&&_}
 use mathlib.Core.List.{List, [], _∷_, _++_, map, flatMap, foldl}
 use lib.Dec.{leb, eqb}
 use lib.ListN.{length, getD, take}
 use Rattle.laws.specs.Lists.{any, all, keep, count, upTo, sum, member}
-use Rattle.laws.specs.Bags.{Bag, contains, strictlyContains, restrict, support}
+use Rattle.laws.specs.Bags.{Bag, strictlyContains, strictlyWithin, covers, restrict, support}
 use Rattle.model.specs.Card.{Atom, Schema, Task}
 use Rattle.model.specs.Transitions
 use Rattle.model.specs.Transitions.{bagOf}
@@ -20,6 +20,7 @@ pub data Line : Type 0 where
   limit : ℕ → ℕ → Line  -- M: property, most
   membership : ℕ → Line  -- D: index of a condition
   exclusion : ℕ → ℕ → Line  -- X: two D indices
+  nesting : ℕ → ℕ → Line  -- E: index of a condition, index of one that it is strictly within
   total : ℕ → ℕ → Line  -- F: predicate, total
   ceiling : ℕ → ℕ → Line  -- C: predicate, most facts
   types : ℕ → ℕ → List ℕ → Line  -- R: schema, parameter, objects
@@ -99,19 +100,28 @@ minimal bags = keep (λ i. not (any (strictlyContains (getD bags i [])) bags)) (
 
 -- no condition contains both
 unfoldable pub excluded : List Bag → ℕ → ℕ → Bool
-excluded bags i j = not (any (λ b. contains b (getD bags i []) && contains b (getD bags j [])) bags)
+excluded bags i j = not (any (λ b. covers b (getD bags i []) && covers b (getD bags j [])) bags)
 
 -- X: two D indices, ascending
 unfoldable pub exclusions : List Bag → List ℕ → List Line
 exclusions bags [] = []
 exclusions bags (i ∷ later) = map (exclusion i) (keep (excluded bags i) later) ++ exclusions bags later
 
--- the section of a space: S and, for P, all T, all M, all D, all X
+-- the indices of the conditions that condition i is strictly within
+unfoldable pub surrounding : List Bag → ℕ → List ℕ
+surrounding bags i = keep (λ j. strictlyWithin (getD bags i []) (getD bags j [])) (upTo (length bags))
+
+-- E: each condition i with each condition j that it is strictly within, ascending by i then j
+unfoldable pub nestings : List Bag → List Line
+nestings bags = flatMap (λ i. map (nesting i) (surrounding bags i)) (upTo (length bags))
+
+-- the section of a space: S and, for P, all T, all M, all D, all X, all E
 unfoldable pub spaceLines : Task → ℕ → Analysis → List Line
 spaceLines t n a =
     space n (a .kind) (a .space .properties) (a .space .members)
     ∷ (map state (a .conditions) ++ limits t (a .space .properties) (a .conditions)
-    ++ map membership (minimal (a .conditions)) ++ exclusions (a .conditions) (minimal (a .conditions)))
+    ++ map membership (minimal (a .conditions)) ++ exclusions (a .conditions) (minimal (a .conditions))
+    ++ nestings (a .conditions))
 
 unfoldable pub spaceSections : Task → ℕ → List Analysis → List (List Line)
 spaceSections t n [] = []
@@ -175,6 +185,6 @@ sections t = let analyses = analysis t in spaceSections t 0 analyses ++ (closing
 unfoldable pub lines-open : Unit {0}
 unfolding
     movesOf initialConditions kindFor conditionsFor analysePropertySpace analyseAs analyse analysis countOf largest arityOf
-    limits minimal excluded exclusions spaceLines spaceSections propertyNumber oneNumber totalsBy totals ofPredicate ceilings
+    limits minimal excluded exclusions surrounding nestings spaceLines spaceSections propertyNumber oneNumber totalsBy totals ofPredicate ceilings
     typesOf typeLines closingLines sections
 lines-open = tt

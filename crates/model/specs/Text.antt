@@ -4,7 +4,7 @@ use mathlib.Core.Bool.{cond}
 use mathlib.Core.List.{List, [], _∷_, _++_, map, flatMap}
 use lib.Dec.{ltb}
 use Rattle.model.specs.Spaces.{Kind, static, attribute, property, mixed, wide}
-use Rattle.model.specs.Lines.{Line, space, state, limit, membership, exclusion, total, ceiling, types}
+use Rattle.model.specs.Lines.{Line, space, state, limit, membership, exclusion, nesting, total, ceiling, types}
 
 -- at most so many decimal digits of a number
 unfoldable pub digitsWithin : ℕ → ℕ → List ℕ
@@ -35,6 +35,7 @@ items (state counts) = (84 ∷ []) ∷ colon ∷ map decimal counts
 items (limit c most) = (77 ∷ []) ∷ decimal c ∷ decimal most ∷ []
 items (membership index) = (68 ∷ []) ∷ decimal index ∷ []
 items (exclusion i j) = (88 ∷ []) ∷ decimal i ∷ decimal j ∷ []
+items (nesting i j) = (69 ∷ []) ∷ decimal i ∷ decimal j ∷ []
 items (total predicate n) = (70 ∷ []) ∷ decimal predicate ∷ decimal n ∷ []
 items (ceiling predicate n) = (67 ∷ []) ∷ decimal predicate ∷ decimal n ∷ []
 items (types schema parameter objects) =

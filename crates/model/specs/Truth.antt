@@ -3,7 +3,7 @@
 -- Let C be an accepted card and S the state after any history of presses on C. Each member of a property space listed as P has in S
 -- a condition that the listing gives for that space. An object outside a space has none of that space's properties. Every limit,
 -- membership, exclusion, fixed total and ceiling listed for C is true of S. A press that S allows puts into each role an object
--- listed for that role.
+-- listed for that role. Document 02, No. 2: an E line names two of a space's conditions, the first strictly within the second.
 --
 -- `Holds t S` says this of a task t and a state S, over the lines of the sections whose text the listing call writes
 -- (`Calls.section`). That it is so after every history is the theorem `listing-holds` of proofs/ListingHolds.antt.
@@ -13,14 +13,15 @@ use mathlib.Core.Bool.{true, false, _&&_}
 use mathlib.Core.List.{List, [], _∷_, List·Memᴰ}
 use lib.ListN.{length, getD}
 use Rattle.laws.specs.Lists.{member}
-use Rattle.laws.specs.Bags.{Bag, contains}
+use Rattle.laws.specs.Bags.{Bag, contains, strictlyWithin}
 use Rattle.model.specs.Answer.{accepted}
 use Rattle.model.specs.Card.{Task}
 use Rattle.model.specs.Strips.{State, Action, schemaAt, checkAction, applicable}
 use Rattle.model.specs.Transitions
 use Rattle.model.specs.Transitions.{bagOf}
 use Rattle.model.specs.Spaces.{Kind, property, condition}
-use Rattle.model.specs.Lines.{Line, space, state, limit, membership, exclusion, total, ceiling, types, ofPredicate, sections}
+use Rattle.model.specs.Lines.{Line, space, state, limit, membership, exclusion, nesting, total, ceiling, types, ofPredicate}
+use Rattle.model.specs.Lines.{sections}
 
 -- a line stands in a section, a section in the listing of a task
 infix 5 _isOn_
@@ -39,6 +40,7 @@ statesOf (state counts ∷ lines) = counts ∷ statesOf lines
 statesOf (limit c most ∷ lines) = statesOf lines
 statesOf (membership i ∷ lines) = statesOf lines
 statesOf (exclusion i j ∷ lines) = statesOf lines
+statesOf (nesting i j ∷ lines) = statesOf lines
 statesOf (total p n ∷ lines) = statesOf lines
 statesOf (ceiling p n ∷ lines) = statesOf lines
 statesOf (types n k objects ∷ lines) = statesOf lines
@@ -89,6 +91,13 @@ ExclusionsTrue t s =
     && contains (condition t properties s o) (getD (statesOf lines) j []))
     ≡ false
 
+-- an E names two listed conditions, the first strictly within the second. It says nothing of the state
+abbrev pub NestingsTrue : Task → Type 0
+NestingsTrue t =
+    (lines : List Line) (i j : ℕ) → lines isSectionOf t → nesting i j isOn lines
+    → (i < length (statesOf lines)) × (j < length (statesOf lines))
+    × (strictlyWithin (getD (statesOf lines) i []) (getD (statesOf lines) j []) ≡ true)
+
 -- an F total is the predicate's number of facts
 abbrev pub TotalsTrue : Task → State → Type 0
 TotalsTrue t s = (lines : List Line) (p n : ℕ) → lines isSectionOf t → total p n isOn lines → ofPredicate p s ≡ n
@@ -116,6 +125,7 @@ pub record Holds (t : Task) (s : State) : Type 0 where
   pub limit-true : LimitsTrue t s
   pub membership-true : MembershipsTrue t s
   pub exclusion-true : ExclusionsTrue t s
+  pub nesting-true : NestingsTrue t
   pub total-true : TotalsTrue t s
   pub ceiling-true : CeilingsTrue t s
   pub types-true : TypesTrue t s

@@ -242,7 +242,7 @@ presses-made =
           ∷ (3 ∷ 2 ∷ 255 ∷ 255 ∷ []) ∷ (3 ∷ 3 ∷ 255 ∷ 255 ∷ []) ∷ [];
     }
 
--- K4: conditions 1 1, 0 2, 0 1; D 2
+-- K4: conditions 1 1, 0 2, 0 1; D 2; E 2 0, E 2 1
 unfoldable pub swallowed-add : Entry
 swallowed-add =
     record {
@@ -254,6 +254,8 @@ swallowed-add =
           ∷ "T : 0 2"
           ∷ "T : 0 1"
           ∷ "D 2"
+          ∷ "E 2 0"
+          ∷ "E 2 1"
           ∷ "C 0 1"
           ∷ "R 0 0 : 0"
           ∷ [])
@@ -311,6 +313,10 @@ two-starts =
           ∷ "M 2 2"
           ∷ "D 3"
           ∷ "D 4"
+          ∷ "E 3 1"
+          ∷ "E 3 2"
+          ∷ "E 4 0"
+          ∷ "E 4 1"
           ∷ "S 1 P : 1 3 : 1 2"
           ∷ "T : 2 0"
           ∷ "T : 1 1"
@@ -321,9 +327,57 @@ two-starts =
           ∷ "M 3 2"
           ∷ "D 3"
           ∷ "D 4"
+          ∷ "E 3 1"
+          ∷ "E 3 2"
+          ∷ "E 4 0"
+          ∷ "E 4 1"
           ∷ "C 0 3"
           ∷ "R 0 0 : 0 3"
           ∷ "R 0 1 : 1 2"
+          ∷ [])
+          ∷ [];
+    }
+
+-- p(0,1), p(0,2), p(0,3): a section with X and E lines, in which 0 2 is around 0 1 and within 0 3
+unfoldable pub nested-chain : Entry
+nested-chain =
+    record {
+      question = prints (k6 3);
+      expected =
+          lines
+          ("S 0 P : 0 2 : 0"
+          ∷ "T : 3 0"
+          ∷ "T : 2 1"
+          ∷ "T : 1 2"
+          ∷ "T : 1 1"
+          ∷ "T : 0 3"
+          ∷ "T : 0 2"
+          ∷ "T : 0 1"
+          ∷ "M 0 3"
+          ∷ "M 2 3"
+          ∷ "D 0"
+          ∷ "D 6"
+          ∷ "X 0 6"
+          ∷ "E 3 1"
+          ∷ "E 3 2"
+          ∷ "E 5 2"
+          ∷ "E 5 4"
+          ∷ "E 6 1"
+          ∷ "E 6 2"
+          ∷ "E 6 3"
+          ∷ "E 6 4"
+          ∷ "E 6 5"
+          ∷ "S 1 P : 1 3 : 1 2 3"
+          ∷ "T : 1 0"
+          ∷ "T : 0 1"
+          ∷ "M 1 1"
+          ∷ "M 3 1"
+          ∷ "D 0"
+          ∷ "D 1"
+          ∷ "X 0 1"
+          ∷ "C 0 3"
+          ∷ "R 0 0 : 0"
+          ∷ "R 0 1 : 1 2 3"
           ∷ [])
           ∷ [];
     }
@@ -500,9 +554,9 @@ no-room =
 
 unfoldable pub table : List Entry
 table =
-    bench-card ∷ presses-refused ∷ presses-made ∷ swallowed-add ∷ mixed-space ∷ conditions-56 ∷ wide-space ∷ no-bytes ∷ byte-more
-    ∷ objects-65 ∷ objects-64 ∷ roles-1 ∷ roles-7 ∷ two-starts ∷ two-rounds ∷ three-arguments ∷ two-digits ∷ empty-lists ∷ conditions-64 ∷ condition-65
-    ∷ section-written ∷ section-past ∷ short-first ∷ card-first ∷ zeros-after ∷ table-written ∷ table-short ∷ atoms-first ∷ list-of-9
+    bench-card ∷ presses-refused ∷ presses-made ∷ swallowed-add ∷ mixed-space ∷ conditions-56 ∷ wide-space ∷ no-bytes ∷ byte-more ∷ objects-65
+    ∷ objects-64 ∷ roles-1 ∷ roles-7 ∷ two-starts ∷ nested-chain ∷ two-rounds ∷ three-arguments ∷ two-digits ∷ empty-lists ∷ conditions-64
+    ∷ condition-65 ∷ section-written ∷ section-past ∷ short-first ∷ card-first ∷ zeros-after ∷ table-written ∷ table-short ∷ atoms-first ∷ list-of-9
     ∷ two-open ∷ after-closed ∷ given-refused ∷ state-first ∷ no-room ∷ []
 
 -- opens every definition of this module but the table, for what is proved by computation
@@ -511,7 +565,7 @@ unfolding
     ascii lines said frontShown callReply playing fresh atOpening cleared extension holding actionNumbers saidNext reply cardOf answer
     k1 k4 k5 moving k6 starts turning eleven bare growing act unary tableWith
     bench-card presses-refused presses-made swallowed-add mixed-space conditions-56 wide-space no-bytes byte-more
-    objects-65 objects-64 roles-1 roles-7 two-starts two-rounds three-arguments two-digits empty-lists conditions-64 condition-65 section-written
+    objects-65 objects-64 roles-1 roles-7 two-starts nested-chain two-rounds three-arguments two-digits empty-lists conditions-64 condition-65 section-written
     section-past short-first card-first zeros-after table-written table-short atoms-first list-of-9
     armed two-open after-closed given-refused state-first crowding no-room
 vectors-open = tt

@@ -2,4 +2,4 @@ pub mod LinesLeft
 pub mod Columns
 pub mod LimitLines
 pub mod SectionLengths
-pub mod MinimalLines
+pub mod ComparisonLines

@@ -1,21 +1,25 @@
--- How long the T, M, D and X lines of a space are together, for whoever has to show that there is room.
-use Prim.Native.Nat.{ℕ, _*_, _≤_, _<_}
+-- How long the T, M, D, X and E lines of a space are together, for whoever has to show that there is room.
+use Prim.Native.Nat.{ℕ, _+_, _*_, _≤_, _<_}
+use native.Mathlib.Nat.{mul-le-mul-right}
 use native.Mathlib.Omega.{arith}
-use mathlib.Core.Path.{refl, ap, _∙_}
+use mathlib.Core.Path.{_≡_, refl, sym, ap, subst, _∙_}
 use mathlib.Core.Bool.{Bool}
-use mathlib.Core.List.{List, [], _∷_, _++_, map, flatMap, List·Memᴰ, List·Memᴰ·head, List·Memᴰ·tail}
+use mathlib.Core.List.{List, [], _∷_, _++_, map, flatMap, List·Memᴰ}
 use lib.Dec.{leb}
 use lib.ListN.{length, getD, length-append}
 use Rattle.laws.specs.Bags.{Bag}
 use Rattle.laws.specs.Lists.{keep}
 use Rattle.laws.proofs.Counting.{count-most}
 use Rattle.laws.proofs.Lists.{keep-at, length-keep, flatMap-append}
-use Rattle.model.specs.Lines.{state, limit, membership, exclusion, exclusions, excluded, minimal, largest, countOf}
+use Rattle.model.specs.Lines.{Line, state, limit, membership, exclusions, nestings, minimal, largest, countOf}
 use Rattle.model.specs.Text.{lineText, text}
+use Rattle.model.proofs.Sections.{exclusion-line, nesting-line}
+use Rattle.model.proofs.Nestings.{pairs-few}
+use Rattle.sections.specs.Comparisons.{comparisonLines}
 use Rattle.sections.specs.Limits.{limitsBy}
-use Rattle.sections.proofs.MinimalLines.{minimal-below, minimal-few}
+use Rattle.sections.proofs.ComparisonLines.{minimal-below, minimal-few}
 use Rattle.masks.proofs.Ascending.{Below}
-use Rattle.text.proofs.Lengths.{state-length, limit-length, membership-length, exclusion-length, text-length}
+use Rattle.text.proofs.Lengths.{state-length, limit-length, membership-length, exclusion-length, nesting-length, text-length}
 
 -- no more is kept than there is
 keep-shorter : {A : Type 0} (test : A → Bool) (xs : List A) → length (keep test xs) ≤ length xs
@@ -39,37 +43,61 @@ limits-length arities properties (b ∷ bags) h most =
       keep-shorter (λ c. leb 2 (getD arities c 0)) properties,
     )
 
+-- lines of at most so many bytes
+lines-length : (most : ℕ) (lines : List Line) → ((l : Line) → List·Memᴰ l lines → length (lineText l) ≤ most)
+    → length (text lines) ≤ most * length lines
+lines-length most lines h = subst (λ (ls : List Line). length (text ls) ≤ most * length lines) (map-id lines) (text-length most (λ l. l) lines h)
+  where
+    map-id : (ls : List Line) → map (λ l. l) ls ≡ ls
+    map-id [] = refl
+    map-id (l ∷ ls) = ap (λ (rest : List Line). l ∷ rest) (map-id ls)
+
 -- D lines: at most 5 bytes each
 memberships-length : (indices : List ℕ) → Below 100 indices → length (text (map membership indices)) ≤ 5 * length indices
 memberships-length indices h = text-length 5 membership indices (λ i m. membership-length i (h i m))
 
--- X lines: at most 8 bytes each, and at most 64 for each index
-exclusions-length : (bags : List Bag) (indices : List ℕ) → Below 100 indices → length indices ≤ 64
-    → length (text (exclusions bags indices)) ≤ 512 * length indices
-unfolding exclusions text flatMap
-exclusions-length bags [] h few = omega arith
-exclusions-length bags (i ∷ later) h few =
-    omega (
-      arith,
-      ap length (flatMap-append lineText (map (exclusion i) (keep (excluded bags i) later)) (exclusions bags later))
-          ∙ length-append (text (map (exclusion i) (keep (excluded bags i) later))) (text (exclusions bags later)),
-      text-length 8 (exclusion i) (keep (excluded bags i) later)
-          (λ j m. exclusion-length i j (h i (List·Memᴰ·head refl)) (h j (List·Memᴰ·tail (keep-at _ later j m .0)))),
-      keep-shorter (excluded bags i) later,
-      exclusions-length bags later (λ j m. h j (List·Memᴰ·tail m)) (omega arith),
-    )
+-- X and E lines: at most 8 bytes each
+exclusions-length : (bags : List Bag) (indices : List ℕ) → Below 100 indices
+    → length (text (exclusions bags indices)) ≤ 8 * length (exclusions bags indices)
+exclusions-length bags indices h =
+    lines-length 8 (exclusions bags indices)
+    (λ line m.
+    let r = exclusion-line bags indices line m in
+    subst (λ (l : Line). length (lineText l) ≤ 8) (sym (r .3)) (exclusion-length (r .0) (r .1) (h (r .0) (r .4)) (h (r .1) (r .5))))
 
--- D and X lines of at most 64 conditions
-pub minimal-length : (bags : List Bag) → length bags ≤ 64
-    → length (text (map membership (minimal bags) ++ exclusions bags (minimal bags))) ≤ 33088
+nestings-length : (bags : List Bag) → length bags ≤ 64 → length (text (nestings bags)) ≤ 8 * length (nestings bags)
+nestings-length bags few =
+    lines-length 8 (nestings bags)
+    (λ line m.
+    let r = nesting-line bags line m in
+    subst (λ (l : Line). length (lineText l) ≤ 8) (sym (r .5)) (nesting-length (r .0) (r .1) (omega (arith, r .2)) (omega (arith, r .3))))
+
+-- and together no more than there are pairs of conditions: at most 16,128 bytes
+pairs-length : (bags : List Bag) → length bags ≤ 64 → length (text (exclusions bags (minimal bags) ++ nestings bags)) ≤ 16128
 unfolding text
-minimal-length bags few =
-    let indices : Below 100 (minimal bags) = λ i m. omega (arith, minimal-below bags i m) in
+pairs-length bags few =
     omega (
       arith,
-      ap length (flatMap-append lineText (map membership (minimal bags)) (exclusions bags (minimal bags)))
-          ∙ length-append (text (map membership (minimal bags))) (text (exclusions bags (minimal bags))),
-      memberships-length (minimal bags) indices,
-      exclusions-length bags (minimal bags) indices (omega (arith, minimal-few bags)),
+      ap length (flatMap-append lineText (exclusions bags (minimal bags)) (nestings bags))
+          ∙ length-append (text (exclusions bags (minimal bags))) (text (nestings bags)),
+      exclusions-length bags (minimal bags) (λ i m. omega (arith, minimal-below bags i m)),
+      nestings-length bags few,
+      pairs-few bags,
+      few-pairs (length bags) few,
+    )
+  where
+    few-pairs : (n : ℕ) → n ≤ 64 → n * n ≤ 63 * n + n
+    few-pairs n h = omega (arith, mul-le-mul-right n h)
+
+-- D, X and E lines of at most 64 conditions
+pub comparisons-length : (bags : List Bag) → length bags ≤ 64 → length (text (comparisonLines bags)) ≤ 16448
+unfolding text comparisonLines
+comparisons-length bags few =
+    omega (
+      arith,
+      ap length (flatMap-append lineText (map membership (minimal bags)) (exclusions bags (minimal bags) ++ nestings bags))
+          ∙ length-append (text (map membership (minimal bags))) (text (exclusions bags (minimal bags) ++ nestings bags)),
+      memberships-length (minimal bags) (λ i m. omega (arith, minimal-below bags i m)),
       minimal-few bags,
+      pairs-length bags few,
     )

@@ -9,10 +9,10 @@ use Rattle.masks.specs.Sets.{commonOf}
 use Rattle.model.specs.Lines.{Line, exclusion}
 
 -- no condition contains both
-unfoldable pub apartBy : List ℕ → ℕ → ℕ → Bool
-apartBy masks i j = eqb (commonOf (getD masks i 0) (getD masks j 0)) 0
+unfoldable pub excludedBy : List ℕ → ℕ → ℕ → Bool
+excludedBy masks i j = eqb (commonOf (getD masks i 0) (getD masks j 0)) 0
 
 -- as the model's exclusions, by these masks
 unfoldable pub exclusionsBy : List ℕ → List ℕ → List Line
 exclusionsBy masks [] = []
-exclusionsBy masks (i ∷ later) = map (exclusion i) (keep (apartBy masks i) later) ++ exclusionsBy masks later
+exclusionsBy masks (i ∷ later) = map (exclusion i) (keep (excludedBy masks i) later) ++ exclusionsBy masks later

@@ -1,2 +1,4 @@
 pub mod Limits
 pub mod Exclusions
+pub mod Nestings
+pub mod Comparisons

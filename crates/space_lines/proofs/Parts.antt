@@ -1,11 +1,12 @@
--- The text of a section part by part: the S line, all T, all M, and all D with all X.
+-- The text of a section part by part: the S line, all T, all M, and all D with all X and all E.
 use Prim.Native.Nat.{ℕ}
 use mathlib.Core.List.{List, _++_, map}
 use Rattle.laws.specs.Bags.{Bag}
 use Rattle.laws.proofs.Lists.{flatMap-append}
-use Rattle.model.specs.Lines.{Line, space, state, membership, minimal, exclusions}
+use Rattle.model.specs.Lines.{Line, space, state}
 use Rattle.model.specs.Spaces.{Kind}
 use Rattle.model.specs.Text.{lineText, text}
+use Rattle.sections.specs.Comparisons.{comparisonLines}
 use Rattle.sections.specs.Limits.{limitsBy}
 use Rattle.sections.proofs.LinesLeft.{first-line}
 use Rattle.text.proofs.Writing.{Begins}
@@ -18,9 +19,9 @@ text-parts lines more = record { path = flatMap-append lineText lines more }
 
 module _ (arities own : List ℕ) (bags : List Bag) where
   pub limits-first : Begins (text (invariantLines arities own bags)) (text (limitsBy arities own bags))
-      (text (map membership (minimal bags) ++ exclusions bags (minimal bags)))
+      (text (comparisonLines bags))
   unfolding invariantLines
-  limits-first = text-parts (limitsBy arities own bags) (map membership (minimal bags) ++ exclusions bags (minimal bags))
+  limits-first = text-parts (limitsBy arities own bags) (comparisonLines bags)
 
   pub states-first : Begins (text (conditionLines arities own bags)) (text (map state bags)) (text (invariantLines arities own bags))
   unfolding conditionLines

@@ -1,4 +1,4 @@
--- A space's section is no longer than 65,536 bytes.
+-- A space's section is no longer than 65,536 bytes: at most 383 for S, 23,296 for T, 660 for M, 320 for D, 16,128 for X and E.
 use Prim.Native.Nat.{ℕ, _+_, _*_, _≤_, _<_}
 use native.Mathlib.Omega.{arith}
 use mathlib.Core.Path.{_≡_, refl, sym, ap, subst, _∙_}
@@ -17,7 +17,7 @@ use Rattle.model.specs.Spaces.{Kind}
 use Rattle.model.specs.Text.{text}
 use Rattle.properties.specs.Tables.{stride, bagAt, bagsIn}
 use Rattle.properties.proofs.RowTables.{length-bagsIn}
-use Rattle.sections.proofs.SectionLengths.{states-length, limits-length, minimal-length}
+use Rattle.sections.proofs.SectionLengths.{states-length, limits-length, comparisons-length}
 use Rattle.text.specs.Room.{Room}
 use Rattle.masks.proofs.Ascending.{Below}
 use Rattle.text.proofs.Lengths.{parts-length, space-length}
@@ -69,7 +69,7 @@ bag-of-table bound size count table h b m =
 -- the lines of at most 64 conditions over at most 60 properties
 conditions-length : (arities own : List ℕ) (bags : List Bag) → length bags ≤ 64 → length own ≤ 60 → Below 100 own
     → ((b : Bag) → List·Memᴰ b bags → (length b ≤ 60) × Below 100000 b)
-    → length (text (conditionLines arities own bags)) ≤ 57044
+    → length (text (conditionLines arities own bags)) ≤ 40404
 conditions-length arities own bags few narrow below small =
     omega (
       arith,
@@ -77,7 +77,7 @@ conditions-length arities own bags few narrow below small =
       parts-length (limits-first arities own bags),
       states-length bags small,
       limits-length arities own bags below (most-below 100000 (omega arith) own bags (λ b m. small b m .1)),
-      minimal-length bags few,
+      comparisons-length bags few,
     )
 
 -- so there is room for the whole section

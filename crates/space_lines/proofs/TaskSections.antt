@@ -11,12 +11,13 @@ use Rattle.laws.specs.Lists.{distinct}
 use Rattle.laws.proofs.Lists.{all-intro}
 use Rattle.masks.specs.Sets.{membersOf}
 use Rattle.model.specs.Card.{Task}
-use Rattle.model.specs.Lines.{space, state, membership, minimal, exclusions, spaceLines, arityOf, analyse}
+use Rattle.model.specs.Lines.{space, state, membership, minimal, exclusions, nestings, spaceLines, arityOf, analyse}
 use Rattle.model.specs.Spaces.{Space}
 use Rattle.model.specs.Transitions.{properties}
 use Rattle.model.proofs.ListedSpace.{space-of-analysis}
 use Rattle.properties.specs.Tables.{stride, bagsIn}
 use Rattle.sections.proofs.LimitLines.{limits-are}
+use Rattle.sections.specs.Comparisons.{comparisonLines}
 use Rattle.sections.specs.Limits.{limitsBy}
 use Rattle.text.specs.Kinds.{kindSays}
 use Rattle.text.specs.declared.kinds.Kind.{Kind}
@@ -27,13 +28,14 @@ use Rattle.space_lines.proofs.Conditions.{rows-there, few-conditions, b
 section-lines : (t : Task) (number : ℕ) (u : Space) (arities : List ℕ) → ((c : ℕ) → List·Memᴰ c (u .properties) → arityOf t c ≡ getD arities c 0)
     → spaceLines t number (analyse t u)
     ≡ ownLines number (analyse t u .kind) (u .properties) (u .members) arities (analyse t u .conditions)
-unfolding spaceLines ownLines conditionLines invariantLines
+unfolding spaceLines ownLines conditionLines invariantLines comparisonLines
 section-lines t number u arities h =
     let bags = analyse t u .conditions in
     rw (space-of-analysis t u, limits-are arities (u .properties) bags t h)
     (ap (λ lines. space number (analyse t u .kind) (u .properties) (u .members) ∷ lines)
-    (append-assoc (map state bags ++ limitsBy arities (u .properties) bags) (map membership (minimal bags)) (exclusions bags (minimal bags))
-    ∙ append-assoc (map state bags) (limitsBy arities (u .properties) bags) (map membership (minimal bags) ++ exclusions bags (minimal bags))))
+    (append-assoc (map state bags ++ limitsBy arities (u .properties) bags ++ map membership (minimal bags)) (exclusions bags (minimal bags)) (nestings bags)
+    ∙ append-assoc (map state bags ++ limitsBy arities (u .properties) bags) (map membership (minimal bags)) (exclusions bags (minimal bags) ++ nestings bags)
+    ∙ append-assoc (map state bags) (limitsBy arities (u .properties) bags) (comparisonLines bags)))
 
 -- A space of a task, its properties among the task's and few enough for a row.
 module _ (t : Task) (u : Space) (narrow : length (u .properties) ≤ stride) (below : (c : ℕ) → List·Memᴰ c (u .properties) → c < length (properties t))

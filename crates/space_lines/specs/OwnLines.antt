@@ -9,17 +9,18 @@ use Rattle.laws.specs.Bags.{Bag}
 use Rattle.laws.specs.Lists.{all, distinct}
 use Rattle.masks.specs.Sets.{membersOf}
 use Rattle.model.specs.Card.{Task}
-use Rattle.model.specs.Lines.{Line, space, state, membership, minimal, exclusions, arityOf, analyse}
+use Rattle.model.specs.Lines.{Line, space, state, arityOf, analyse}
 use Rattle.model.specs.Spaces as model
 use Rattle.model.specs.Transitions.{properties}
 use Rattle.properties.specs.Tables.{rowsBefore, HasRows}
+use Rattle.sections.specs.Comparisons.{comparisonLines}
 use Rattle.sections.specs.Limits.{limitsBy}
 use Rattle.text.specs.Kinds.{kindSays}
 use Rattle.text.specs.declared.kinds.Kind.{Kind}
 
--- all M, all D, all X
+-- all M, all D, all X, all E
 unfoldable pub invariantLines : List ℕ → List ℕ → List Bag → List Line
-invariantLines arities own bags = limitsBy arities own bags ++ (map membership (minimal bags) ++ exclusions bags (minimal bags))
+invariantLines arities own bags = limitsBy arities own bags ++ comparisonLines bags
 
 -- all T, and these
 unfoldable pub conditionLines : List ℕ → List ℕ → List Bag → List Line

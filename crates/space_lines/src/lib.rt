@@ -1,7 +1,7 @@
-// The section of a space as text: its `S` line and, for a property space, all `T`, all `M`, all `D` and all `X` lines.
-// Document 01, "Listing".
+// The section of a space as text: its `S` line and, for a property space, all `T`, all `M`, all `D`, all `X` and all `E` lines.
+// Document 01, "Listing", and document 02, No. 2.
+use sections::comparisons::write_comparisons;
 use sections::limits::write_limits;
-use sections::minimal::write_minimal;
 use sections::states::write_states;
 use text::kinds::Kind;
 ghost use lib.ListN.{length};
@@ -13,7 +13,7 @@ ghost use Rattle.text.specs.Room.{Room};
 ghost use Rattle.text.specs.Written.{Writes};
 ghost use Rattle.space_lines.specs.OwnLines.{invariantLines, conditionLines, ownLines, Listable};
 
-// The invariants that the conditions in a table give: all `M`, all `D` and all `X` lines.
+// The invariants that the conditions in a table give, all `M`, all `D` and all `X` lines, and the `E` lines.
 fn write_invariants(
     out: &mut [u8],
     table: &[u16],
@@ -32,7 +32,7 @@ fn write_invariants(
         ⌝ }
 {
     let at = write_limits(out, table, count, own, arities);
-    let n = write_minimal(&mut out[at..], table, count, own.len());
+    let n = write_comparisons(&mut out[at..], table, count, own.len());
     at + n
 }
 

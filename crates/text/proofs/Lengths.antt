@@ -6,10 +6,10 @@ use mathlib.Core.Path.{_≡_, refl, ap, _∙_}
 use mathlib.Core.List.{List, [], _∷_, _++_, map, flatMap, List·Memᴰ, List·Memᴰ·head, List·Memᴰ·tail}
 use lib.ListN.{length, length-append}
 use Rattle.masks.proofs.Ascending.{Below}
-use Rattle.model.specs.Lines.{Line, space, state, limit, membership, exclusion, total, ceiling, types}
+use Rattle.model.specs.Lines.{Line, space, state, limit, membership, exclusion, nesting, total, ceiling, types}
 use Rattle.model.specs.Text.{decimal, items, spaced, lineText, text}
 use Rattle.model.specs.Spaces.{Kind}
-use Rattle.text.specs.Letters.{newline, letterC, letterD, letterF, letterM, letterR, letterS, letterX}
+use Rattle.text.specs.Letters.{newline, letterC, letterD, letterE, letterF, letterM, letterR, letterS, letterX}
 use Rattle.text.specs.Numbers.{numbers, lastNumbers}
 use Rattle.text.proofs.Decimal.{two-digits, five-digits}
 use Rattle.text.proofs.LineTexts.{one-number, two-numbers, state-parts, types-parts, head-parts, front-parts, space-parts, membership-end}
@@ -59,7 +59,7 @@ pair-length letter a b = simp length-append (omega (arith, two-length letter a b
 pub state-length : (counts : List ℕ) → Below 100000 counts → length (lineText (state counts)) ≤ 4 + 6 * length counts
 state-length counts h = omega (arith, parts-length (state-parts counts), last-numbers-length counts, five-digit-numbers counts h)
 
--- M, D, X, F, C
+-- M, D, X, E, F, C
 pub limit-length : (c most : ℕ) → c < 100 → most < 100000 → length (lineText (limit c most)) ≤ 11
 unfolding lineText items
 limit-length c most h k = omega (arith, pair-length letterM c most, two-digits c h, five-digits most k)
@@ -70,6 +70,10 @@ membership-length i h = omega (arith, parts-length (membership-end i), one-lengt
 pub exclusion-length : (i j : ℕ) → i < 100 → j < 100 → length (lineText (exclusion i j)) ≤ 8
 unfolding lineText items
 exclusion-length i j h k = omega (arith, pair-length letterX i j, two-digits i h, two-digits j k)
+
+pub nesting-length : (i j : ℕ) → i < 100 → j < 100 → length (lineText (nesting i j)) ≤ 8
+unfolding lineText items
+nesting-length i j h k = omega (arith, pair-length letterE i j, two-digits i h, two-digits j k)
 
 pub total-length : (p n : ℕ) → p < 100 → n < 100000 → length (lineText (total p n)) ≤ 11
 unfolding lineText items

@@ -16,6 +16,9 @@ letterC = 67
 abbrev pub letterD : ℕ
 letterD = 68
 
+abbrev pub letterE : ℕ
+letterE = 69
+
 abbrev pub letterF : ℕ
 letterF = 70
 

@@ -2,7 +2,7 @@
 use crate::numbers::write_one;
 use crate::numbers::write_two;
 ghost use mathlib.Core.List.{[], _∷_, _++_};
-ghost use Rattle.model.specs.Lines.{limit, membership, exclusion, total, ceiling};
+ghost use Rattle.model.specs.Lines.{limit, membership, exclusion, nesting, total, ceiling};
 ghost use Rattle.model.specs.Text.{decimal, spaced, lineText};
 ghost use Rattle.text.specs.Letters.{newline};
 ghost use Rattle.text.specs.Room.{Room};
@@ -42,6 +42,14 @@ pub fn write_exclusion(out: &mut [u8], i: usize, j: usize) -> usize
     ensures { λ r. ⌜ Writes (lineText (exclusion i j)) (now (out .entry)) (now (out .exit)) r ⌝ }
 {
     write_pair(out, b'X', i, j)
+}
+
+// `E`: the index of a condition, and that of one that it is strictly within.
+pub fn write_nesting(out: &mut [u8], i: usize, j: usize) -> usize
+    requires { ⌜ Room (lineText (nesting i j)) (now out) ⌝ }
+    ensures { λ r. ⌜ Writes (lineText (nesting i j)) (now (out .entry)) (now (out .exit)) r ⌝ }
+{
+    write_pair(out, b'E', i, j)
 }
 
 // `F`: a predicate and its total.

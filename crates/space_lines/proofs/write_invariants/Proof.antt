@@ -1,4 +1,4 @@
--- `write_invariants` meets its contract: all `M` lines, and all `D` and `X` lines into the rest of the buffer.
+-- `write_invariants` meets its contract: all `M` lines, and all `D`, `X` and `E` lines into the rest of the buffer.
 use native.Mathlib.Omega.{arith}
 use borrow.Author.Needs.{needs}
 use Rattle.space_lines.proofs.Parts.{limits-first}
@@ -15,18 +15,18 @@ write-limits-requires c κs =
     let pre = c .before .before .before .before .before .pre in
     (pre .0 .rows, pre .0 .apart, pre .0 .known, first-fits (limits-first _ _ _) (pre .1))
 
-sub-write-minimal : tie.Need-sub-write-minimal
-sub-write-minimal c =
+sub-write-comparisons : tie.Need-sub-write-comparisons
+sub-write-comparisons c =
     let written = c .before .before in rest-inside (limits-first _ _ _) (entry written .pre .1) (written .write-limits .ensures)
 
-part-write-minimal-start : tie.Need-part-write-minimal-start
-part-write-minimal-start c = sub-write-minimal c
+part-write-comparisons-start : tie.Need-part-write-comparisons-start
+part-write-comparisons-start c = sub-write-comparisons c
 
-part-write-minimal-end : tie.Need-part-write-minimal-end
-part-write-minimal-end c = search needs
+part-write-comparisons-end : tie.Need-part-write-comparisons-end
+part-write-comparisons-end c = search needs
 
-write-minimal-requires : tie.Need-write-minimal-requires
-write-minimal-requires c κs =
+write-comparisons-requires : tie.Need-write-comparisons-requires
+write-comparisons-requires c κs =
     let written = c .before .before .before in
     let pre = entry written .pre in
     (pre .0 .rows, pre .0 .few, second-fits (limits-first _ _ _) (pre .1) (written .write-limits .ensures))
@@ -37,7 +37,7 @@ same-length c = search needs
 returns : tie.Need-returns
 returns c =
     let written = c .before .before .before .before .before .before in
-    both (limits-first _ _ _) (entry written .pre .1) (written .write-limits .ensures) (c .before .before .write-minimal .ensures)
+    both (limits-first _ _ _) (entry written .pre .1) (written .write-limits .ensures) (c .before .before .write-comparisons .ensures)
 
 add-result : tie.Need-add-result
 add-result c = let whole = returns c in omega arith
@@ -45,5 +45,5 @@ add-result c = let whole = returns c in omega arith
 pub write-invariants-spec : {M : Type 1} → statement M
 write-invariants-spec =
     tie.close
-    (tie.spec write-limits-requires sub-write-minimal part-write-minimal-start part-write-minimal-end write-minimal-requires add-result same-length
-    returns)
+    (tie.spec write-limits-requires sub-write-comparisons part-write-comparisons-start part-write-comparisons-end write-comparisons-requires add-result
+    same-length returns)

@@ -1,71 +1,83 @@
--- `conditions::bags::compare` meets its contract: the counts from k on decide, and whether a larger count was met.
-use Prim.Native.Nat.{_-_}
-use mathlib.Core.Bool.{true, false}
-use mathlib.Core.Logic.{⊎-elim}
+-- `conditions::bags::compare` meets its contract: the first place at which the rows differ, and what is left in the direction that is possible.
+use Prim.Native.Nat.{_<_}
+use native.Mathlib.Omega.{arith}
 use borrow.Author.Needs.{needs}
-use Rattle.conditions.specs.Comparing.{comparison}
-use Rattle.conditions.proofs.Compared.{Compared, compared-none, compared-larger, compared-equal, compared-less, compared-whole}
+use Rattle.conditions.proofs.Compared.{rows-equal, place-inside, rows-within, rows-apart, rows-around, rows-lacking}
 use Rattle.conditions.proofs.bags.compare.Statement.{statement}
 use Rattle.conditions.proofs.bags.compare.Tie as tie
 
-abbrev Inv-loop : tie.InvT-loop
-Inv-loop table size i j first second above₀ k₀ above k = Compared size i j table above k
+first-difference-requires : tie.Need-first-difference-requires
+first-difference-requires c κs = search needs
 
-abbrev μ-loop : tie.MeasureT-loop
-μ-loop table size i j first second above₀ k₀ above k = size - k
+returns : tie.Need-returns
+returns c = rows-equal (c .before .before .before .pre) (c .before .first-difference .ensures) (c .if1 .taken)
 
-mul-first : tie.Need-mul-first Inv-loop μ-loop
-mul-first c = search needs
+-- the place at which they differ is inside
+inside : (c : tie.Else1) → c .before .first-difference .result < c .before .before .before .args .size
+inside c = place-inside (c .before .before .before .pre) (c .before .first-difference .ensures) (c .if1 .left)
 
-mul-second : tie.Need-mul-second Inv-loop μ-loop
-mul-second c = search needs
+mul-if2 : tie.Need-mul-if2
+mul-if2 c = omega (arith, inside c, c .before .before .before .pre .0 .inside)
 
-loop-holds : tie.Need-loop-holds Inv-loop μ-loop
-loop-holds c = compared-none (c .pre)
+add-if2 : tie.Need-add-if2
+add-if2 c = omega (arith, inside c, c .before .before .before .pre .0 .inside)
 
-add-count : tie.Need-add-count Inv-loop μ-loop
-add-count c = search needs
+mul-if2-2 : tie.Need-mul-if2-2
+mul-if2-2 c = omega (arith, inside c, c .before .before .before .pre .0 .inside)
 
-mul-count : tie.Need-mul-count Inv-loop μ-loop
-mul-count c = search needs
+shared-slice-read-if2 : tie.Need-shared-slice-read-if2
+shared-slice-read-if2 c = omega (arith, inside (c .before), c .before .before .before .before .pre .0 .inside)
 
-shared-slice-read-count : tie.Need-shared-slice-read-count Inv-loop μ-loop
-shared-slice-read-count c = search needs
+mul-if2-3 : tie.Need-mul-if2-3
+mul-if2-3 c = omega (arith, inside (c .before), c .before .before .before .before .pre .1 .inside)
 
-add-other : tie.Need-add-other Inv-loop μ-loop
-add-other c = search needs
+add-if2-2 : tie.Need-add-if2-2
+add-if2-2 c = omega (arith, inside (c .before), c .before .before .before .before .pre .1 .inside)
 
-mul-other : tie.Need-mul-other Inv-loop μ-loop
-mul-other c = search needs
+mul-if2-4 : tie.Need-mul-if2-4
+mul-if2-4 c = omega (arith, inside (c .before), c .before .before .before .before .pre .1 .inside)
 
-shared-slice-read-other : tie.Need-shared-slice-read-other Inv-loop μ-loop
-shared-slice-read-other c = search needs
+shared-slice-read-if2-2 : tie.Need-shared-slice-read-if2-2
+shared-slice-read-if2-2 c = omega (arith, inside (c .before .before), c .before .before .before .before .before .pre .1 .inside)
 
-returns : tie.Need-returns Inv-loop μ-loop
-returns c = compared-less (c .before .before .before .before .loop .inv) (c .before .before .before .loop-test .taken) (c .if1 .taken)
+covers-from-requires : tie.Need-covers-from-requires
+covers-from-requires c κs =
+    let differing = c .before .before .before in
+    let h = differing .before .before .before .pre in
+    (h .1, h .0, omega (arith, inside differing))
 
-add-k : tie.Need-add-k Inv-loop μ-loop
-add-k c = search needs
+returns-2 : tie.Need-returns-2
+returns-2 c =
+    let differing = c .before .before .before .before .before in
+    rows-within (differing .before .before .before .pre) (differing .before .first-difference .ensures) (differing .if1 .left) (c .before .before .if2 .taken)
+    (c .before .covers-from .ensures) (c .if3 .taken)
 
-loop-less : tie.Need-loop-less Inv-loop μ-loop
-loop-less c = search needs
+returns-3 : tie.Need-returns-3
+returns-3 c =
+    let differing = c .before .before .before .before .before in
+    rows-apart (differing .before .before .before .pre) (differing .before .first-difference .ensures) (differing .if1 .left) (c .before .before .if2 .taken)
+    (c .before .covers-from .ensures) (c .if3 .left)
 
-loop-again : tie.Need-loop-again Inv-loop μ-loop
-loop-again c =
-    let l = c .before .before .before .before .before .loop .inv in
-    let h = c .before .before .before .before .loop-test .taken in
-    ⊎-elim (λ w. compared-larger l (w .1) h (w .0 .taken)) (λ w. compared-equal l (w .1) h (w .0 .left) (c .before .if1 .left)) (c .if2 .came)
+covers-from-requires-2 : tie.Need-covers-from-requires-2
+covers-from-requires-2 c κs =
+    let differing = c .before .before .before in
+    let h = differing .before .before .before .pre in
+    (h .0, h .1, omega (arith, inside differing))
 
-returns-2 : tie.Need-returns-2 Inv-loop μ-loop
-unfolding comparison
-returns-2 c = compared-whole (c .before .before .loop .inv) (c .before .loop-test .left) (c .if3 .taken)
+returns-4 : tie.Need-returns-4
+returns-4 c =
+    let differing = c .before .before .before .before .before in
+    rows-around (differing .before .before .before .pre) (differing .before .first-difference .ensures) (differing .if1 .left) (c .before .before .if2 .left)
+    (c .before .covers-from2 .ensures) (c .if4 .taken)
 
-returns-3 : tie.Need-returns-3 Inv-loop μ-loop
-unfolding comparison
-returns-3 c = compared-whole (c .before .before .loop .inv) (c .before .loop-test .left) (c .if3 .left)
+returns-5 : tie.Need-returns-5
+returns-5 c =
+    let differing = c .before .before .before .before .before in
+    rows-lacking (differing .before .before .before .pre) (differing .before .first-difference .ensures) (differing .if1 .left) (c .before .before .if2 .left)
+    (c .before .covers-from2 .ensures) (c .if4 .left)
 
 pub compare-spec : {M : Type 1} → statement M
 compare-spec =
     tie.close
-    (tie.spec Inv-loop μ-loop mul-first mul-second loop-holds add-count mul-count shared-slice-read-count add-other mul-other shared-slice-read-other
-    returns add-k loop-less loop-again returns-2 returns-3)
+    (tie.spec first-difference-requires returns mul-if2 add-if2 mul-if2-2 shared-slice-read-if2 mul-if2-3 add-if2-2 mul-if2-4
+    shared-slice-read-if2-2 covers-from-requires returns-2 returns-3 covers-from-requires-2 returns-4 returns-5)

@@ -6,7 +6,7 @@ use lib.ListN.{length}
 use Rattle.laws.specs.Lists.{keep}
 use Rattle.model.specs.Lines.{exclusion}
 use Rattle.model.specs.Text.{text}
-use Rattle.sections.specs.Exclusions.{apartBy}
+use Rattle.sections.specs.Exclusions.{excludedBy}
 use Rattle.sections.proofs.LinesLeft.{exclusionsFrom, exclusions-start, exclusion-next, exclusion-skipped, exclusions-end, index-below}
 use Rattle.text.proofs.Writing.{Remains, remains-as, start, next-fits, next, finish}
 use borrow.Author.Needs.{needs}
@@ -15,7 +15,7 @@ use Rattle.sections.proofs.minimal.write_exclusions_of.Tie as tie
 
 abbrev Inv-loop : tie.InvT-loop
 Inv-loop out₀ containing i later own at₀ k₀ out at k =
-    Remains (text (map (exclusion i) (keep (apartBy containing i) later))) (exclusionsFrom containing i later k) out₀ out at
+    Remains (text (map (exclusion i) (keep (excludedBy containing i) later))) (exclusionsFrom containing i later k) out₀ out at
     × (k ≤ length later)
 
 abbrev μ-loop : tie.MeasureT-loop

@@ -1,10 +1,10 @@
--- `write_minimal` meets its contract: all `D` lines, and all `X` lines into the rest of the buffer.
+-- `write_comparisons` meets its contract: all `D` lines, and all `X` and `E` lines into the rest of the buffer.
 use native.Mathlib.Omega.{arith}
 use borrow.Author.Needs.{needs}
-use Rattle.sections.proofs.MinimalLines.{indices-inside, masks-there, minimal-parts}
+use Rattle.sections.proofs.ComparisonLines.{indices-inside, masks-long, masks-there, comparison-parts}
 use Rattle.text.proofs.Writing.{first-fits, rest-inside, second-fits, both}
-use Rattle.sections.proofs.minimal.write_minimal.Statement.{statement}
-use Rattle.sections.proofs.minimal.write_minimal.Tie as tie
+use Rattle.sections.proofs.comparisons.write_comparisons.Statement.{statement}
+use Rattle.sections.proofs.comparisons.write_comparisons.Tie as tie
 
 -- earlier points of the function: the start, from the minimal conditions; these, from the `D` lines
 abbrev entry : tie.After-minimal-of → tie.Start
@@ -30,39 +30,40 @@ write-memberships-requires : tie.Need-write-memberships-requires
 write-memberships-requires c κs =
     let found = c .before .before .before .before .before in
     let pre = entry found .pre in
-    first-fits (minimal-parts _ _ _ (pre .1) (found .minimal-of .ensures)) (pre .2)
+    first-fits (comparison-parts _ _ _ (pre .1) (found .minimal-of .ensures)) (pre .2)
 
-sub-write-exclusions : tie.Need-sub-write-exclusions
-sub-write-exclusions c =
+sub-write-pairs : tie.Need-sub-write-pairs
+sub-write-pairs c =
     let listed = c .before .before in
     let pre = entry (minimal listed) .pre in
-    rest-inside (minimal-parts _ _ _ (pre .1) (minimal listed .minimal-of .ensures)) (pre .2) (listed .write-memberships .ensures)
+    rest-inside (comparison-parts _ _ _ (pre .1) (minimal listed .minimal-of .ensures)) (pre .2) (listed .write-memberships .ensures)
 
-part-write-exclusions-start : tie.Need-part-write-exclusions-start
-part-write-exclusions-start c = sub-write-exclusions c
+part-write-pairs-start : tie.Need-part-write-pairs-start
+part-write-pairs-start c = sub-write-pairs c
 
-part-write-exclusions-end : tie.Need-part-write-exclusions-end
-part-write-exclusions-end c = search needs
+part-write-pairs-end : tie.Need-part-write-pairs-end
+part-write-pairs-end c = search needs
 
-slice-aggregate-write-exclusions : tie.Need-slice-aggregate-write-exclusions
-slice-aggregate-write-exclusions c = search needs
+slice-aggregate-write-pairs : tie.Need-slice-aggregate-write-pairs
+slice-aggregate-write-pairs c = search needs
 
-sub-write-exclusions-2 : tie.Need-sub-write-exclusions-2
-sub-write-exclusions-2 c = search needs
+sub-write-pairs-2 : tie.Need-sub-write-pairs-2
+sub-write-pairs-2 c = search needs
 
-part-write-exclusions-start-2 : tie.Need-part-write-exclusions-start-2
-part-write-exclusions-start-2 c = search needs
+part-write-pairs-start-2 : tie.Need-part-write-pairs-start-2
+part-write-pairs-start-2 c = search needs
 
-part-write-exclusions-end-2 : tie.Need-part-write-exclusions-end-2
-part-write-exclusions-end-2 c =
+part-write-pairs-end-2 : tie.Need-part-write-pairs-end-2
+part-write-pairs-end-2 c =
     let found = minimal (c .before .before .before .before .before) in indices-inside _ _ _ (entry found .pre .1) (found .minimal-of .ensures)
 
-write-exclusions-requires : tie.Need-write-exclusions-requires
-write-exclusions-requires c κs =
+write-pairs-requires : tie.Need-write-pairs-requires
+write-pairs-requires c κs =
     let listed = c .before .before .before .before .before .before in
     let pre = entry (minimal listed) .pre in
     let found = minimal listed .minimal-of .ensures in
-    (masks-there _ _ _ (pre .1) found, second-fits (minimal-parts _ _ _ (pre .1) found) (pre .2) (listed .write-memberships .ensures))
+    let room = second-fits (comparison-parts _ _ _ (pre .1) found) (pre .2) (listed .write-memberships .ensures) in
+    (masks-long _ _ _ (pre .1) found, masks-there _ _ _ (pre .1) found, pre .1, room)
 
 same-length : tie.Need-same-length
 same-length c = search needs
@@ -71,15 +72,15 @@ returns : tie.Need-returns
 returns c =
     let listed = c .before .before .before .before .before .before .before .before .before in
     let pre = entry (minimal listed) .pre in
-    both (minimal-parts _ _ _ (pre .1) (minimal listed .minimal-of .ensures)) (pre .2) (listed .write-memberships .ensures)
-    (c .before .before .write-exclusions .ensures)
+    both (comparison-parts _ _ _ (pre .1) (minimal listed .minimal-of .ensures)) (pre .2) (listed .write-memberships .ensures)
+    (c .before .before .write-pairs .ensures)
 
 add-result : tie.Need-add-result
 add-result c = let whole = returns c in omega arith
 
-pub write-minimal-spec : {M : Type 1} → statement M
-write-minimal-spec =
+pub write-comparisons-spec : {M : Type 1} → statement M
+write-comparisons-spec =
     tie.close
     (tie.spec minimal-of-requires sub-write-memberships part-write-memberships-start part-write-memberships-end write-memberships-requires
-    sub-write-exclusions part-write-exclusions-start part-write-exclusions-end slice-aggregate-write-exclusions sub-write-exclusions-2
-    part-write-exclusions-start-2 part-write-exclusions-end-2 write-exclusions-requires add-result same-length returns)
+    sub-write-pairs part-write-pairs-start part-write-pairs-end slice-aggregate-write-pairs sub-write-pairs-2
+    part-write-pairs-start-2 part-write-pairs-end-2 write-pairs-requires add-result same-length returns)
