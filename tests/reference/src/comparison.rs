@@ -5,7 +5,7 @@ mod open;
 pub use open::{every_press, missing_of_open};
 
 use crate::card::{decode, Schema, Task, OUTPUT_LEN};
-use crate::met::{every_answer, Call, Case, Met, LINES, SPACES};
+use crate::met::{every_answer, Call, Case, Met, LINES, NESTINGS, SPACES};
 use crate::proved::{Calls, Found};
 use crate::random::{write_unchecked, Malformed, Random, MALFORMED_PARTS};
 use crate::refusal::{BINDING, OUTPUT, SECTION, STATE};
@@ -163,12 +163,12 @@ const LONG_PRESS: Case = ("accepted press", "in a long buffer");
 const FULL_BEFORE: Case = ("accepted press", "on 1,024 facts");
 const FULL_AFTER: Case = ("accepted press", "to 1,024 facts");
 
-/// What random cards have to bring up and did not: every answer of the calls that take a card alone, every kind of space and of
-/// line, short and long buffers, section numbers past the last.
+/// What random cards have to bring up and did not: every answer of the calls that take a card alone, every kind of space, of line and
+/// of nesting, short and long buffers, section numbers past the last.
 pub fn missing_of_cards(met: &Met) -> Vec<String> {
     let calls = [Call::Check, Call::Initial, Call::Rewrite, Call::Section];
     let buffers = [SHORT_STATE, LONG_STATE, SHORT_OUTPUT, LONG_OUTPUT, NEAR_SECTION, FAR_SECTION];
-    met.missing(&every_answer(&calls), &[&SPACES[..], &LINES, &buffers].concat())
+    met.missing(&every_answer(&calls), &[&SPACES[..], &LINES, &NESTINGS, &buffers].concat())
 }
 
 /// What random histories have to bring up and did not: every answer of a press, every part of 15 and of 17, full states, short and

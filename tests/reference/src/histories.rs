@@ -1,11 +1,12 @@
-//! Random histories by one implementation's calls, every line of its listing checked against the state after each call.
+//! Random histories by one implementation's calls: the `E` lines of its listing checked against the `T` lines, and every other line
+//! against the state after each call.
 
 use crate::card::Task;
-use crate::met::{Call, Met, LINES, SPACES};
+use crate::met::{Call, Met, LINES, NESTINGS, SPACES};
 use crate::proved::Calls;
 use crate::random::{write_unchecked, Random};
 use crate::strips::{Press, FACT_LEN, STATE_LEN};
-use crate::truth::{check, Listing};
+use crate::truth::{check, check_nestings, Listing};
 use crate::vectors::to_hex;
 use std::fmt;
 
@@ -64,6 +65,7 @@ impl<'a> Histories<'a> {
     /// Says what is false, with the presses that led there.
     fn press_and_check(&mut self, task: &Task, card: &[u8], text: &str, most: usize, presses: &mut Vec<Press>) -> Result<(), String> {
         let listing = Listing::parse(text).ok_or("what was listed is no listing")?;
+        check_nestings(&listing)?;
         let mut state = vec![0; STATE_LEN];
         let mut count = self.calls.initial(card, &mut state).map_err(|refusal| format!("the opening call answers {refusal}"))?;
         self.check(task, &listing, text, &state[..count * FACT_LEN])?;
@@ -84,9 +86,9 @@ impl<'a> Histories<'a> {
         check(task, listing, facts)
     }
 
-    /// What never came up: a press that is accepted or refused by 16 to 20, a kind of space, a kind of line.
+    /// What never came up: a press that is accepted or refused by 16 to 20, a kind of space, of line or of nesting.
     pub fn missing(&self) -> Vec<String> {
         let answers = [0, 16, 17, 18, 19, 20].map(|answer| (Call::Press, answer));
-        self.met.missing(&answers, &[&SPACES[..], &LINES].concat())
+        self.met.missing(&answers, &[&SPACES[..], &LINES, &NESTINGS].concat())
     }
 }

@@ -1,8 +1,8 @@
-//! The listing's text: one section per space, then a closing section (document 01, "Listing").
+//! The listing's text: one section per space, then a closing section (document 01, "Listing"; `E` lines: document 02, request 2).
 
 use crate::card::{decode, Task, OUTPUT_LEN};
 use crate::refusal::*;
-use crate::tim::{contains, each, Analysis, Bags, Extension, Kind, Space};
+use crate::tim::{compare, contains, each, Analysis, Bags, Compared, Extension, Kind, Space};
 
 /// Writes one section from byte 0 of `out` and answers its length. Refuses by 1 to 14, then 21, then 22.
 pub fn section(card: &[u8], number: usize, out: &mut [u8]) -> Result<usize, u8> {
@@ -90,10 +90,7 @@ fn bag_lines(analysis: &Analysis, space: &Space, bags: &Bags, text: &mut Text) {
         let predicate = analysis.properties[property].predicate;
         if analysis.arity(predicate) >= 2 {
             let most = bags.iter().map(|bag| bag[place]).max().unwrap_or(0);
-            text.first("M");
-            text.number(property);
-            text.number(most.into());
-            text.end();
+            text.pair("M", property, most.into());
         }
     }
     let least: Vec<usize> = (0..bags.len()).filter(|&index| is_least(bags, index)).collect();
@@ -102,39 +99,48 @@ fn bag_lines(analysis: &Analysis, space: &Space, bags: &Bags, text: &mut Text) {
         text.number(index);
         text.end();
     }
+    exclusion_lines(bags, &least, text);
+    nesting_lines(bags, text);
+}
+
+/// Whether the bag strictly contains no other.
+fn is_least(bags: &Bags, index: usize) -> bool {
+    bags.iter().all(|other| compare(bags.row(index), other) != Compared::Around)
+}
+
+/// `X` lines: two least bags that no bag contains both of.
+fn exclusion_lines(bags: &Bags, least: &[usize], text: &mut Text) {
     for (after, &one) in least.iter().enumerate() {
         for &other in &least[after + 1..] {
             let both = |bag: &[u16]| contains(bag, bags.row(one)) && contains(bag, bags.row(other));
             if !bags.iter().any(both) {
-                text.first("X");
-                text.number(one);
-                text.number(other);
-                text.end();
+                text.pair("X", one, other);
             }
         }
     }
 }
 
-/// Whether the bag strictly contains no other. The bags are distinct.
-fn is_least(bags: &Bags, index: usize) -> bool {
-    (0..bags.len()).all(|other| other == index || !contains(bags.row(index), bags.row(other)))
+/// `E` lines: a bag that is strictly within another, and that other one; of all bags, least or not.
+fn nesting_lines(bags: &Bags, text: &mut Text) {
+    for inner in 0..bags.len() {
+        for outer in 0..bags.len() {
+            if compare(bags.row(inner), bags.row(outer)) == Compared::Within {
+                text.pair("E", inner, outer);
+            }
+        }
+    }
 }
 
 fn closing_section(task: &Task, analysis: &Analysis, extensions: &[Option<Extension>], text: &mut Text) {
     for predicate in 0..task.predicate_count {
         if let Some(total) = fixed_total(analysis, extensions, predicate) {
-            text.first("F");
-            text.number(predicate.into());
-            text.number(total);
-            text.end();
+            text.pair("F", predicate.into(), total);
         }
     }
     for predicate in 0..task.predicate_count {
         if never_grows(task, predicate) {
-            text.first("C");
-            text.number(predicate.into());
-            text.number(task.facts().iter().filter(|fact| fact.predicate == predicate).count());
-            text.end();
+            let facts = task.facts().iter().filter(|fact| fact.predicate == predicate).count();
+            text.pair("C", predicate.into(), facts);
         }
     }
     for (schema, parameters) in analysis.required.iter().enumerate() {
@@ -202,5 +208,13 @@ impl Text {
 
     fn end(&mut self) {
         self.bytes.push(b'\n');
+    }
+
+    /// A line of a letter and two numbers.
+    fn pair(&mut self, letter: &str, one: usize, other: usize) {
+        self.first(letter);
+        self.number(one);
+        self.number(other);
+        self.end();
     }
 }

@@ -1,7 +1,7 @@
 //! What a run has met: how often each call gave each answer, and how often each named case came up,
 //! so that a run which left something out is told from one that passed.
 
-use std::collections::BTreeMap;
+use std::collections::{BTreeMap, BTreeSet};
 use std::fmt;
 
 /// The calls that both implementations have. `Encode` is the card writer on a table, which no call of the C interface is.
@@ -54,8 +54,18 @@ pub type Case = (&'static str, &'static str);
 
 pub const SPACES: [Case; 5] = [("space", "S"), ("space", "A"), ("space", "P"), ("space", "M"), ("space", "W")];
 
-pub const LINES: [Case; 8] =
-    [("line", "S"), ("line", "T"), ("line", "M"), ("line", "D"), ("line", "X"), ("line", "F"), ("line", "C"), ("line", "R")];
+pub const LINES: [Case; 9] =
+    [("line", "S"), ("line", "T"), ("line", "M"), ("line", "D"), ("line", "X"), ("line", "E"), ("line", "F"), ("line", "C"), ("line", "R")];
+
+/// What the `E` lines of a space are like.
+pub const NESTINGS: [Case; 5] = [ALONE, BESIDE_X, ABOVE, BELOW, CHAIN];
+
+const ALONE: Case = ("nesting", "without X");
+const BESIDE_X: Case = ("nesting", "beside X");
+const ABOVE: Case = ("nesting", "i above j");
+/// The two were first met from different starts: a result that contains an earlier condition of its own list makes the space mixed.
+const BELOW: Case = ("nesting", "i below j");
+const CHAIN: Case = ("nesting", "i in j in k");
 
 #[derive(Clone, Debug, Default)]
 pub struct Met {
@@ -72,15 +82,19 @@ impl Met {
         *self.cases.entry(case).or_default() += 1;
     }
 
-    /// The lines of a listing by their letters, and its spaces by their kinds.
+    /// The lines of a listing, or of one section, by their letters; its spaces by their kinds and by what is nested in them.
     pub fn lines(&mut self, text: &str) {
-        for line in text.lines() {
+        let lines: Vec<&str> = text.lines().collect();
+        for line in &lines {
             let mut words = line.split(' ');
             let (letter, kind) = (words.next(), words.nth(1));
             LINES.into_iter().filter(|line| Some(line.1) == letter).for_each(|line| self.case(line));
             if letter == Some("S") {
                 SPACES.into_iter().filter(|space| Some(space.1) == kind).for_each(|space| self.case(space));
             }
+        }
+        for space in lines.chunk_by(|_, next| !next.starts_with("S ")) {
+            nestings(space).for_each(|case| self.case(case));
         }
     }
 
@@ -95,6 +109,25 @@ impl Met {
         let cases = cases.iter().filter(|&case| !self.cases.contains_key(case)).map(|(group, name)| format!("{group} {name}"));
         answers.chain(cases).collect()
     }
+}
+
+/// The cases that the lines of one space are.
+fn nestings(lines: &[&str]) -> impl Iterator<Item = Case> {
+    let pair = |line: &&str| {
+        let (inner, outer) = line.strip_prefix("E ")?.split_once(' ')?;
+        Some((inner.parse().ok()?, outer.parse().ok()?))
+    };
+    let pairs: Vec<(usize, usize)> = lines.iter().filter_map(pair).collect();
+    let inner: BTreeSet<usize> = pairs.iter().map(|pair| pair.0).collect();
+    let excludes = lines.iter().any(|line| line.starts_with("X "));
+    let met = [
+        (ALONE, !pairs.is_empty() && !excludes),
+        (BESIDE_X, !pairs.is_empty() && excludes),
+        (ABOVE, pairs.iter().any(|(inner, outer)| inner > outer)),
+        (BELOW, pairs.iter().any(|(inner, outer)| inner < outer)),
+        (CHAIN, pairs.iter().any(|(_, outer)| inner.contains(outer))),
+    ];
+    met.into_iter().filter(|(_, met)| *met).map(|(case, _)| case)
 }
 
 /// A line for each call and for each group of cases.

@@ -1,4 +1,5 @@
-//! Whether a listing is true of a state (document 01, "True of a state", and the owner's demand 3).
+//! Whether a listing is true of a state (document 01, "True of a state", and the owner's demand 3), and whether its `E` lines, which
+//! say nothing of states, follow from its `T` lines (document 02, request 2).
 //! It works from the listing's text, parsed back line by line, and from the card; it shares nothing with the analysis.
 
 use crate::card::{Schema, Task};
@@ -29,14 +30,26 @@ pub struct SpaceLines {
     pub least: Vec<usize>,
     /// `X` lines.
     pub exclusions: Vec<(usize, usize)>,
+    /// `E` lines: the index of a condition, and that of one which it is within.
+    pub nestings: Vec<(usize, usize)>,
 }
 
+/// The letters of lines in the order in which they come: those of a space, and those of the closing section.
+const LETTERS: &str = "STMDXEFCR";
+
 impl Listing {
+    /// The listing of this text; none if a line is not of its form or comes after a line that it should come before.
     pub fn parse(text: &str) -> Option<Listing> {
         let mut listing = Listing::default();
+        let mut before = "S";
         for line in text.lines() {
             let mut parts = line.split(':');
             let (letter, head) = parts.next()?.trim().split_once(' ').unwrap_or((line.get(..1)?, ""));
+            let another_space = letter == "S" && LETTERS.find(before) < LETTERS.find('F');
+            if LETTERS.find(before) > LETTERS.find(letter) && !another_space {
+                return None;
+            }
+            before = letter;
             let lists: Vec<Vec<usize>> = parts.map(numbers).collect::<Option<_>>()?;
             if letter == "S" {
                 let (number, kind) = head.split_once(' ')?;
@@ -53,6 +66,7 @@ impl Listing {
                 ("M", &[property, most], []) => listing.spaces.last_mut()?.limits.push((property, most)),
                 ("D", &[bag], []) => listing.spaces.last_mut()?.least.push(bag),
                 ("X", &[one, other], []) => listing.spaces.last_mut()?.exclusions.push((one, other)),
+                ("E", &[inner, outer], []) => listing.spaces.last_mut()?.nestings.push((inner, outer)),
                 ("F", &[predicate, total], []) => listing.totals.push((predicate, total)),
                 ("C", &[predicate, number], []) => listing.ceilings.push((predicate, number)),
                 ("R", &[schema, parameter], [objects]) => listing.types.push((schema, parameter, objects.clone())),
@@ -123,6 +137,38 @@ pub fn check(task: &Task, listing: &Listing, facts: &[u8]) -> Result<(), String>
     }
     for (number, schema) in task.schemas().iter().enumerate() {
         check_types(task, listing, &state, number, schema)?;
+    }
+    Ok(())
+}
+
+/// Checks the `E` lines of each space: they are the pairs of its conditions of which the first is strictly within the second, each once,
+/// ascending. Says what is wrong.
+pub fn check_nestings(listing: &Listing) -> Result<(), String> {
+    for (number, space) in listing.spaces.iter().enumerate() {
+        check_nestings_of(space).map_err(|fault| format!("space {number}: {fault}"))?;
+    }
+    Ok(())
+}
+
+fn check_nestings_of(SpaceLines { bags, nestings, .. }: &SpaceLines) -> Result<(), String> {
+    let within = |inner: usize, outer: usize| bags[inner] != bags[outer] && contains(&bags[outer], &bags[inner]);
+    for &(inner, outer) in nestings {
+        if inner.max(outer) >= bags.len() {
+            return Err(format!("E {inner} {outer}, but there are {} conditions", bags.len()));
+        }
+        if !within(inner, outer) {
+            return Err(format!("E {inner} {outer}, but {:?} is not strictly within {:?}", bags[inner], bags[outer]));
+        }
+    }
+    if let Some(two) = nestings.windows(2).find(|two| two[0] >= two[1]) {
+        return Err(format!("E {} {} is not above the line before", two[1].0, two[1].1));
+    }
+    for inner in 0..bags.len() {
+        for outer in 0..bags.len() {
+            if within(inner, outer) && nestings.binary_search(&(inner, outer)).is_err() {
+                return Err(format!("{:?} is strictly within {:?}, but there is no E {inner} {outer}", bags[inner], bags[outer]));
+            }
+        }
     }
     Ok(())
 }

@@ -54,7 +54,7 @@ pub fn to_hex(bytes: &[u8]) -> String {
     bytes.iter().map(|byte| format!("{byte:02x}")).collect()
 }
 
-/// The 800 cards of listings.txt.
+/// The 999 cards of listings.txt. Most of the last 199 have conditions within others.
 pub fn listings() -> Vec<Listing> {
     let text = read("vectors/listings.txt");
     let blocks = blocks(&text).into_iter().enumerate();

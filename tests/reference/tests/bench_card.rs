@@ -66,7 +66,7 @@ fn k3_presses_twice() {
 #[test]
 fn k4_lists_an_absorbed_add() {
     let card = from_hex("02 01 01 01 01 0E 01 00 00 01 00 00 01 01 00 00 02 00 00 01 00");
-    assert_eq!(space(&card, 0), ["S 0 P : 0 1 : 0", "T : 1 1", "T : 0 2", "T : 0 1", "D 2"]);
+    assert_eq!(space(&card, 0), ["S 0 P : 0 1 : 0", "T : 1 1", "T : 0 2", "T : 0 1", "D 2", "E 2 0", "E 2 1"]);
 }
 
 #[test]
@@ -89,7 +89,11 @@ fn travelling(last: u8) -> Vec<u8> {
 fn k6_lists_56_bags() {
     let lines = space(&travelling(10), 0);
     assert!(lines[0].starts_with("S 0 P : 0 2 : 0"));
-    assert_eq!(lines.iter().filter(|line| line.starts_with('T')).count(), 56);
+    let number = |letter: char| lines.iter().filter(|line| line.starts_with(letter)).count();
+    assert_eq!(number('T'), 56);
+    // The bags beside the opening one have a of p and b of q, where b > 0 and a + b <= 10, and (a + 1) * b - 1 of them are within (a, b).
+    let within: usize = (0..10).flat_map(|a| (1..=10 - a).map(move |b| (a + 1) * b - 1)).sum();
+    assert_eq!((within, number('E')), (660, 660));
 }
 
 #[test]

@@ -1,9 +1,10 @@
 //! The comparison passes two equal implementations and finds a fault in each part of a faulty one.
 
 use reference::comparison::{missing_of_cards, missing_of_histories, missing_of_open, Comparison};
-use reference::met::{Call, Met};
+use reference::met::{Call, Met, NESTINGS};
 use reference::open::Given;
 use reference::proved::{Calls, Found, Reference};
+use std::mem::swap;
 
 /// The reference with one fault put in.
 #[derive(Clone, Copy, Debug)]
@@ -16,6 +17,8 @@ enum Fault {
     AltersOnRefusal,
     WrongBag,
     WrongMember,
+    TurnsNestingsRound,
+    SortsNestingsByOuter,
     WrongClosing,
     RefusesShortBufferFirst,
     AnswersAnothersRefusal,
@@ -28,7 +31,7 @@ enum Fault {
     LeavesPlacesPastTheObjects,
 }
 
-const FAULTS: [Fault; 18] = [
+const FAULTS: [Fault; 20] = [
     Fault::AcceptsTrailingBytes,
     Fault::RewritesOneByte,
     Fault::WritesPastTheCard,
@@ -37,6 +40,8 @@ const FAULTS: [Fault; 18] = [
     Fault::AltersOnRefusal,
     Fault::WrongBag,
     Fault::WrongMember,
+    Fault::TurnsNestingsRound,
+    Fault::SortsNestingsByOuter,
     Fault::WrongClosing,
     Fault::RefusesShortBufferFirst,
     Fault::AnswersAnothersRefusal,
@@ -48,6 +53,19 @@ const FAULTS: [Fault; 18] = [
     Fault::WritesAtTheEnd,
     Fault::LeavesPlacesPastTheObjects,
 ];
+
+/// Writes the `E` lines of a section anew, with their pairs changed; they are its last lines.
+fn change_nestings(out: &mut [u8], text: &str, change: fn(&mut Vec<(usize, usize)>)) {
+    let Some(at) = text.find("\nE ").map(|at| at + 1) else { return };
+    let mut pairs = Vec::new();
+    for line in text[at..].lines() {
+        let (inner, outer) = line[2..].split_once(' ').unwrap();
+        pairs.push((inner.parse().unwrap(), outer.parse().unwrap()));
+    }
+    change(&mut pairs);
+    let changed: String = pairs.iter().map(|(inner, outer)| format!("E {inner} {outer}\n")).collect();
+    out[at..text.len()].copy_from_slice(changed.as_bytes());
+}
 
 struct Faulty(Fault);
 
@@ -111,7 +129,12 @@ impl Calls for Faulty {
             return Err(21);
         }
         let length = Reference.section(card, number, out)?;
-        let text = String::from_utf8_lossy(&out[..length]);
+        let text = String::from_utf8_lossy(&out[..length]).into_owned();
+        match self.0 {
+            Fault::TurnsNestingsRound => change_nestings(out, &text, |pairs| pairs.iter_mut().for_each(|(one, other)| swap(one, other))),
+            Fault::SortsNestingsByOuter => change_nestings(out, &text, |pairs| pairs.sort_by_key(|pair| pair.1)),
+            _ => {}
+        }
         let place = match self.0 {
             // One count of a later bag, the last member of an attribute space, the last object of a type.
             Fault::WrongBag => text.match_indices("T :").nth(3).map(|(at, _)| at + 4),
@@ -159,14 +182,35 @@ fn equal_implementations_pass_and_every_case_comes_up() {
     assert_eq!(missing_of_open(&open.met), [""; 0]);
 }
 
-/// A record with nothing in it misses everything: 15, 16, 16 and 17 answers, 5 kinds of spaces, 8 of lines and 6 of buffers and numbers.
+/// A record with nothing in it misses everything: 15, 16, 16 and 17 answers, 5 kinds of spaces, 9 of lines, 5 of nestings and 6 of
+/// buffers and numbers.
 #[test]
 fn what_never_came_up_is_missing() {
     let mut met = Met::default();
-    assert_eq!(missing_of_cards(&met).len(), 15 + 16 + 16 + 17 + 5 + 8 + 6);
+    assert_eq!(missing_of_cards(&met).len(), 15 + 16 + 16 + 17 + 5 + 9 + 5 + 6);
     met.answer(Call::Check, Err(3));
     met.lines("S 0 P : 0 : 1\n");
-    assert_eq!(missing_of_cards(&met).len(), 15 + 16 + 16 + 17 + 5 + 8 + 6 - 3);
+    assert_eq!(missing_of_cards(&met).len(), 15 + 16 + 16 + 17 + 5 + 9 + 5 + 6 - 3);
+}
+
+/// Each kind of nesting is met by the lines of a space that have it, and by no others.
+#[test]
+fn nestings_are_told_apart() {
+    for (lines, kinds) in [
+        ("S 0 P : 0 1 : 0\nX 0 1\n", &[] as &[&str]),
+        ("S 0 P : 0 1 : 0\nE 2 0\nE 2 1\n", &["without X", "i above j"]),
+        ("S 0 P : 0 1 : 0\nX 0 1\nS 1 P : 2 3 : 0\nE 0 2\n", &["without X", "i below j"]),
+        ("S 0 P : 0 1 : 0\nX 0 11\nE 0 2\nE 12 1\n", &["beside X", "i above j", "i below j"]),
+        ("S 0 P : 0 1 : 0\nE 2 1\nE 3 1\nE 3 2\n", &["without X", "i above j", "i in j in k"]),
+        ("S 0 P : 0 1 : 0\nE 2 1\nS 1 P : 2 3 : 0\nE 3 2\n", &["without X", "i above j"]),
+    ] {
+        let mut met = Met::default();
+        met.lines(lines);
+        let missing = met.missing(&[], &NESTINGS);
+        let found: Vec<&str> =
+            NESTINGS.iter().map(|nesting| nesting.1).filter(|kind| !missing.contains(&format!("nesting {kind}"))).collect();
+        assert_eq!(found, kinds, "{lines}");
+    }
 }
 
 #[test]

@@ -1,5 +1,7 @@
-//! The pages say what the program says: K1 as docs/CARD.md writes it, and each line that docs/EXAMPLES.md and docs/DOMAINS.md quote.
+//! The pages say what the program says: K1 and K4 as docs/CARD.md writes them, and each line that docs/EXAMPLES.md and docs/DOMAINS.md
+//! quote.
 
+use reference::examples::card;
 use reference::listing;
 use std::collections::BTreeMap;
 use std::fs::{read, read_to_string};
@@ -45,17 +47,28 @@ fn k1_is_annotated_byte_by_byte() {
     assert_eq!(printed, stored);
 }
 
-#[test]
-fn k1_is_listed_line_by_line() {
+/// The lines that docs/CARD.md explains below a heading, without what it says of them.
+fn explained(heading: &str) -> String {
     let page = page("docs/CARD.md");
-    let lines = part(&page, "## K1's listing, line by line").lines().filter(|line| line.contains("   "));
-    let quoted: String = lines.map(|line| line.split("   ").next().unwrap().to_string() + "\n").collect();
-    assert_eq!(quoted, page_listing("crates/stakestalk/stdin"));
-    assert_eq!(quoted, read_to_string(path("crates/stakestalk/stdout")).unwrap());
+    let lines = part(&page, heading).lines().filter(|line| line.contains("   "));
+    lines.map(|line| line.split("   ").next().unwrap().to_string() + "\n").collect()
 }
 
-fn page_listing(card: &str) -> String {
-    String::from_utf8(listing(&read(path(card)).unwrap())).unwrap()
+fn text(card: &[u8]) -> String {
+    String::from_utf8(listing(card)).unwrap()
+}
+
+#[test]
+fn k1_is_listed_line_by_line() {
+    let explained = explained("## K1's listing, line by line");
+    assert_eq!(explained, text(&read(path("crates/stakestalk/stdin")).unwrap()));
+    assert_eq!(explained, read_to_string(path("crates/stakestalk/stdout")).unwrap());
+}
+
+#[test]
+fn k4_is_listed_line_by_line() {
+    let k4 = "predicates a/1 b/1\nobjects o\nschema s x\npre a(x)\ndel a(x)\nadd b(x)\nfacts a(o) b(o)\n";
+    assert_eq!(explained("## Conditions within others: K4"), text(&card(k4).unwrap()));
 }
 
 /// The stored listings of the examples by name, as lines.
@@ -75,7 +88,7 @@ fn listings() -> BTreeMap<String, Vec<String>> {
 fn quotations(text: &str) -> impl Iterator<Item = &str> {
     text.split('`').skip(1).step_by(2).filter(|quoted| {
         let mut words = quoted.split(' ');
-        matches!(words.next(), Some("S" | "T" | "M" | "D" | "X" | "F" | "C" | "R"))
+        matches!(words.next(), Some("S" | "T" | "M" | "D" | "X" | "E" | "F" | "C" | "R"))
             && words.next().is_some_and(|word| word == ":" || word.bytes().all(|byte| byte.is_ascii_digit()))
     })
 }

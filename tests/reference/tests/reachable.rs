@@ -84,7 +84,7 @@ fn lines_that_become_false_are_found() {
         ("miconic_shaped", "D 2\nX 0 1\nX 0 2\nX 1 2\n", "X 0 1\n", "contains no D"),
         ("gripper_usual", "M 7 1\n", "M 7 0\n", "M 7 0"),
         ("gripper_usual", "S 5 A : 5 : 0 1\n", "S 5 A : 5 : 0\n", "outside"),
-        ("ferry_usual", "C 3 1\n", "F 4 2\nC 3 1\n", "F 4 2"),
+        ("ferry_usual", "C 0 2\n", "F 4 2\nC 0 2\n", "F 4 2"),
         ("blocks_usual", "C 5 1\n", "C 0 1\nC 5 1\n", "C 0 1"),
         ("miconic_usual", "R 1 0 : 1 2\n", "R 1 0 : 1\n", "schema 1 allows"),
     ] {
@@ -92,6 +92,20 @@ fn lines_that_become_false_are_found() {
         let listing = listings[name].replace(true_line, false_line);
         let found = hold(&card(&description(name)).unwrap(), &listing, MOST).unwrap_err();
         assert!(found.contains(fault) && !found.starts_with("state 0:"), "{name}: {found}");
+    }
+}
+
+/// A missing or a wrong `E` line is found before any state is looked at.
+#[test]
+fn false_nestings_are_found() {
+    let listing = &listings()["united"];
+    for (true_line, false_line, fault) in [
+        ("E 2 0\n", "", "space 0: [1, 0] is strictly within [1, 1], but there is no E 2 0"),
+        ("E 4 3\n", "E 4 2\n", "space 0: E 4 2, but [0, 1] is not strictly within [1, 0]"),
+    ] {
+        assert!(listing.contains(true_line), "{true_line}");
+        let found = hold(&card(&description("united")).unwrap(), &listing.replace(true_line, false_line), MOST);
+        assert_eq!(found, Err(fault.to_string()));
     }
 }
 

@@ -1,10 +1,10 @@
-//! The check of a listing against a state finds each kind of false line.
+//! The check of a listing against a state, and of its `E` lines against its `T` lines, finds each kind of false line.
 
 use reference::histories::Histories;
 use reference::open::Given;
 use reference::proved::{Calls, Found, Reference};
 use reference::strips::{FACT_LEN, STATE_LEN};
-use reference::truth::{check, Listing};
+use reference::truth::{check, check_nestings, Listing};
 use reference::vectors::{from_hex, K1};
 use reference::{decode, initial, listing, press};
 
@@ -19,7 +19,8 @@ fn armed() -> Vec<u8> {
 fn verdict(card: &[u8], facts: &[u8], from: &str, to: &str) -> Result<(), String> {
     let text = String::from_utf8(listing(card)).unwrap();
     assert!(text.contains(from), "{from} is listed");
-    let listing = Listing::parse(&text.replacen(from, to, 1)).expect("a listing parses");
+    let listing = Listing::parse(&text.replacen(from, to, 1)).ok_or("no listing")?;
+    check_nestings(&listing)?;
     check(&decode(card).unwrap(), &listing, facts)
 }
 
@@ -48,13 +49,56 @@ fn false_lines_of_k1_are_found() {
     }
 }
 
-/// K4, where the opening condition contains both of two conditions that are made to exclude each other.
+/// K4, whose conditions are 1 1, 0 2 and 0 1, and its opening state.
+fn k4() -> (Vec<u8>, Vec<u8>) {
+    let card = from_hex("02 01 01 01 01 0E 01 00 00 01 00 00 01 01 00 00 02 00 00 01 00");
+    (card, from_hex("0000ffff 0100ffff"))
+}
+
+/// The opening condition of K4 contains both of two conditions that are made to exclude each other.
 #[test]
 fn a_false_exclusion_is_found() {
-    let card = from_hex("02 01 01 01 01 0E 01 00 00 01 00 00 01 01 00 00 02 00 00 01 00");
-    let facts = from_hex("0000ffff 0100ffff");
+    let (card, facts) = k4();
     assert_eq!(verdict(&card, &facts, "", ""), Ok(()));
-    assert!(verdict(&card, &facts, "T : 0 1\nD 2\n", "T : 0 1\nT : 1 0\nD 2\nX 2 3\n").is_err());
+    let listed = "T : 0 1\nD 2\nE 2 0\nE 2 1\n";
+    let excluding = "T : 0 1\nT : 1 0\nD 2\nX 2 3\nE 2 0\nE 2 1\nE 3 0\n";
+    let fault = verdict(&card, &facts, listed, excluding).unwrap_err();
+    assert!(fault.ends_with("contains both of X 2 3"), "{fault}");
+}
+
+#[test]
+fn false_nestings_are_found() {
+    let (card, facts) = k4();
+    for (from, to, fault) in [
+        ("E 2 0\n", "", "[0, 1] is strictly within [1, 1], but there is no E 2 0"),
+        ("E 2 0\nE 2 1\n", "", "[0, 1] is strictly within [1, 1], but there is no E 2 0"),
+        ("E 2 1\n", "", "[0, 1] is strictly within [0, 2], but there is no E 2 1"),
+        ("E 2 0\n", "E 0 2\n", "E 0 2, but [1, 1] is not strictly within [0, 1]"),
+        ("E 2 0\n", "E 1 0\nE 2 0\n", "E 1 0, but [0, 2] is not strictly within [1, 1]"),
+        ("E 2 1\n", "E 2 1\nE 2 2\n", "E 2 2, but [0, 1] is not strictly within [0, 1]"),
+        ("E 2 1\n", "E 2 1\nE 2 3\n", "E 2 3, but there are 3 conditions"),
+        ("E 2 1\n", "E 2 1\nE 3 1\n", "E 3 1, but there are 3 conditions"),
+        ("E 2 0\nE 2 1\n", "E 2 1\nE 2 0\n", "E 2 0 is not above the line before"),
+        ("E 2 1\n", "E 2 1\nE 2 1\n", "E 2 1 is not above the line before"),
+    ] {
+        assert_eq!(verdict(&card, &facts, from, to), Err(format!("space 0: {fault}")), "{from} as {to}");
+    }
+}
+
+/// p(0,1) and p(0,2) turn into q: conditions 2 0, 1 1, 0 2 and 0 1, with an `X` line and two `E` lines.
+#[test]
+fn lines_out_of_their_order_are_found() {
+    let card = from_hex("02 02 02 03 01 0F 02 01 00 00 01 01 00 00 01 01 01 00 01 00 02 00 00 01 00 00 02");
+    let facts = from_hex("000001ff 000002ff");
+    assert_eq!(verdict(&card, &facts, "", ""), Ok(()));
+    for (from, to) in [
+        ("X 0 3\nE 3 1\nE 3 2\n", "E 3 1\nE 3 2\nX 0 3\n"),
+        ("X 0 3\nE 3 1\nE 3 2\n", "E 3 1\nX 0 3\nE 3 2\n"),
+        ("D 0\nD 3\nX 0 3\n", "X 0 3\nD 0\nD 3\n"),
+        ("C 0 2\nR 0 0 : 0\n", "R 0 0 : 0\nC 0 2\n"),
+    ] {
+        assert_eq!(verdict(&card, &facts, from, to), Err("no listing".to_string()), "{from} as {to}");
+    }
 }
 
 /// The reference, with one kind of line changed wherever it is listed.
@@ -106,6 +150,12 @@ fn without_last(line: &str) -> String {
     format!("{}\n", if last == ":" { line } else { rest })
 }
 
+/// The line with its two numbers exchanged.
+fn turned_round(line: &str) -> String {
+    let words: Vec<&str> = line.split(' ').collect();
+    format!("{} {} {}\n", words[0], words[2], words[1])
+}
+
 /// Each kind of line, changed in all listings, is false after one of the first random histories.
 #[test]
 fn false_lines_are_found_in_histories() {
@@ -114,6 +164,8 @@ fn false_lines_are_found_in_histories() {
         ("T", other_number),
         ("M", other_number),
         ("D", |_| String::new()),
+        ("E", |_| String::new()),
+        ("E", turned_round),
         ("F", other_number),
         ("C", other_number),
         ("R", without_last),

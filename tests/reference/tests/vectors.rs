@@ -8,7 +8,7 @@ use reference::{decode, encode, initial, listing, next_open, press, section};
 #[test]
 fn listings_agree() {
     let listings = listings();
-    assert_eq!(listings.len(), 800);
+    assert_eq!(listings.len(), 999);
     listings.iter().for_each(agrees);
 }
 
