@@ -63,6 +63,14 @@ module _ {A B : Type 0} where
         (λ j. let r = fold-at (f b y) xs x j in (r .0, then b (f b y) (r .0) (step b y) (r .1), r .2))
         (List·Memᴰ·cases-cons k)
 
+-- a fold that is seen as another: each step is seen as the other's step, while something holds that each step keeps
+pub fold-as : {A B C : Type 0} (seen : B → C) (Holds : B → Type 0) (f : B → A → B) (g : C → A → C)
+    → ((b : B) (x : A) → Holds b → seen (f b x) ≡ g (seen b) x) → ((b : B) (x : A) → Holds b → Holds (f b x))
+    → (b : B) → Holds b → (xs : List A) → seen (foldl f b xs) ≡ foldl g (seen b) xs
+fold-as seen Holds f g step keeps b h [] = refl
+fold-as seen Holds f g step keeps b h (x ∷ xs) =
+    fold-as seen Holds f g step keeps (f b x) (keeps b x h) xs ∙ ap (λ c. foldl g c xs) (step b x h)
+
 -- a fold over lists one after the other
 pub fold-lists : {A B C : Type 0} (f : C → B → C) (g : A → List B) (xs : List A) (c : C)
     → foldl f c (flatMap g xs) ≡ foldl (λ b x. foldl f b (g x)) c xs

@@ -2,14 +2,14 @@
 use Prim.Native.Nat.{ℕ}
 use mathlib.Core.Path.{_≡_, ap, ap₂}
 use mathlib.Core.Bool.{Bool, not, cond, _&&_}
-use mathlib.Core.List.{List, [], _∷_, _++_}
+use mathlib.Core.List.{List, []}
 use lib.Dec.{leb}
 use lib.ListN.{length, getD}
 use Rattle.laws.specs.Lists.{any, keep, same, upTo}
 use Rattle.laws.specs.Bags.{Bag, contains, strictlyContains, listed}
 use Rattle.laws.proofs.Mapped.{any-ext, keep-ext}
 use Rattle.laws.proofs.Comparisons.{strictly-differs, covers-contains}
-use Rattle.model.specs.Extension.{Search, mixed, wide, neither, mostConditions, adjoin, test}
+use Rattle.model.specs.Extension.{Search, mixed, wide, mostConditions, ending, appending, test}
 use Rattle.model.specs.Lines.{minimal, excluded}
 
 -- ---- the former texts
@@ -25,11 +25,8 @@ formerTest s b =
     s
     (cond
     (any (containsOther b) (s .own))
-    (record { outcome = mixed; own = s .own; known = s .known })
-    (cond
-    (not (listed (s .known) b) && leb mostConditions (length (s .known)))
-    (record { outcome = wide; own = s .own; known = s .known })
-    (record { outcome = neither; own = s .own ++ (b ∷ []); known = adjoin (s .known) b })))
+    (ending s mixed)
+    (cond (not (listed (s .known) b) && leb mostConditions (s .tally)) (ending s wide) (appending s b)))
 
 unfoldable pub formerMinimal : List Bag → List ℕ
 formerMinimal bags = keep (λ i. not (any (containsOther (getD bags i [])) bags)) (upTo (length bags))

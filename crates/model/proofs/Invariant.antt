@@ -36,7 +36,8 @@ use Rattle.model.proofs.ListedSpace.{Listed, extensionOf}
 use Rattle.model.proofs.Sections.{Capped}
 use Rattle.model.proofs.SpaceFacts.{rule-in-one-space, increasing-members, initial-members, members-known, members-distinct}
 use Rattle.model.proofs.SpaceFacts.{properties-distinct, properties-known, property-rules}
-use Rattle.model.proofs.OwnLists.{own-list-at, adjoin-all-has, adjoin-all-length}
+use Rattle.model.proofs.JoinedLists.{adjoin-all-has, adjoin-all-length}
+use Rattle.model.proofs.OwnLists.{own-list-at}
 use Rattle.model.proofs.Chain.{chain, exchange, rest}
 use Rattle.model.proofs.Effect.{Effect, effect-on-parameter, effect-elsewhere, effect-on-predicate}
 use Rattle.model.proofs.ParameterRules.{length-bagOf, length-common, length-start, length-finish, moved-start, moved-finish, needed, deleted}

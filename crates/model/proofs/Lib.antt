@@ -20,7 +20,9 @@ pub mod Binding
 pub mod Effect
 pub mod RuleCount
 pub mod Choices
+pub mod JoinedLists
 pub mod OwnLists
+pub mod TallyCounts
 pub mod Chain
 pub mod ListedSpace
 pub mod Sections
@@ -39,3 +41,4 @@ pub mod NextState
 pub mod OpenCalls
 pub mod Nestings
 pub mod FormerTests
+pub mod Recounting

@@ -34,7 +34,8 @@ use Rattle.model.proofs.Checked.{checked, checked-action}
 use Rattle.model.proofs.History.{history-induction}
 use Rattle.model.proofs.RoundTrip.{decode-checks}
 use Rattle.model.proofs.ListedSpace.{extensionOf, listed-as-property, conditions-listed, space-of-analysis, analysed, spaces-of-analysis}
-use Rattle.model.proofs.OwnLists.{joined-has, own-lists-length}
+use Rattle.model.proofs.JoinedLists.{joined-has}
+use Rattle.model.proofs.OwnLists.{own-lists-length}
 use Rattle.model.proofs.SpaceFacts.{space-of, members-known, members-distinct}
 use Rattle.model.proofs.Sections.{on-space, on-limit, on-exclusion, on-nesting, on-total, on-ceiling, on-types, types-on, typed, states-of-space}
 use Rattle.model.proofs.Sections.{state-on, membership-on}

@@ -14,7 +14,8 @@ use Rattle.model.specs.Spaces.{Space, condition}
 use Rattle.model.specs.Extension.{Move}
 use Rattle.model.specs.Lines.{analyse, movesOf, initialConditions}
 use Rattle.model.proofs.ListedSpace.{extensionOf, listed-as-property, conditions-listed}
-use Rattle.model.proofs.OwnLists.{lists-sized, joined-from, adjoin-all-from}
+use Rattle.model.proofs.JoinedLists.{joined-from, adjoin-all-from}
+use Rattle.model.proofs.OwnLists.{lists-sized}
 use Rattle.properties.specs.Tables.{stride, rows, rowsBefore, bagsIn, HasRows}
 use Rattle.properties.proofs.Rows.{length-rows}
 use Rattle.properties.proofs.RowTables.{rows-before-back}
