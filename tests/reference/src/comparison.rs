@@ -5,7 +5,8 @@ mod open;
 pub use open::{every_press, missing_of_open};
 
 use crate::card::{decode, Schema, Task, OUTPUT_LEN};
-use crate::met::{every_answer, Call, Case, Met, LINES, NESTINGS, SPACES};
+use crate::crowded;
+use crate::met::{every_answer, Call, Case, Met, LINES, NESTINGS, SPACES, TALLIES};
 use crate::proved::{Calls, Found};
 use crate::random::{write_unchecked, Malformed, Random, MALFORMED_PARTS};
 use crate::refusal::{BINDING, OUTPUT, SECTION, STATE};
@@ -164,11 +165,11 @@ const FULL_BEFORE: Case = ("accepted press", "on 1,024 facts");
 const FULL_AFTER: Case = ("accepted press", "to 1,024 facts");
 
 /// What random cards have to bring up and did not: every answer of the calls that take a card alone, every kind of space, of line and
-/// of nesting, short and long buffers, section numbers past the last.
+/// of nesting, 64 conditions and a 65th from several starts, short and long buffers, section numbers past the last.
 pub fn missing_of_cards(met: &Met) -> Vec<String> {
     let calls = [Call::Check, Call::Initial, Call::Rewrite, Call::Section];
     let buffers = [SHORT_STATE, LONG_STATE, SHORT_OUTPUT, LONG_OUTPUT, NEAR_SECTION, FAR_SECTION];
-    met.missing(&every_answer(&calls), &[&SPACES[..], &LINES, &NESTINGS, &buffers].concat())
+    met.missing(&every_answer(&calls), &[&SPACES[..], &LINES, &NESTINGS, &TALLIES, &buffers].concat())
 }
 
 /// What random histories have to bring up and did not: every answer of a press, every part of 15 and of 17, full states, short and
@@ -261,17 +262,32 @@ impl<'a> Comparison<'a> {
         }
     }
 
-    /// A random card, whole or damaged, and all that is asked of a card alone.
+    /// A random card, whole, crowded or damaged, and all that is asked of a card alone.
     pub fn random_card(&mut self) -> Result<(), Difference> {
-        let card = match self.random.below(10) {
-            0..=6 => self.random.card(),
-            7 | 8 => {
+        let card = match self.random.below(100) {
+            0 => return self.crowded_card(),
+            1..=69 => self.random.card(),
+            70..=89 => {
                 let refusal = self.random.within(1, 14) as u8;
                 self.random.refused_card(refusal)
             }
             _ => self.random.wild_card(),
         };
         self.card(&card)
+    }
+
+    /// A crowded card. What both sides list of its spaces is held to the closed form too.
+    fn crowded_card(&mut self) -> Result<(), Difference> {
+        let starts = self.random.crowded_starts();
+        let card = crowded::card(&starts);
+        self.card(&card)?;
+        let mut text = String::new();
+        for (number, starts) in crowded::starts_of_spaces(&starts).iter().enumerate() {
+            let Outcome { answer, bytes } = self.section(&card, number, OUTPUT_LEN)?;
+            text += &String::from_utf8_lossy(&bytes[..answer.unwrap_or(0)]);
+            self.met.tally(starts);
+        }
+        crowded::check(&starts, &text).map_err(|fault| Difference { card, call: "sections 0 and 1".into(), fault })
     }
 
     /// The calls that take a card alone, with sound, short and long buffers, and section numbers up to and past the last.

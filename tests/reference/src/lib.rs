@@ -3,6 +3,7 @@
 
 pub mod card;
 pub mod comparison;
+pub mod crowded;
 pub mod examples;
 pub mod hard;
 pub mod histories;

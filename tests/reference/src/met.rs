@@ -1,6 +1,7 @@
 //! What a run has met: how often each call gave each answer, and how often each named case came up,
 //! so that a run which left something out is told from one that passed.
 
+use crate::crowded::{conditions, start_of_65th, Condition, MOST_CONDITIONS};
 use std::collections::{BTreeMap, BTreeSet};
 use std::fmt;
 
@@ -67,6 +68,13 @@ const ABOVE: Case = ("nesting", "i above j");
 const BELOW: Case = ("nesting", "i below j");
 const CHAIN: Case = ("nesting", "i in j in k");
 
+/// The number of conditions that several starts of a crowded card's space come to.
+pub const TALLIES: [Case; 2] = [FULL, OVER];
+
+const FULL: Case = ("tally", "64 conditions from several starts");
+/// The starts come to exactly 65 conditions, and the search that meets the last of them is not that of the first start.
+const OVER: Case = ("tally", "a 65th condition from a later start");
+
 #[derive(Clone, Debug, Default)]
 pub struct Met {
     answers: BTreeMap<(Call, u8), usize>,
@@ -95,6 +103,17 @@ impl Met {
         }
         for space in lines.chunk_by(|_, next| !next.starts_with("S ")) {
             nestings(space).for_each(|case| self.case(case));
+        }
+    }
+
+    /// A space of a crowded card, by its starts.
+    pub fn tally(&mut self, starts: &[Condition]) {
+        let number = conditions(starts).len();
+        if number == MOST_CONDITIONS && starts.len() > 1 {
+            self.case(FULL);
+        }
+        if number == MOST_CONDITIONS + 1 && start_of_65th(starts) > Some(0) {
+            self.case(OVER);
         }
     }
 

@@ -1,6 +1,7 @@
 //! Seeded random cards, tables, states and presses, sound and damaged.
 
 use crate::card::*;
+use crate::crowded::{conditions, Condition};
 use crate::met::Case;
 use crate::strips::{ground, Press, FACT_LEN, FILLER, MAX_STATE_FACTS, STATE_LEN};
 
@@ -282,6 +283,35 @@ pub fn write_unchecked(task: &Task) -> Vec<u8> {
     card.extend_from_slice(&task.fact_count.to_be_bytes());
     task.facts().iter().for_each(|fact| atom(fact, &mut card));
     card
+}
+
+// Crowded cards.
+
+/// How many times starts are drawn for a card; the draw whose number of conditions is nearest to the wanted one is taken.
+const DRAWS: usize = 40;
+
+impl Random {
+    /// Two to six different starts for a crowded card, with 63 to 66 distinct conditions where the draws allow it.
+    pub fn crowded_starts(&mut self) -> Vec<Condition> {
+        let wanted = *self.pick(&[63, 64, 64, 65, 66]).unwrap_or(&64);
+        let draws: Vec<Vec<Condition>> = (0..DRAWS).map(|_| self.starts()).collect();
+        draws.into_iter().min_by_key(|starts| conditions(starts).len().abs_diff(wanted)).unwrap_or_default()
+    }
+
+    /// Different starts, each with at most 56 conditions on its own list. Where the numbers of q may be high, many lists share none.
+    fn starts(&mut self) -> Vec<Condition> {
+        let most = *self.pick(&[5, 12, 50]).unwrap_or(&5);
+        let count = self.within(2, 6);
+        let mut starts = Vec::new();
+        while starts.len() < count {
+            let q = self.within(0, most);
+            let p = if q == 0 { self.within(1, 10) } else { self.within(0, 9) };
+            if !starts.contains(&(p, q)) {
+                starts.push((p, q));
+            }
+        }
+        starts
+    }
 }
 
 // Damaged cards.

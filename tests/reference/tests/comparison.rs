@@ -1,7 +1,7 @@
 //! The comparison passes two equal implementations and finds a fault in each part of a faulty one.
 
 use reference::comparison::{missing_of_cards, missing_of_histories, missing_of_open, Comparison};
-use reference::met::{Call, Met, NESTINGS};
+use reference::met::{Call, Met, NESTINGS, TALLIES};
 use reference::open::Given;
 use reference::proved::{Calls, Found, Reference};
 use std::mem::swap;
@@ -19,6 +19,7 @@ enum Fault {
     WrongMember,
     TurnsNestingsRound,
     SortsNestingsByOuter,
+    IsWideAt64,
     WrongClosing,
     RefusesShortBufferFirst,
     AnswersAnothersRefusal,
@@ -31,7 +32,7 @@ enum Fault {
     LeavesPlacesPastTheObjects,
 }
 
-const FAULTS: [Fault; 20] = [
+const FAULTS: [Fault; 21] = [
     Fault::AcceptsTrailingBytes,
     Fault::RewritesOneByte,
     Fault::WritesPastTheCard,
@@ -42,6 +43,7 @@ const FAULTS: [Fault; 20] = [
     Fault::WrongMember,
     Fault::TurnsNestingsRound,
     Fault::SortsNestingsByOuter,
+    Fault::IsWideAt64,
     Fault::WrongClosing,
     Fault::RefusesShortBufferFirst,
     Fault::AnswersAnothersRefusal,
@@ -133,6 +135,12 @@ impl Calls for Faulty {
         match self.0 {
             Fault::TurnsNestingsRound => change_nestings(out, &text, |pairs| pairs.iter_mut().for_each(|(one, other)| swap(one, other))),
             Fault::SortsNestingsByOuter => change_nestings(out, &text, |pairs| pairs.sort_by_key(|pair| pair.1)),
+            Fault::IsWideAt64 if text.matches("\nT :").count() == 64 => {
+                let end = text.find('\n').map_or(0, |at| at + 1);
+                let wide = text[..end].replace(" P : ", " W : ");
+                out[..end].copy_from_slice(wide.as_bytes());
+                return Ok(end);
+            }
             _ => {}
         }
         let place = match self.0 {
@@ -159,8 +167,8 @@ impl Calls for Faulty {
     }
 }
 
-fn finds(calls: &dyn Calls) -> bool {
-    let mut comparison = Comparison::new(calls, &Reference, 7);
+fn finds(calls: &dyn Calls, others: &dyn Calls) -> bool {
+    let mut comparison = Comparison::new(calls, others, 7);
     (0..1_500).any(|_| comparison.random_card().is_err() || comparison.random_history().is_err() || comparison.random_open().is_err())
 }
 
@@ -182,15 +190,15 @@ fn equal_implementations_pass_and_every_case_comes_up() {
     assert_eq!(missing_of_open(&open.met), [""; 0]);
 }
 
-/// A record with nothing in it misses everything: 15, 16, 16 and 17 answers, 5 kinds of spaces, 9 of lines, 5 of nestings and 6 of
-/// buffers and numbers.
+/// A record with nothing in it misses everything: 15, 16, 16 and 17 answers, 5 kinds of spaces, 9 of lines, 5 of nestings, 2 of
+/// tallies and 6 of buffers and numbers.
 #[test]
 fn what_never_came_up_is_missing() {
     let mut met = Met::default();
-    assert_eq!(missing_of_cards(&met).len(), 15 + 16 + 16 + 17 + 5 + 9 + 5 + 6);
+    assert_eq!(missing_of_cards(&met).len(), 15 + 16 + 16 + 17 + 5 + 9 + 5 + 2 + 6);
     met.answer(Call::Check, Err(3));
     met.lines("S 0 P : 0 : 1\n");
-    assert_eq!(missing_of_cards(&met).len(), 15 + 16 + 16 + 17 + 5 + 9 + 5 + 6 - 3);
+    assert_eq!(missing_of_cards(&met).len(), 15 + 16 + 16 + 17 + 5 + 9 + 5 + 2 + 6 - 3);
 }
 
 /// Each kind of nesting is met by the lines of a space that have it, and by no others.
@@ -213,9 +221,38 @@ fn nestings_are_told_apart() {
     }
 }
 
+/// Each kind of tally is met by starts that come to it, and by no others.
+#[test]
+fn tallies_are_told_apart() {
+    let singles = |count: usize| [(10, 0)].into_iter().chain((20..20 + count).map(|q| (0, q))).collect();
+    for (starts, kinds) in [
+        (vec![(10, 0)], &[] as &[&str]),
+        (vec![(10, 0), (7, 3)], &[]),
+        (vec![(10, 0), (7, 4)], &["64 conditions from several starts"]),
+        (vec![(10, 0), (8, 3)], &["a 65th condition from a later start"]),
+        (vec![(10, 0), (9, 3)], &[]),
+        (singles(8), &["64 conditions from several starts"]),
+        (singles(9), &[]),
+    ] {
+        let mut met = Met::default();
+        met.tally(&starts);
+        let missing = met.missing(&[], &TALLIES);
+        let found: Vec<&str> = TALLIES.iter().map(|tally| tally.1).filter(|kind| !missing.contains(&format!("tally {kind}"))).collect();
+        assert_eq!(found, kinds, "{starts:?}");
+    }
+}
+
+/// Two sides with one fault never differ; of a crowded card the closed form tells.
+#[test]
+fn a_fault_of_both_sides_is_found_on_crowded_cards() {
+    for fault in [Fault::WrongBag, Fault::IsWideAt64] {
+        assert!(finds(&Faulty(fault), &Faulty(fault)), "{fault:?}");
+    }
+}
+
 #[test]
 fn every_fault_is_found() {
     for fault in FAULTS {
-        assert!(finds(&Faulty(fault)), "{fault:?}");
+        assert!(finds(&Faulty(fault), &Reference), "{fault:?}");
     }
 }
