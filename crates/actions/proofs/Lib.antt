@@ -1,3 +1,4 @@
 pub mod GroundRows
 pub mod Passing
 pub mod Holding
+pub mod Fronts

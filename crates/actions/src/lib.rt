@@ -12,13 +12,16 @@ ghost use mathlib.Core.Path.{_≡_};
 ghost use mathlib.Core.List.{map, _++_};
 ghost use lib.Dec.{ltb};
 ghost use lib.ListN.{length, getD, drop};
-ghost use Rattle.laws.specs.Lists.{all, member, distinct};
+ghost use Rattle.laws.specs.Lists.{all, member, distinct, padded};
 ghost use Rattle.model.specs.Card.{inRange};
 ghost use Rattle.model.specs.Strips.{ground, takenOut, putIn};
 ghost use Rattle.model.specs.Writer.{known};
 ghost use Rattle.card.specs.Represents.{atomOf, atomsOf, factsOf, schemaOf};
 ghost use Rattle.state.specs.Rows.{factNumber, RowsAscend};
 ghost use Rattle.actions.specs.Grounds.{placeByte, factsKept, holdsIn, missingIn, Bound, FactsRight};
+
+// The most parameters of a schema (document 01, the card format).
+pub const MOST_PARAMETERS: usize = 6;
 
 // Facts as the numbers of their rows; entries past the count are 0.
 pub struct Facts {
@@ -201,6 +204,20 @@ pub fn all_different(objects: &[u8]) -> bool
         i = i + 1;
     }
     true
+}
+
+// Objects at the front of an array, and 0 after them.
+pub fn in_front(objects: &[u8]) -> [u8; MOST_PARAMETERS]
+    requires { ⌜ length (now objects) ≤ 6 ⌝ }
+    ensures { λ r. ⌜ r ≡ padded 6 0 (now (objects .entry)) ⌝ }
+{
+    let mut front = [0; MOST_PARAMETERS];
+    let mut i = 0;
+    while i < objects.len() {
+        front[i] = objects[i];
+        i = i + 1;
+    }
+    front
 }
 
 // The numbers of a task's facts, at the front of an array.

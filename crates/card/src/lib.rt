@@ -1,7 +1,7 @@
 // A planning task as a card describes it, and the reader's refusals. What each stands for is in specs/Represents.antt.
 ghost use mathlib.Core.List.{[]};
 ghost use mathlib.Core.Path.{_≡_};
-ghost use Rattle.card.specs.Represents.{refusalNumber, blankAtom, atomsFor, aritiesFor, factsFor};
+ghost use Rattle.card.specs.Represents.{refusalNumber, blankAtom, atomsFor, blankSchema, aritiesFor, factsFor};
 
 // How many bytes the card writer and the listing call ask of their output buffer. Document 01, refusal 21.
 pub const OUTPUT_BYTES: usize = 65536;
@@ -147,5 +147,17 @@ pub fn no_facts() -> FactList
     FactList {
         count: 0,
         facts: [blank; 512],
+    }
+}
+
+// The blank schema: no parameter, and blank lists.
+pub fn blank_schema() -> Schema
+    ensures { λ r. ⌜ r ≡ blankSchema ⌝ }
+{
+    Schema {
+        parameters: 0,
+        preconditions: no_atoms(),
+        deletes: no_atoms(),
+        adds: no_atoms(),
     }
 }

@@ -1,6 +1,6 @@
 -- Increasing lists: each element stands before all later ones, in an order that is given as a test.
 use Prim.Native.Nat.{ℕ, zero, suc}
-use mathlib.Core.Path.{_≡_, refl, sym, ap, _∙_, subst}
+use mathlib.Core.Path.{_≡_, refl, sym, ap, ap₂, _∙_, subst}
 use mathlib.Core.Bool.{Bool, true, false, cond}
 use mathlib.Core.Logic.{⊎-elim}
 use mathlib.Core.List.{List, [], _∷_, _++_, map, flatMap, List·Memᴰ, List·Memᴰ·head, List·Memᴰ·tail}
@@ -66,6 +66,32 @@ module _ {A : Type 0} (less : A → A → Bool) where
   pub increasing-once : Strict less → (xs : List A) → Increasing less xs → NoRepeat xs
   increasing-once strict [] p = tt
   increasing-once strict (x ∷ xs) p = (λ m. never (sym (p .0 x m) ∙ strict .irreflexive x), increasing-once strict xs (p .1))
+
+  -- two increasing lists with the same elements are one list
+  pub increasing-unique : Strict less → (xs ys : List A) → Increasing less xs → Increasing less ys
+      → ((x : A) → List·Memᴰ x xs → List·Memᴰ x ys) → ((x : A) → List·Memᴰ x ys → List·Memᴰ x xs) → xs ≡ ys
+  increasing-unique strict [] [] p q into back = refl
+  increasing-unique strict [] (y ∷ ys) p q into back = absurd (List·Memᴰ·not-nil (back y (List·Memᴰ·head refl)))
+  increasing-unique strict (x ∷ xs) [] p q into back = absurd (List·Memᴰ·not-nil (into x (List·Memᴰ·head refl)))
+  increasing-unique strict (x ∷ xs) (y ∷ ys) p q into back =
+      ap₂ (λ (z : A) (zs : List A). z ∷ zs) first
+      (increasing-unique strict xs ys (p .1) (q .1)
+      (λ z m. later y ys (into z (List·Memᴰ·tail m)) (subst (λ (w : A). less w z ≡ true) first (p .0 z m)))
+      (λ z m. later x xs (back z (List·Memᴰ·tail m)) (subst (λ (w : A). less w z ≡ true) (sym first) (q .0 z m))))
+    where
+      -- an element that comes after the first of a list is one of the others
+      later : (w : A) (ws : List A) {z : A} → List·Memᴰ z (w ∷ ws) → less w z ≡ true → List·Memᴰ z ws
+      later w ws {z} m e =
+          ⊎-elim (λ is. never (sym e ∙ subst (λ (v : A). less w v ≡ false) (sym is) (strict .irreflexive w))) (λ k. k) (List·Memᴰ·cases-cons m)
+
+      first : x ≡ y
+      first =
+          ⊎-elim (λ is. is)
+          (λ k.
+          ⊎-elim (λ is. sym is)
+          (λ j. never (sym (strict .transitive x y x (p .0 y j) (q .0 x k)) ∙ strict .irreflexive x))
+          (List·Memᴰ·cases-cons (back y (List·Memᴰ·head refl))))
+          (List·Memᴰ·cases-cons (into x (List·Memᴰ·head refl)))
 
   -- the elements after one of an increasing list are those that follow it there
   pub keep-after : Strict less → (front : List A) (x : A) (later : List A) → Increasing less (front ++ (x ∷ later))

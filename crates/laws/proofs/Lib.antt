@@ -19,3 +19,4 @@ pub mod Restricted
 pub mod Places
 pub mod Increasing
 pub mod Pairs
+pub mod Agreeing

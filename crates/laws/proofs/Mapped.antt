@@ -102,6 +102,16 @@ module _ {A : Type 0} where
       let kept = keep-ext f g xs (λ y m. h y (List·Memᴰ·tail m)) i in
       cond (h x (List·Memᴰ·head refl) i) (x ∷ kept) kept
 
+-- to keep images is to keep elements by their images
+pub keep-map : {A B : Type 0} (test : B → Bool) (f : A → B) (xs : List A) → keep test (map f xs) ≡ map f (keep (λ x. test (f x)) xs)
+unfolding keep
+keep-map test f [] = refl
+keep-map {A} {B} test f (x ∷ xs) = go (test (f x)) (keep (λ y. test (f y)) xs) (keep-map test f xs)
+  where
+    go : (b : Bool) (kept : List A) {images : List B} → images ≡ map f kept → cond b (f x ∷ images) images ≡ map f (cond b (x ∷ kept) kept)
+    go true kept e = ap (λ (l : List B). f x ∷ l) e
+    go false kept e = e
+
 -- a test of every element made by a function
 pub all-map : {A B : Type 0} (f : A → B) (test : B → Bool) (xs : List A) → all test (map f xs) ≡ all (λ x. test (f x)) xs
 unfolding all

@@ -4,15 +4,17 @@ use native.Mathlib.Numerals.{add-one}
 use native.Mathlib.Omega.{arith}
 use mathlib.Core.Path.{_≡_, refl, sym, ap, _∙_, subst}
 use mathlib.Core.Bool.{Bool, true, false}
-use mathlib.Core.List.{List, [], _∷_, _++_, map, map-append, append-assoc, List·Memᴰ}
+use mathlib.Core.List.{List, [], _∷_, _++_, map, map-append, append-assoc, append-nil, List·Memᴰ}
 use lib.Dec.{ltb}
 use lib.ListN.{length, take, getD, set, replicate, length-map, length-append, length-replicate, List·getD-append, List·getD-eq-default}
 use lib.Seq.{set-append-seam, take-suc, length-take-le}
 use borrow.Author.Tests.{ltb-true, ltb-false}
 use Rattle.laws.specs.Lists.{keep, upTo, padded}
-use Rattle.laws.proofs.Tests.{by-test}
-use Rattle.laws.proofs.Lists.{mem-getD}
-use Rattle.laws.proofs.Walks.{keep-one-more, keep-no-more, keep-few}
+use Rattle.laws.proofs.Tests.{by-test, cond-true, cond-false}
+use Rattle.laws.proofs.Lists.{mem-getD, length-keep, length-upTo}
+use Rattle.laws.proofs.Counting.{count-most}
+use Rattle.laws.proofs.Fronts.{keep-parts}
+use Rattle.laws.proofs.Walks.{upTo-next}
 
 module _ {A : Type 0} where
   getD-blanks : (n i : ℕ) (blank : A) → getD (replicate n blank) i blank ≡ blank
@@ -73,26 +75,47 @@ padded-below n m xs below positive i =
     subst (λ (x : ℕ). x < m) (sym (padded-at n 0 xs i 0 h)) (below (getD xs i 0) (mem-getD xs i 0 h)))
     (λ e. subst (λ (x : ℕ). x < m) (sym (padded-past n 0 xs i (ltb-false i (length xs) e))) positive)
 
--- An array that holds the numbers so far that pass a test, and how many there are.
-module _ (test : ℕ → Bool) (n : ℕ) (array : List ℕ) (count i : ℕ) (room : i < n)
-    (counted : count ≡ length (keep test (upTo i))) (are : array ≡ padded n 0 (keep test (upTo i))) where
-  -- the next number passes and is written behind them
-  pub pick-written : test i ≡ true
-      → (count + 1 ≡ length (keep test (upTo (i + 1)))) × (set array count i ≡ padded n 0 (keep test (upTo (i + 1))))
-  pick-written e =
-      let next = keep-one-more test i e in
-      let few = keep-few test i in (
-        ap (λ (k : ℕ). k + 1) counted ∙ sym (length-append (keep test (upTo i)) (i ∷ [])) ∙ ap length (sym next),
-        ap (λ (l : List ℕ). set l count i) are
-            ∙ padded-set n 0 (keep test (upTo i)) i (sym counted) (omega arith)
-            ∙ ap (padded n 0) (sym next),
+-- An array that holds those elements of a front that pass a test, and how many there are.
+module _ {A : Type 0} (test : A → Bool) (size : ℕ) (blank : A) (front : List A) (x : A) (array : List A) (count : ℕ) (room : length front < size)
+    (counted : count ≡ length (keep test front)) (are : array ≡ padded size blank (keep test front)) where
+  more : keep test (front ++ (x ∷ [])) ≡ keep test front ++ keep test (x ∷ [])
+  more = keep-parts test front (x ∷ [])
+
+  -- the next element passes and is written behind them
+  pub passed-written : test x ≡ true
+      → (count + 1 ≡ length (keep test (front ++ (x ∷ [])))) × (set array count x ≡ padded size blank (keep test (front ++ (x ∷ []))))
+  unfolding keep
+  passed-written e =
+      let next = more ∙ ap (λ (l : List A). keep test front ++ l) (cond-true (test x) (x ∷ []) [] e) in
+      let few = length-keep test front in
+      let most = count-most test front in (
+        ap (λ (k : ℕ). k + 1) counted ∙ sym (length-append (keep test front) (x ∷ [])) ∙ ap length (sym next),
+        ap (λ (l : List A). set l count x) are
+            ∙ padded-set size blank (keep test front) x (sym counted) (omega arith)
+            ∙ ap (padded size blank) (sym next),
       )
 
   -- or fails, and nothing changes
+  pub failed-skipped : test x ≡ false
+      → (count ≡ length (keep test (front ++ (x ∷ [])))) × (array ≡ padded size blank (keep test (front ++ (x ∷ []))))
+  unfolding keep
+  failed-skipped e =
+      let next = sym (more ∙ ap (λ (l : List A). keep test front ++ l) (cond-false (test x) (x ∷ []) [] e) ∙ append-nil (keep test front)) in
+      (counted ∙ ap length next, are ∙ ap (padded size blank) next)
+
+-- the same of the numbers so far
+module _ (test : ℕ → Bool) (n : ℕ) (array : List ℕ) (count i : ℕ) (room : i < n)
+    (counted : count ≡ length (keep test (upTo i))) (are : array ≡ padded n 0 (keep test (upTo i))) where
+  inside : length (upTo i) < n
+  inside = subst (λ (k : ℕ). k < n) (sym (length-upTo i)) room
+
+  pub pick-written : test i ≡ true
+      → (count + 1 ≡ length (keep test (upTo (i + 1)))) × (set array count i ≡ padded n 0 (keep test (upTo (i + 1))))
+  pick-written e = rw (upTo-next i) (passed-written test n 0 (upTo i) i array count inside counted are e)
+
   pub pick-skipped : test i ≡ false
       → (count ≡ length (keep test (upTo (i + 1)))) × (array ≡ padded n 0 (keep test (upTo (i + 1))))
-  pick-skipped e =
-      let next = sym (keep-no-more test i e) in (counted ∙ ap length next, are ∙ ap (padded n 0) next)
+  pick-skipped e = rw (upTo-next i) (failed-skipped test n 0 (upTo i) i array count inside counted are e)
 
 -- An array that holds what a function gives of the first i elements of a list: the next is written behind them.
 pub map-written : {A : Type 0} (n : ℕ) (f : A → ℕ) (xs : List A) (d : A) (array : List ℕ) (i : ℕ) → i < n → i < length xs

@@ -122,6 +122,16 @@ module _ (low high : ℕ) where
       → RefusedWithin low high y → RefusedWithin low high (need test number >> y)
   need-both-within test number y h q = both-within (need test number) y (need-within test number h) q
 
+  -- an accepted answer is refused by no number, and a sequence by those of its parts
+  pub accepted-within : {A : Type 0} {a : A} → RefusedWithin low high (accepted a)
+  accepted-within n e = accepted-not-refused e
+
+  pub then-within : {A B : Type 0} (x : Answer A) (next : A → Answer B) → RefusedWithin low high x
+      → ((a : A) → RefusedWithin low high (next a)) → RefusedWithin low high (x >>= next)
+  unfolding _>>=_
+  then-within (refused m) next p q n e = p n (ap refused (one-number e))
+  then-within (accepted a) next p q n e = q a n e
+
 -- the parts of an accepted sequence, one by one
 pub not-accepted : {A C : Type 0} (n : ℕ) (a : A) → refused n ≡ accepted a → C
 not-accepted n a e = accepted-not-refused (sym e)

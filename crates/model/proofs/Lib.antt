@@ -39,6 +39,10 @@ pub mod OpenActions
 pub mod OpenBySchema
 pub mod NextState
 pub mod OpenCalls
+pub mod RefusalNumbers
+pub mod PreviewLists
+pub mod PreviewCalls
+pub mod MixedHolds
 pub mod Nestings
 pub mod FormerTests
 pub mod Recounting

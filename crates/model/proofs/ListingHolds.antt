@@ -9,7 +9,8 @@ use native.Mathlib.Omega.{arith}
 use mathlib.Core.Path.{_≡_, refl, sym, ap, ap₂, _∙_, subst}
 use mathlib.Core.Bool.{Bool, true, false, cond, not, _&&_}
 use mathlib.Core.Logic.{⊎-elim}
-use mathlib.Core.List.{List, [], _∷_, map, List·Memᴰ, List·Memᴰ·head, List·Memᴰ·cases-cons, List·Memᴰ·not-nil, List·Memᴰ·eq-of-singleton, Memᴰ·map, Memᴰ·of-map}
+use mathlib.Core.List.{List, [], _∷_, map, foldl, List·Memᴰ, List·Memᴰ·head, List·Memᴰ·cases-cons, List·Memᴰ·not-nil}
+use mathlib.Core.List.{List·Memᴰ·eq-of-singleton, Memᴰ·map, Memᴰ·of-map}
 use lib.Dec.{ltb, eqb}
 use lib.ListN.{length, getD}
 use borrow.Author.Tests.{eqb-true, ltb-true}
@@ -27,11 +28,11 @@ use Rattle.model.specs.Transitions.{properties, bagOf}
 use Rattle.model.specs.Spaces.{Space, Kind, property, condition, spaces, hasMember}
 use Rattle.model.specs.Lines.{Line, space, state, limit, membership, exclusion, total, ceiling, Analysis, analysis, analyse, countOf, largest}
 use Rattle.model.specs.Lines.{minimal, excluded, spaceLines, propertyNumber, oneNumber, ofPredicate}
-use Rattle.model.specs.Calls.{initial, history, stateOf}
+use Rattle.model.specs.Calls.{Standing, initial, history, stateOf}
 use Rattle.model.specs.Truth.{_isOn_, _isSectionOf_, statesOf, countIn, Allowed, Holds}
 use Rattle.model.proofs.Valid.{Valid}
 use Rattle.model.proofs.Checked.{checked, checked-action}
-use Rattle.model.proofs.History.{history-induction}
+use Rattle.model.proofs.History.{Events, presses, event-induction}
 use Rattle.model.proofs.RoundTrip.{decode-checks}
 use Rattle.model.proofs.ListedSpace.{extensionOf, listed-as-property, conditions-listed, space-of-analysis, analysed, spaces-of-analysis}
 use Rattle.model.proofs.JoinedLists.{joined-has}
@@ -286,27 +287,44 @@ module _ (t : Task) (ok : checkTask t ≡ accepted tt) (s : State) (valid : Vali
             types-on t (a .schema) k (action .schema-known) (subst (λ (x : ℕ). k < x) (action .one-for-each) h);
       }
 
+-- What holds after the opening call of an accepted card and any list of events, of whatever kind.
+module _ (card buffer : List ℕ) (t : Task) (n : ℕ) (decoded : decode card ≡ accepted t) (opened : initial card buffer .answer ≡ accepted n)
+    {S E : Type 0} (kind : Events t S E) (start : S) (at-opening : kind .standing start ≡ record { buffer = initial card buffer .buffer; count = n })
+    (events : List E) where
+  ok : checkTask t ≡ accepted tt
+  ok = decode-checks card t decoded
+
+  standing : Standing
+  standing = kind .standing (foldl (kind .happens) start events)
+
+  invariant-after : Invariant t (stateOf t standing) × Valid t (stateOf t standing)
+  unfolding standing
+  invariant-after =
+      event-induction card buffer t n decoded ok opened
+      (record { initially = invariant-initially t ok; kept = λ s a valid inv allowed. invariant-kept t ok s a valid inv allowed })
+      kind start at-opening events
+
+  pub holds-after : Holds t (stateOf t (kind .standing (foldl (kind .happens) start events)))
+  unfolding standing
+  holds-after = holds t ok (stateOf t standing) (invariant-after .1) (invariant-after .0)
+
+  -- and the stronger fact that a member's condition stands on the own list of its own initial condition
+  pub on-own-list-after : (u : Space) → List·Memᴰ u (spaces t) → analyse t u .kind ≡ property → (o : ℕ) → member o (u .members) ≡ true
+      → OnOwnList t u (stateOf t (kind .standing (foldl (kind .happens) start events))) o
+  unfolding standing
+  on-own-list-after u m listed = invariant-after .0 .on-own-list u m (listed-as-property t u listed)
+
 -- Demand 3
 pub listing-holds : (card buffer : List ℕ) (t : Task) (n : ℕ) → decode card ≡ accepted t → initial card buffer .answer ≡ accepted n
     → (actions : List Action)
     → Holds t (stateOf t (history card actions (record { buffer = initial card buffer .buffer; count = n })))
-listing-holds card buffer t n decoded opened actions =
-    let ok = decode-checks card t decoded in
-    let after =
-    history-induction card buffer t n decoded ok opened (Invariant t) (invariant-initially t ok)
-    (λ s a valid inv allowed. invariant-kept t ok s a valid inv allowed)
-    actions in
-    holds t ok _ (after .1) (after .0)
+unfolding history
+listing-holds card buffer t n decoded opened actions = holds-after card buffer t n decoded opened (presses card t decoded) _ refl actions
 
 -- and the stronger fact that a member's condition stands on the own list of its own initial condition
 pub own-list-holds : (card buffer : List ℕ) (t : Task) (n : ℕ) → decode card ≡ accepted t → initial card buffer .answer ≡ accepted n
     → (actions : List Action) → (u : Space) → List·Memᴰ u (spaces t) → analyse t u .kind ≡ property → (o : ℕ)
     → member o (u .members) ≡ true
     → OnOwnList t u (stateOf t (history card actions (record { buffer = initial card buffer .buffer; count = n }))) o
-own-list-holds card buffer t n decoded opened actions u m kind =
-    let ok = decode-checks card t decoded in
-    let after =
-    history-induction card buffer t n decoded ok opened (Invariant t) (invariant-initially t ok)
-    (λ s a valid inv allowed. invariant-kept t ok s a valid inv allowed)
-    actions in
-    after .0 .on-own-list u m (listed-as-property t u kind)
+unfolding history
+own-list-holds card buffer t n decoded opened actions = on-own-list-after card buffer t n decoded opened (presses card t decoded) _ refl actions

@@ -28,7 +28,7 @@ newFacts schema objects s = count (λ a. not (has s (ground objects a))) (schema
 
 module _ {arities : List ℕ} {schema : Schema} (lists : CheckedSchema arities schema) {objects : List ℕ} {s : State} (ready : Ready schema objects s) where
   -- no add is taken out: the deletes are preconditions, and the adds are none
-  add-stays : (a : Atom) → List·Memᴰ a (schema .adds) → has (takenOut schema objects) (ground objects a) ≡ false
+  pub add-stays : (a : Atom) → List·Memᴰ a (schema .adds) → has (takenOut schema objects) (ground objects a) ≡ false
   unfolding takenOut
   add-stays a m = has-none (map (ground objects) (schema .deletes)) (ground objects a) (λ k.
       let (d, deleted, is) = Memᴰ·of-map (ground objects) (schema .deletes) k in

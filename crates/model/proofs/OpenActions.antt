@@ -21,7 +21,7 @@ use Rattle.laws.proofs.Increasing.{Strict, Increasing, increasing-keep, increas
 use Rattle.model.specs.Answer.{Answer, refused, accepted, _>>=_}
 use Rattle.model.specs.Card.{Task, decode}
 use Rattle.model.specs.Strips.{State, Action, factsIn, wellFormed, schemaAt, checkAction, apply}
-use Rattle.model.specs.Calls.{Call, finish, store, pressOf, press}
+use Rattle.model.specs.Calls.{Call, finish, store, nextState, pressOf, press}
 use Rattle.model.specs.Open.{first, isAccepted, bindings, actions, isOpen, openActions, precedes, comesAfter, openAfter, andThen, oneByOne}
 use Rattle.model.proofs.Answers.{accepted-not-refused, accepted-value, first-passed, then-accepted, need-both}
 use Rattle.model.proofs.Checked.{checked-action}
@@ -148,8 +148,8 @@ counts buffer (accepted next) = (λ e. (length next, refl), λ r. refl)
 pub press-stores : (card buffer : List ℕ) (count : ℕ) (t : Task) → decode card ≡ accepted t
     → wellFormed (t .arities) (t .objects) buffer count ≡ true → (a : Action)
     → press card buffer count a ≡ stored buffer (apply t a (factsIn (t .arities) count buffer))
-unfolding press pressOf stored
-press-stores card buffer count t decoded well a = ap (finish buffer) (then-accepted _ decoded ∙ need-both 15 _ well)
+unfolding press pressOf stored nextState
+press-stores card buffer count t decoded well a = ap (finish buffer) (then-accepted _ decoded) ∙ ap (stored buffer) (need-both 15 _ well)
 
 -- an action is on the list of a well-formed state exactly if the press call answers a count
 pub open-exact : (card buffer : List ℕ) (count : ℕ) (t : Task) → decode card ≡ accepted t

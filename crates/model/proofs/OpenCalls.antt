@@ -12,7 +12,7 @@ use Rattle.laws.proofs.Tests.{by-test}
 use Rattle.model.specs.Answer.{Answer, refused, accepted, _>>=_, _>>_, need}
 use Rattle.model.specs.Card.{Task, decode}
 use Rattle.model.specs.Strips.{State, Action, factsIn, wellFormed, schemaAt, checkAction, limited, progress, apply}
-use Rattle.model.specs.Calls.{Call, finish, store, pressOf, press}
+use Rattle.model.specs.Calls.{Call, finish, store, nextState, pressOf, press}
 use Rattle.model.specs.Open.{isOpen, openActions, openAfter, checkGiven, nextOpenOf, nextOpen, andThen, oneByOne}
 use Rattle.model.proofs.Answers.{accepted-not-refused, accepted-value, one-number, by-answer, first-passed, then-accepted, then-refused}
 use Rattle.model.proofs.Answers.{need-both, need-refused, both-accepted, both-refused, RefusedWithin, need-within, need-both-within, both-within}
@@ -48,7 +48,7 @@ checks-alike buffer (accepted u) next (accepted state) within n h = (λ e. accep
 module _ (card buffer : List ℕ) (count : ℕ) (a : Action) where
   -- a given action is refused by 1 to 18 exactly as a press of it is
   pub refused-as-press : RefusedAlike (nextOpen card buffer count (some a)) (press card buffer count a .answer)
-  unfolding nextOpen nextOpenOf press pressOf checkGiven finish apply
+  unfolding nextOpen nextOpenOf press pressOf nextState checkGiven finish apply
   refused-as-press = by-answer (decode card)
       (λ t decoded. by-test (wellFormed (t .arities) (t .objects) buffer count)
       (λ well.
@@ -56,7 +56,7 @@ module _ (card buffer : List ℕ) (count : ℕ) (a : Action) where
       (checks-alike buffer (checkAction t a) _ _ (progress-within t a (factsIn (t .arities) count buffer))))
       (λ malformed.
       both-by (then-accepted _ decoded ∙ both-refused _ (need-refused 15 malformed))
-      (ap (λ (x : Answer Call). finish buffer x .answer) (then-accepted _ decoded ∙ both-refused _ (need-refused 15 malformed)))))
+      (ap (λ (x : Answer Call). finish buffer x .answer) (then-accepted _ decoded ∙ then-refused _ (both-refused _ (need-refused 15 malformed))))))
       (λ m e. both-by (then-refused _ e) (ap (λ (x : Answer Call). finish buffer x .answer) (then-refused _ e)))
 
 -- ---- a chain of calls

@@ -14,6 +14,7 @@ use Rattle.laws.proofs.Lists.{any-at, any-intro, same-eq, same-refl}
 use Rattle.laws.proofs.Orders.{before-cases, before-first, before-rest, before-irreflexive, before-transitive, before-total, before-head}
 use Rattle.laws.proofs.Orders.{before-append}
 use Rattle.laws.proofs.Counting.{NoRepeat}
+use Rattle.laws.proofs.Increasing.{Strict, Increasing, increasing-unique}
 use Rattle.model.specs.Card.{Atom, below, sameAtom, has, above}
 use Rattle.model.specs.Writer.{known, atomBytes}
 use Rattle.model.specs.Strips.{State, filler, factBytes, ascending}
@@ -209,3 +210,17 @@ pub ascending-no-repeat : (previous : Option Atom) (s : State) → ascending pre
 ascending-no-repeat previous [] e = tt
 ascending-no-repeat previous (f ∷ fs) e =
     let later = ascending-tail previous f fs e in (ascending-absent f fs later, ascending-no-repeat (some f) fs later)
+
+-- each fact of an ascending list stands before all later ones, so two ascending lists with the same facts are one list
+pub below-strict : Strict below
+below-strict = record { irreflexive = below-irreflexive; transitive = below-transitive }
+
+pub ascending-increases : (previous : Option Atom) (s : State) → ascending previous s ≡ true → Increasing below s
+ascending-increases previous [] e = tt
+ascending-increases previous (f ∷ fs) e =
+    let later = ascending-tail previous f fs e in (ascending-above f fs later, ascending-increases (some f) fs later)
+
+pub ascending-unique : (s r : State) → ascending none s ≡ true → ascending none r ≡ true
+    → ((f : Atom) → List·Memᴰ f s → List·Memᴰ f r) → ((f : Atom) → List·Memᴰ f r → List·Memᴰ f s) → s ≡ r
+ascending-unique s r p q into back =
+    increasing-unique below below-strict s r (ascending-increases none s p) (ascending-increases none r q) into back

@@ -7,6 +7,7 @@ use Rattle.model.specs.Answer.{Answer, refused, accepted, _>>=_, _>>_, n
 use Rattle.model.specs.Card.{Task}
 use Rattle.model.specs.Strips.{Action}
 use Rattle.model.specs.Calls.{Call, finish, output, store, encode, initialOf, initial, pressOf, press, section}
+use Rattle.model.specs.Preview.{Preview, commitOf, commit}
 use Rattle.model.proofs.Answers.{accepted-not-refused}
 
 -- a call leaves its buffer as it was, where it is refused
@@ -44,13 +45,15 @@ pub record RefusalsKeep : Type 0 where
   pub writer : (t : Task) (out : List ℕ) → Keeps out (encode t out)
   pub opening : (card buffer : List ℕ) → Keeps buffer (initial card buffer)
   pub pressing : (card buffer : List ℕ) (count : ℕ) (a : Action) → Keeps buffer (press card buffer count a)
+  pub committing : (card buffer : List ℕ) (count : ℕ) (p : Preview) → Keeps buffer (commit card buffer count p)
   pub listing : (card : List ℕ) (number : ℕ) (out : List ℕ) → Keeps out (section card number out)
 
 pub refusals-keep : RefusalsKeep
-unfolding encode initialOf initial pressOf press section output store
+unfolding encode initialOf initial pressOf press commitOf commit section output store
 refusals-keep = record {
   writer = λ t out. finished (after-check _ (after-need _ 21 (accepts refl)));
   opening = λ card buffer. finished (after-part _ (λ t. after-need _ 15 (accepts refl)));
-  pressing = λ card buffer count a. finished (after-part _ (λ t. after-need _ 15 (after-part _ (λ next. accepts refl))));
+  pressing = λ card buffer count a. finished (after-part _ (λ t. after-part _ (λ next. accepts refl)));
+  committing = λ card buffer count p. finished (after-part _ (λ t. after-part _ (λ next. after-need _ 23 (accepts refl))));
   listing = λ card number out. finished (after-part _ (λ t. after-need _ 21 (after-need _ 22 (accepts refl))));
 }

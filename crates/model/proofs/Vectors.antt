@@ -15,18 +15,23 @@ use Rattle.model.specs.Lines.{lines-open}
 use Rattle.model.specs.Text.{text-opens}
 use Rattle.model.specs.Calls.{calls-open}
 use Rattle.model.specs.Open.{open-opens}
+use Rattle.model.specs.Preview.{preview-opens}
+use Rattle.model.specs.Histories.{histories-open}
 use Rattle.model.specs.Vectors.{Entry, table, answer, vectors-open}
 use Rattle.model.specs.Vectors.{bench-card, presses-refused, presses-made, swallowed-add, mixed-space, conditions-56, wide-space}
 use Rattle.model.specs.Vectors.{no-bytes, byte-more, objects-65, objects-64, roles-1, roles-7}
 use Rattle.model.specs.Vectors.{two-starts, nested-chain, two-rounds, three-arguments, two-digits, empty-lists, conditions-64, condition-65}
 use Rattle.model.specs.Vectors.{section-written, section-past, short-first, card-first, zeros-after, table-written, table-short}
 use Rattle.model.specs.Vectors.{atoms-first, list-of-9, two-open, after-closed, given-refused, state-first, no-room}
+use Rattle.model.specs.Vectors.{in-state-order, nothing-comes, both-asked, malformed-asked, asking-refused, no-room-asked}
+use Rattle.model.specs.Vectors.{still-so, coming-differs, going-differs, filler-differs, order-differs, row-repeated, rows-missing}
+use Rattle.model.specs.Vectors.{checks-first, room-first, committed-and-asked}
 
 -- opens every definition, for what is proved by computation
 unfoldable pub definitions-open : Unit {0}
 unfolding
     flatMap lists-open bags-open answer-opens card-opens writer-opens strips-opens transitions-open spaces-open extension-opens
-    lines-open text-opens calls-open open-opens vectors-open
+    lines-open text-opens calls-open open-opens preview-opens histories-open vectors-open
 definitions-open = tt
 
 -- the definitions answer as expected
@@ -173,6 +178,70 @@ no-room-holds : Holds no-room
 unfolding definitions-open
 no-room-holds = refl
 
+in-state-order-holds : Holds in-state-order
+unfolding definitions-open
+in-state-order-holds = refl
+
+nothing-comes-holds : Holds nothing-comes
+unfolding definitions-open
+nothing-comes-holds = refl
+
+both-asked-holds : Holds both-asked
+unfolding definitions-open
+both-asked-holds = refl
+
+malformed-asked-holds : Holds malformed-asked
+unfolding definitions-open
+malformed-asked-holds = refl
+
+asking-refused-holds : Holds asking-refused
+unfolding definitions-open
+asking-refused-holds = refl
+
+no-room-asked-holds : Holds no-room-asked
+unfolding definitions-open
+no-room-asked-holds = refl
+
+still-so-holds : Holds still-so
+unfolding definitions-open
+still-so-holds = refl
+
+coming-differs-holds : Holds coming-differs
+unfolding definitions-open
+coming-differs-holds = refl
+
+going-differs-holds : Holds going-differs
+unfolding definitions-open
+going-differs-holds = refl
+
+filler-differs-holds : Holds filler-differs
+unfolding definitions-open
+filler-differs-holds = refl
+
+order-differs-holds : Holds order-differs
+unfolding definitions-open
+order-differs-holds = refl
+
+row-repeated-holds : Holds row-repeated
+unfolding definitions-open
+row-repeated-holds = refl
+
+rows-missing-holds : Holds rows-missing
+unfolding definitions-open
+rows-missing-holds = refl
+
+checks-first-holds : Holds checks-first
+unfolding definitions-open
+checks-first-holds = refl
+
+room-first-holds : Holds room-first
+unfolding definitions-open
+room-first-holds = refl
+
+committed-and-asked-holds : Holds committed-and-asked
+unfolding definitions-open
+committed-and-asked-holds = refl
+
 -- each entry of a list holds
 infixr 5 _and_
 data AllHold : List Entry → Type 0 where
@@ -224,6 +293,22 @@ every-entry =
     and given-refused-holds
     and state-first-holds
     and no-room-holds
+    and in-state-order-holds
+    and nothing-comes-holds
+    and both-asked-holds
+    and malformed-asked-holds
+    and asking-refused-holds
+    and no-room-asked-holds
+    and still-so-holds
+    and coming-differs-holds
+    and going-differs-holds
+    and filler-differs-holds
+    and order-differs-holds
+    and row-repeated-holds
+    and rows-missing-holds
+    and checks-first-holds
+    and room-first-holds
+    and committed-and-asked-holds
     and none
 
 -- every entry of the table holds

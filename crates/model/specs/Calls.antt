@@ -52,11 +52,16 @@ initial card buffer =
       t ← decode card
       initialOf t buffer)
 
--- the press call on a task: the state first (15), then 16 to 20
+-- what an action makes of the state in a buffer: the state first (15), then 16 to 20, or the next state
+unfoldable pub nextState : Task → List ℕ → ℕ → Action → Answer State
+nextState t buffer count action = do
+  need (wellFormed (t .arities) (t .objects) buffer count) 15
+  apply t action (factsIn (t .arities) count buffer)
+
+-- the press call on a task: the next state is stored
 unfoldable pub pressOf : Task → List ℕ → ℕ → Action → Answer Call
 pressOf t buffer count action = do
-  need (wellFormed (t .arities) (t .objects) buffer count) 15
-  next ← apply t action (factsIn (t .arities) count buffer)
+  next ← nextState t buffer count action
   accepted (store next buffer)
 
 -- the press call: 1 to 20
@@ -109,5 +114,5 @@ stateOf t standing = factsIn (t .arities) (standing .count) (standing .buffer)
 
 -- opens every definition of this module, for what is proved by computation
 unfoldable pub calls-open : Unit {0}
-unfolding finish output encode store initialOf initial pressOf press section printed program counted pressed history stateOf
+unfolding finish output encode store initialOf initial nextState pressOf press section printed program counted pressed history stateOf
 calls-open = tt

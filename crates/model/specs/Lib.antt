@@ -10,4 +10,6 @@ pub mod Text
 pub mod Calls
 pub mod Truth
 pub mod Open
+pub mod Preview
+pub mod Histories
 pub mod Vectors

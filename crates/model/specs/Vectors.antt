@@ -9,12 +9,14 @@ use mathlib.Core.Option.{Option, none, some}
 use lib.ListN.{length, take, drop, replicate, set}
 use Rattle.laws.specs.Lists.{from, upTo}
 use Rattle.model.specs.Answer.{Answer, refused, accepted}
-use Rattle.model.specs.Card.{Atom, Schema, Task, decode}
+use Rattle.model.specs.Card.{Atom, Task, decode}
 use Rattle.model.specs.Strips.{Action, stateBytes, factBytes, factsIn}
 use Rattle.model.specs.Lines.{Analysis, analysis}
 use Rattle.model.specs.Text.{kindLetter}
 use Rattle.model.specs.Calls.{Call, Standing, encode, initial, press, pressed, section, program, history, stateOf, counted}
 use Rattle.model.specs.Open.{bindings, openAfter, nextOpen, oneByOne}
+use Rattle.model.specs.Preview.{Preview, Asked, ask, commit}
+use Rattle.model.specs.Histories.{Event, asking, committing, happened, mixed}
 
 -- the bytes of a text in ASCII
 unfoldable pub ascii : String → List ℕ
@@ -36,6 +38,9 @@ pub data Question : Type 0 where
   writes : Task → ℕ → Question  -- the card writer: a table, the size of the buffer lent
   shows : List ℕ → List (List ℕ) → ℕ → Question  -- the open actions one by one: a card, a state's facts of four bytes each, how often is asked
   asks : List ℕ → List (List ℕ) → List (Option Action) → Question  -- the call for the next open action, after each of these: a card, such a state
+  foresees : List ℕ → List (List ℕ) → List Action → Question  -- asking what each of these would do: a card, such a state
+  commits : List ℕ → List (List ℕ) → List Preview → Question  -- committing each of these on one state: a card, such a state
+  mixes : List ℕ → List Event → Question  -- the facts that stand after these calls from the initial state
 
 -- 1 and a value, or 0 and the number of a refusal
 unfoldable pub said : Answer ℕ → List ℕ
@@ -87,6 +92,18 @@ saidNext (accepted (some a)) = 1 ∷ actionNumbers a
 saidNext (accepted none) = 1 ∷ []
 saidNext (refused number) = 0 ∷ number ∷ []
 
+-- 1 and the count, then how many facts go, these, how many come, and these; or 0 and the number of a refusal
+unfoldable pub saidAsked : Answer Asked → List (List ℕ)
+saidAsked (accepted asked) =
+    let p = asked .foreseen in
+    (1 ∷ asked .count ∷ []) ∷ (length (p .gone) ∷ []) ∷ p .gone ++ ((length (p .come) ∷ []) ∷ p .come)
+saidAsked (refused number) = (0 ∷ number ∷ []) ∷ []
+
+-- what committing answers, and the facts that then stand
+unfoldable pub committingReply : List ℕ → Task → Standing → Preview → List (List ℕ)
+committingReply card t standing p =
+    said (commit card (standing .buffer) (standing .count) p .answer) ∷ map factBytes (stateOf t (happened card standing (committing p)))
+
 unfoldable pub reply : Question → Answer Task → List (List ℕ)
 reply (prints card) answer = program card ∷ []
 reply (plays card actions) (accepted t) = playing card t actions (atOpening card)
@@ -101,6 +118,12 @@ reply (writes t size) answer = callReply (encode t (fresh size))
 reply (shows card rows n) (accepted t) = map actionNumbers (oneByOne (openAfter t (factsIn (t .arities) (length rows) (holding rows))) n none)
 reply (shows card rows n) (refused number) = (0 ∷ number ∷ []) ∷ []
 reply (asks card rows given) answer = map (λ a. saidNext (nextOpen card (holding rows) (length rows) a)) given
+reply (foresees card rows actions) answer = flatMap (λ a. saidAsked (ask card (holding rows) (length rows) a)) actions
+reply (commits card rows previews) (accepted t) =
+    flatMap (committingReply card t (record { buffer = holding rows; count = length rows })) previews
+reply (commits card rows previews) (refused number) = (0 ∷ number ∷ []) ∷ []
+reply (mixes card events) (accepted t) = map factBytes (stateOf t (mixed card events (atOpening card)))
+reply (mixes card events) (refused number) = (0 ∷ number ∷ []) ∷ []
 
 unfoldable pub cardOf : Question → List ℕ
 cardOf (prints card) = card
@@ -112,6 +135,9 @@ cardOf (lists card number size) = card
 cardOf (writes t size) = []
 cardOf (shows card rows n) = card
 cardOf (asks card rows given) = card
+cardOf (foresees card rows actions) = card
+cardOf (commits card rows previews) = card
+cardOf (mixes card events) = card
 
 -- what the definitions answer
 unfoldable pub answer : Question → List (List ℕ)
@@ -544,12 +570,168 @@ unfoldable pub crowding : List ℕ
 crowding =
     17 ∷ replicate 16 3 ++ (1 ∷ 4 ∷ 2 ∷ 0x08 ∷ 1 ∷ 16 ∷ 0 ∷ 0x0E ∷ 1 ∷ 0 ∷ 0 ∷ 0 ∷ 0 ∷ 1 ∷ 0 ∷ 0 ∷ 0 ∷ 0 ∷ 1 ∷ 16 ∷ 0 ∷ 0 ∷ 0 ∷ [])
 
--- on a state of 1,024 facts, all those of arity 3, the first rule is closed by 20 and the second is open
+-- a state of 1,024 facts: all those of arity 3
+unfoldable pub crowd : List (List ℕ)
+crowd = flatMap (λ p. map (λ objects. p ∷ objects) (bindings 4 3)) (upTo 16)
+
+-- there, the first rule is closed by 20 and the second is open
 unfoldable pub no-room : Entry
 no-room =
     record {
-      question = shows crowding (flatMap (λ p. map (λ objects. p ∷ objects) (bindings 4 3)) (upTo 16)) 9;
+      question = shows crowding crowd 9;
       expected = (1 ∷ 0 ∷ []) ∷ (1 ∷ 1 ∷ []) ∷ (1 ∷ 2 ∷ []) ∷ (1 ∷ 3 ∷ []) ∷ [];
+    }
+
+-- p/1, q/1; a rule takes p(X) and p(Y) and adds q(X) and q(Y); p(0), p(1)
+unfoldable pub pairing : List ℕ
+pairing = 2 ∷ 1 ∷ 1 ∷ 2 ∷ 1 ∷ 0x0F ∷ 2 ∷ 2 ∷ 0 ∷ 0 ∷ 0 ∷ 1 ∷ 2 ∷ 0 ∷ 0 ∷ 0 ∷ 1 ∷ 2 ∷ 1 ∷ 0 ∷ 1 ∷ 1 ∷ 0 ∷ 2 ∷ 0 ∷ 0 ∷ 0 ∷ 1 ∷ []
+
+-- with 1 for X and 0 for Y, the facts go and come in the state's order, not in the order of the rule's atoms
+unfoldable pub in-state-order : Entry
+in-state-order =
+    record {
+      question = foresees pairing ((0 ∷ 0 ∷ 255 ∷ 255 ∷ []) ∷ (0 ∷ 1 ∷ 255 ∷ 255 ∷ []) ∷ []) (act 0 (1 ∷ 0 ∷ []) ∷ []);
+      expected =
+          (1 ∷ 2 ∷ [])
+          ∷ (2 ∷ []) ∷ (0 ∷ 0 ∷ 255 ∷ 255 ∷ []) ∷ (0 ∷ 1 ∷ 255 ∷ 255 ∷ [])
+          ∷ (2 ∷ []) ∷ (1 ∷ 0 ∷ 255 ∷ 255 ∷ []) ∷ (1 ∷ 1 ∷ 255 ∷ 255 ∷ []) ∷ [];
+    }
+
+-- K4: b(0) is in the state, so a(0) goes, and nothing comes
+unfoldable pub nothing-comes : Entry
+nothing-comes =
+    record {
+      question = foresees k4 ((0 ∷ 0 ∷ 255 ∷ 255 ∷ []) ∷ (1 ∷ 0 ∷ 255 ∷ 255 ∷ []) ∷ []) (act 0 (0 ∷ []) ∷ []);
+      expected = (1 ∷ 1 ∷ []) ∷ (1 ∷ []) ∷ (0 ∷ 0 ∷ 255 ∷ 255 ∷ []) ∷ (0 ∷ []) ∷ [];
+    }
+
+-- K1 where schema 0 on 1 and schema 1 on 0 2 3 are open: both asked on the same state
+unfoldable pub both-asked : Entry
+both-asked =
+    record {
+      question = foresees k1 armed (act 0 (1 ∷ []) ∷ act 1 (0 ∷ 2 ∷ 3 ∷ []) ∷ []);
+      expected =
+          (1 ∷ 6 ∷ []) ∷ (1 ∷ []) ∷ (0 ∷ 1 ∷ 255 ∷ 255 ∷ []) ∷ (1 ∷ []) ∷ (1 ∷ 1 ∷ 255 ∷ 255 ∷ [])
+          ∷ (1 ∷ 6 ∷ [])
+          ∷ (2 ∷ []) ∷ (1 ∷ 0 ∷ 255 ∷ 255 ∷ []) ∷ (2 ∷ 0 ∷ 2 ∷ 255 ∷ [])
+          ∷ (2 ∷ []) ∷ (0 ∷ 0 ∷ 255 ∷ 255 ∷ []) ∷ (2 ∷ 0 ∷ 3 ∷ 255 ∷ []) ∷ [];
+    }
+
+-- asking is refused as a press is: by 15, by 16 to 19, and by 20
+unfoldable pub malformed-asked : Entry
+malformed-asked =
+    record {
+      question = foresees k1 ((3 ∷ 3 ∷ 255 ∷ 255 ∷ []) ∷ (0 ∷ 1 ∷ 255 ∷ 255 ∷ []) ∷ []) (act 2 (0 ∷ []) ∷ act 0 (1 ∷ []) ∷ []);
+      expected = (0 ∷ 15 ∷ []) ∷ (0 ∷ 15 ∷ []) ∷ [];
+    }
+
+unfoldable pub asking-refused : Entry
+asking-refused =
+    record {
+      question =
+          foresees k1 armed
+          (act 2 (0 ∷ []) ∷ act 1 (0 ∷ 2 ∷ []) ∷ act 0 (4 ∷ []) ∷ act 1 (0 ∷ 2 ∷ 2 ∷ []) ∷ act 0 (0 ∷ []) ∷ act 1 (1 ∷ 3 ∷ 2 ∷ []) ∷ []);
+      expected = (0 ∷ 16 ∷ []) ∷ (0 ∷ 17 ∷ []) ∷ (0 ∷ 17 ∷ []) ∷ (0 ∷ 18 ∷ []) ∷ (0 ∷ 19 ∷ []) ∷ (0 ∷ 19 ∷ []) ∷ [];
+    }
+
+unfoldable pub no-room-asked : Entry
+no-room-asked =
+    record {
+      question = foresees crowding crowd (act 0 (2 ∷ []) ∷ []);
+      expected = (0 ∷ 20 ∷ []) ∷ [];
+    }
+
+unfoldable pub foreseeing : Action → List (List ℕ) → List (List ℕ) → Preview
+foreseeing a gone come = record { action = a; gone = gone; come = come }
+
+-- K1's schema 1 on 0 2 3, with these facts going and coming
+unfoldable pub loading : List (List ℕ) → List (List ℕ) → Preview
+loading gone come = foreseeing (act 1 (0 ∷ 2 ∷ 3 ∷ [])) gone come
+
+-- those that really go and come on the state above
+unfoldable pub unloaded : List (List ℕ)
+unloaded = (1 ∷ 0 ∷ 255 ∷ 255 ∷ []) ∷ (2 ∷ 0 ∷ 2 ∷ 255 ∷ []) ∷ []
+
+unfoldable pub loaded : List (List ℕ)
+loaded = (0 ∷ 0 ∷ 255 ∷ 255 ∷ []) ∷ (2 ∷ 0 ∷ 3 ∷ 255 ∷ []) ∷ []
+
+-- the lists are still so, and the press is made
+unfoldable pub still-so : Entry
+still-so =
+    record {
+      question = commits k1 armed (loading unloaded loaded ∷ []);
+      expected =
+          (1 ∷ 6 ∷ [])
+          ∷ (0 ∷ 0 ∷ 255 ∷ 255 ∷ []) ∷ (0 ∷ 1 ∷ 255 ∷ 255 ∷ []) ∷ (2 ∷ 0 ∷ 3 ∷ 255 ∷ []) ∷ (2 ∷ 1 ∷ 3 ∷ 255 ∷ [])
+          ∷ (3 ∷ 2 ∷ 255 ∷ 255 ∷ []) ∷ (3 ∷ 3 ∷ 255 ∷ 255 ∷ []) ∷ [];
+    }
+
+-- refused by 23, and the state above as it was
+unfoldable pub outdated : List (List ℕ)
+outdated = (0 ∷ 23 ∷ []) ∷ armed
+
+-- another fact comes
+unfoldable pub coming-differs : Entry
+coming-differs =
+    record {
+      question = commits k1 armed (loading unloaded ((0 ∷ 0 ∷ 255 ∷ 255 ∷ []) ∷ (2 ∷ 0 ∷ 2 ∷ 255 ∷ []) ∷ []) ∷ []);
+      expected = outdated;
+    }
+
+-- another fact goes
+unfoldable pub going-differs : Entry
+going-differs =
+    record {
+      question = commits k1 armed (loading ((1 ∷ 0 ∷ 255 ∷ 255 ∷ []) ∷ (2 ∷ 1 ∷ 3 ∷ 255 ∷ []) ∷ []) loaded ∷ []);
+      expected = outdated;
+    }
+
+-- the same facts with a filler of 0; in another order
+unfoldable pub filler-differs : Entry
+filler-differs =
+    record {
+      question = commits k1 armed (loading unloaded ((0 ∷ 0 ∷ 255 ∷ 0 ∷ []) ∷ (2 ∷ 0 ∷ 3 ∷ 255 ∷ []) ∷ []) ∷ []);
+      expected = outdated;
+    }
+
+unfoldable pub order-differs : Entry
+order-differs =
+    record {
+      question = commits k1 armed (loading ((2 ∷ 0 ∷ 2 ∷ 255 ∷ []) ∷ (1 ∷ 0 ∷ 255 ∷ 255 ∷ []) ∷ []) loaded ∷ []);
+      expected = outdated;
+    }
+
+-- too many, one of them twice; too few
+unfoldable pub row-repeated : Entry
+row-repeated = record { question = commits k1 armed (loading unloaded (loaded ++ ((2 ∷ 0 ∷ 3 ∷ 255 ∷ []) ∷ [])) ∷ []); expected = outdated }
+
+unfoldable pub rows-missing : Entry
+rows-missing = record { question = commits k1 armed (loading (take 1 unloaded) loaded ∷ loading [] loaded ∷ []); expected = outdated ++ outdated }
+
+-- 16 to 19 before 23: then nothing is compared
+unfoldable pub checks-first : Entry
+checks-first =
+    record {
+      question =
+          commits k1 armed
+          (map (λ a. foreseeing a unloaded loaded) (act 2 (0 ∷ []) ∷ act 1 (0 ∷ 2 ∷ []) ∷ act 1 (0 ∷ 2 ∷ 2 ∷ []) ∷ act 0 (0 ∷ []) ∷ []));
+      expected = flatMap (λ number. (0 ∷ number ∷ []) ∷ armed) (16 ∷ 17 ∷ 18 ∷ 19 ∷ []);
+    }
+
+-- 20 before 23: there is no room for q(2), and a fact is handed in as going where none goes
+unfoldable pub room-first : Entry
+room-first =
+    record {
+      question = commits crowding crowd (foreseeing (act 0 (2 ∷ [])) ((0 ∷ 0 ∷ 0 ∷ 0 ∷ []) ∷ []) [] ∷ []);
+      expected = (0 ∷ 20 ∷ []) ∷ crowd;
+    }
+
+-- a history: q(0) is committed, then r(0) is asked for, which answers 3, and the state still has 2 facts
+unfoldable pub committed-and-asked : Entry
+committed-and-asked =
+    record {
+      question = mixes growing (committing (foreseeing (act 0 (0 ∷ [])) [] ((1 ∷ 0 ∷ 255 ∷ 255 ∷ []) ∷ [])) ∷ asking (act 1 (0 ∷ [])) ∷ []);
+      expected = (0 ∷ 0 ∷ 255 ∷ 255 ∷ []) ∷ (1 ∷ 0 ∷ 255 ∷ 255 ∷ []) ∷ [];
     }
 
 unfoldable pub table : List Entry
@@ -557,15 +739,22 @@ table =
     bench-card ∷ presses-refused ∷ presses-made ∷ swallowed-add ∷ mixed-space ∷ conditions-56 ∷ wide-space ∷ no-bytes ∷ byte-more ∷ objects-65
     ∷ objects-64 ∷ roles-1 ∷ roles-7 ∷ two-starts ∷ nested-chain ∷ two-rounds ∷ three-arguments ∷ two-digits ∷ empty-lists ∷ conditions-64
     ∷ condition-65 ∷ section-written ∷ section-past ∷ short-first ∷ card-first ∷ zeros-after ∷ table-written ∷ table-short ∷ atoms-first ∷ list-of-9
-    ∷ two-open ∷ after-closed ∷ given-refused ∷ state-first ∷ no-room ∷ []
+    ∷ two-open ∷ after-closed ∷ given-refused ∷ state-first ∷ no-room
+    ∷ in-state-order ∷ nothing-comes ∷ both-asked ∷ malformed-asked ∷ asking-refused ∷ no-room-asked
+    ∷ still-so ∷ coming-differs ∷ going-differs ∷ filler-differs ∷ order-differs ∷ row-repeated ∷ rows-missing ∷ checks-first ∷ room-first
+    ∷ committed-and-asked ∷ []
 
 -- opens every definition of this module but the table, for what is proved by computation
 unfoldable pub vectors-open : Unit {0}
 unfolding
-    ascii lines said frontShown callReply playing fresh atOpening cleared extension holding actionNumbers saidNext reply cardOf answer
+    ascii lines said frontShown callReply playing fresh atOpening cleared extension holding actionNumbers saidNext saidAsked committingReply
+    reply cardOf answer
     k1 k4 k5 moving k6 starts turning eleven bare growing act unary tableWith
     bench-card presses-refused presses-made swallowed-add mixed-space conditions-56 wide-space no-bytes byte-more
     objects-65 objects-64 roles-1 roles-7 two-starts nested-chain two-rounds three-arguments two-digits empty-lists conditions-64 condition-65 section-written
     section-past short-first card-first zeros-after table-written table-short atoms-first list-of-9
-    armed two-open after-closed given-refused state-first crowding no-room
+    armed two-open after-closed given-refused state-first crowding crowd no-room
+    pairing in-state-order nothing-comes both-asked malformed-asked asking-refused no-room-asked
+    foreseeing loading unloaded loaded still-so outdated coming-differs going-differs filler-differs order-differs row-repeated rows-missing
+    checks-first room-first committed-and-asked
 vectors-open = tt

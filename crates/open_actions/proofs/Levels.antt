@@ -1,18 +1,17 @@
 -- The bindings of one schema, by levels: what a search at a level says of all bindings, or of those after a given one.
 use Prim.Native.Nat.{ℕ, suc, _+_, _-_, _*_, _≤_, _<_, zero-le}
 use native.Mathlib.Nat.{sub-zero, mul-le-mul}
-use native.Mathlib.Numerals.{add-one}
 use native.Mathlib.Omega.{arith}
 use mathlib.Core.Path.{_≡_, refl, sym, ap, _∙_, subst}
 use mathlib.Core.Bool.{Bool, true, false}
 use mathlib.Core.List.{List, _++_}
 use lib.Dec.{ltb}
-use lib.ListN.{length, getD, set, take, drop, replicate, length-replicate, getD-replicate}
-use lib.Seq.{take-at, take-all, take-suc, drop-at, getD-take, length-take-le}
+use lib.ListN.{length, getD, take, drop, replicate, length-replicate, getD-replicate}
+use lib.Seq.{take-at, drop-at, getD-take, length-take-le}
 use borrow.Author.Tests.{ltb-true, lt-ltb}
 use Rattle.laws.specs.Lists.{before, padded}
 use Rattle.laws.proofs.Tests.{never}
-use Rattle.laws.proofs.Padded.{length-padded, padded-set}
+use Rattle.laws.proofs.Padded.{length-padded}
 use Rattle.model.proofs.Bindings.{FullBinding, full-intro, AfterAt, NoneAt, NoneFrom, none-from-start, none-from-next, none-from-all, found-at}
 use Rattle.model.proofs.Checked.{checked-schema}
 use Rattle.card.specs.Represents.{schemaOf}
@@ -198,17 +197,6 @@ module _ {q : Query} {given now : List ℕ} {above : ℕ} (positive : 0 < above)
   }
 
 -- ---- a binding at the front of an array
-
--- one object more at the front, and all of them
-pub one-filled : (objects : List ℕ) (i : ℕ) {front : List ℕ} → i < length objects → length objects ≤ 6 → front ≡ padded 6 0 (take i objects)
-    → set front i (getD objects i 0) ≡ padded 6 0 (take (i + 1) objects)
-one-filled objects i h few filled =
-    ap (λ (l : List ℕ). set l i (getD objects i 0)) filled
-    ∙ padded-set 6 0 (take i objects) (getD objects i 0) (length-take-le i objects (omega arith)) (omega arith)
-    ∙ ap (padded 6 0) (sym (ap (λ (k : ℕ). take k objects) (add-one i) ∙ take-suc objects i 0 h))
-
-pub all-filled : (objects : List ℕ) (i : ℕ) {front : List ℕ} → length objects ≤ i → front ≡ padded 6 0 (take i objects) → front ≡ padded 6 0 objects
-all-filled objects i h filled = filled ∙ ap (padded 6 0) (take-all i objects h)
 
 -- zeros are a full binding
 zeros-full : (m n : ℕ) → 1 ≤ m → n ≤ 6 → FullBinding m n (take (n - 0) (replicate 6 0))

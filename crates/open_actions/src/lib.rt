@@ -7,9 +7,9 @@ mod schemas;
 mod search;
 mod support;
 
-use crate::schemas::MOST_PARAMETERS;
 use crate::schemas::open_among;
 use crate::schemas::rest_of_schema;
+use actions::MOST_PARAMETERS;
 use actions::all_different;
 use actions::all_known;
 use card::Refusal;

@@ -4,22 +4,20 @@ use crate::NextOpen;
 use crate::notes::NOTES;
 use crate::search::search;
 use crate::without_action;
+use actions::MOST_PARAMETERS;
+use actions::in_front;
 use card::Schema;
 use card::SchemaList;
 use masks::all_below;
 ghost use mathlib.Core.Bool.{true};
 ghost use mathlib.Core.Logic.{_⊎_};
 ghost use mathlib.Core.Path.{_≡_};
-ghost use Prim.Native.Nat.{_≤_};
 ghost use lib.ListN.{length};
-ghost use Rattle.laws.specs.Lists.{padded, before};
+ghost use Rattle.laws.specs.Lists.{before};
 ghost use Rattle.open_actions.specs.Bindings.{queryOf};
 ghost use Rattle.open_actions.specs.Notes.{Notes, KeepsNotes};
 ghost use Rattle.open_actions.specs.Schemas.{SchemaReady, BindingReady, NotesReady, SchemasReady};
 ghost use Rattle.open_actions.specs.Schemas.{FitTested, MayFit, Picks, BindingPicked, FoundAmong, NoneAmong, RestOfSchema};
-
-// The most parameters of a schema (document 01, the card format).
-pub(crate) const MOST_PARAMETERS: usize = 6;
 
 // Where parameters times objects are no more than these the bindings are few: nothing is noted, and the last parameters are not tested
 // before the search.
@@ -216,20 +214,6 @@ fn first_of(schema: Schema, arities: &[u8], known: usize, state: &[u8], count: u
         &mut notes,
     );
     Binding { found, objects }
-}
-
-// Objects at the front of an array, and 0 after them.
-fn in_front(objects: &[u8]) -> [u8; MOST_PARAMETERS]
-    requires { ⌜ length (now objects) ≤ 6 ⌝ }
-    ensures { λ r. ⌜ r ≡ padded 6 0 (now (objects .entry)) ⌝ }
-{
-    let mut front = [0; MOST_PARAMETERS];
-    let mut i = 0;
-    while i < objects.len() {
-        front[i] = objects[i];
-        i = i + 1;
-    }
-    front
 }
 
 // The first open binding of a schema after a given one.

@@ -6,6 +6,7 @@ use card::Schema;
 use card::SchemaList;
 use card::Task;
 use card::Verdict;
+use card::blank_schema;
 use reader_bytes::ByteRead;
 use reader_bytes::CountRead;
 use reader_bytes::Cursor;
@@ -18,7 +19,7 @@ ghost use mathlib.Core.List.{[]};
 ghost use mathlib.Core.Path.{_≡_};
 ghost use lib.Dec.{ltb};
 ghost use lib.ListN.{length, drop};
-ghost use Rattle.card.specs.Represents.{blankSchema, schemasFor, Decodes};
+ghost use Rattle.card.specs.Represents.{schemasFor, Decodes};
 ghost use Rattle.model.specs.Card.{inRange, byteThat, roleCount, schemaLists, schema, predicates};
 ghost use Rattle.reader_bytes.specs.Reads.{ByteReads};
 ghost use Rattle.reader_lists.specs.ListReads.{AritiesReads};
@@ -60,17 +61,6 @@ fn role_count(card: &[u8], c: Cursor, present: bool) -> ByteRead
 pub struct SchemaRead {
     pub step: Step,
     pub schema: Schema,
-}
-
-fn blank_schema() -> Schema
-    ensures { λ r. ⌜ r ≡ blankSchema ⌝ }
-{
-    Schema {
-        parameters: 0,
-        preconditions: card::no_atoms(),
-        deletes: card::no_atoms(),
-        adds: card::no_atoms(),
-    }
 }
 
 fn no_schema(refusal: Refusal) -> SchemaRead

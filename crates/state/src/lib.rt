@@ -155,7 +155,7 @@ pub fn load(state: &[u8], count: usize, numbers: &mut [u32])
 }
 
 // Writes numbers as rows from the front of the buffer on.
-fn write_rows(state: &mut [u8], numbers: &[u32])
+pub fn write_rows(state: &mut [u8], numbers: &[u32])
     requires { ⌜ 4 * length (now numbers) ≤ length (now state) ⌝ }
     ensures { λ r. ⌜ now (state .exit) ≡ flatMap rowBytes (now (numbers .entry)) ++ drop (4 * length (now (numbers .entry))) (now (state .entry)) ⌝ }
 {

@@ -14,12 +14,11 @@ use Rattle.laws.proofs.Tests.{and-left, and-right}
 use Rattle.laws.proofs.Lists.{all-at, all-intro, count-ext}
 use Rattle.laws.proofs.Counting.{count-most}
 use Rattle.laws.proofs.Mapped.{all-map, all-ext}
-use Rattle.model.specs.Answer.{_>>=_, _>>_, need}
+use Rattle.model.specs.Answer.{_>>_, need}
 use Rattle.model.specs.Card.{Atom, has}
 use Rattle.model.specs.Card as model
 use Rattle.model.specs.Writer.{known}
-use Rattle.model.specs.Strips.{State, mostFacts, factsIn, ground, applicable, put, takenOut, putIn, successor, progress}
-use Rattle.model.specs.Calls.{finish}
+use Rattle.model.specs.Strips.{State, mostFacts, factsIn, ground, applicable, put, takenOut, putIn, successor, limited, progress}
 use Rattle.model.specs.Open.{isAccepted}
 use Rattle.model.proofs.Checked.{CheckedSchema, checked-schema}
 use Rattle.model.proofs.Buffer.{WellFormed, well-formed, rows-known, length-factsIn}
@@ -34,14 +33,13 @@ use Rattle.state.specs.Rows.{factNumber, numbersIn, stored, RowsAscend, Shape}
 use Rattle.state.proofs.Writing.{length-numbersIn, drop-zeros}
 use Rattle.state.proofs.FactNumbers.{allKnown, member-has, numbers-puts, numbers-removed, rising-state, numbers-of-rows, stored-written, put-known, keep-known}
 use Rattle.actions.specs.Grounds.{holdsIn, missingIn, Bound}
-use Rattle.strips.specs.Answers.{appliedSays, Matches}
+use Rattle.strips.specs.Answers.{Matches}
 use Rattle.strips.specs.Steps.{storing, storingNumbers, nextNumbers, ListKept, StateKept, ActionReady, NextReady}
 use Rattle.strips.proofs.Replacing.{replaced-by-facts}
 use Rattle.strips.specs.declared.Applied.{Applied}
-use Rattle.strips.specs.declared.Applied.the-variants.{PreconditionMissing}
 
 -- facts put in one after the other are known
-puts-known :
+pub puts-known :
     {arities : List ℕ} {bound : ℕ} (shape : Shape arities bound) (fs : List Atom) (s : State) → allKnown arities bound fs
     → allKnown arities bound s → allKnown arities bound (foldl (λ r f. put f r) s fs)
 unfolding all
@@ -61,7 +59,7 @@ module _ {arities : List ℕ} {bound : ℕ} {buffer : List ℕ} {count : ℕ} (k
   pub state-known : allKnown arities bound stateIn
   state-known = rows-known arities bound count buffer (state-formed .rows)
 
-  state-numbers : numbersIn count buffer ≡ map factNumber stateIn
+  pub state-numbers : numbersIn count buffer ≡ map factNumber stateIn
   state-numbers =
       let room = state-formed .room in
       let few = state-formed .count-fits in
@@ -110,7 +108,7 @@ module _ {arities objects : List ℕ} {schema : Schema} {buffer : List ℕ} {cou
   abbrev next : State
   next = successor model-schema objects before
 
-  right : CheckedSchema arities model-schema
+  pub right : CheckedSchema arities model-schema
   right = checked-schema arities model-schema (ready .schema-kept .checks)
 
   bound-list : (l : AtomList) → ListKept l → all (known arities (schema .parameters)) (atomsOf arities l) ≡ true → Bound arities objects l
@@ -125,7 +123,7 @@ module _ {arities objects : List ℕ} {schema : Schema} {buffer : List ℕ} {cou
   unfolding schemaOf
   preconditions-bound = bound-list (schema .preconditions) (ready .schema-kept .preconditions) (right .preconditions-right .atoms-known)
 
-  deletes-bound : Bound arities objects (schema .deletes)
+  pub deletes-bound : Bound arities objects (schema .deletes)
   unfolding schemaOf
   deletes-bound = bound-list (schema .deletes) (ready .schema-kept .deletes) (right .deletes-right .atoms-known)
 
@@ -141,7 +139,7 @@ module _ {arities objects : List ℕ} {schema : Schema} {buffer : List ℕ} {cou
       ∙ all-intro _ atoms (λ a m. ground-known arities (length objects) (ready .known-objects) objects a refl (ready .objects-known)
       (all-at (known arities (length objects)) atoms e a m))
 
-  before-known : allKnown arities (ready .known-objects) before
+  pub before-known : allKnown arities (ready .known-objects) before
   before-known = state-known (ready .state)
 
   -- an atom's fact has a row if the state has it
@@ -169,11 +167,11 @@ module _ {arities objects : List ℕ} {schema : Schema} {buffer : List ℕ} {cou
       count-ext (λ a. not (holdsIn count buffer objects a)) (λ a. not (has before (ground objects a))) atoms
       (λ a m. ap not (held atoms (adds-bound .atoms-known) a m))
 
-  out-known : allKnown arities (ready .known-objects) (takenOut model-schema objects)
+  pub out-known : allKnown arities (ready .known-objects) (takenOut model-schema objects)
   unfolding takenOut schemaOf
   out-known = grounds-known (atomsOf arities (schema .deletes)) (deletes-bound .atoms-known)
 
-  in-known : allKnown arities (ready .known-objects) (putIn model-schema objects)
+  pub in-known : allKnown arities (ready .known-objects) (putIn model-schema objects)
   unfolding putIn schemaOf
   in-known = grounds-known (atomsOf arities (schema .adds)) (adds-bound .atoms-known)
 
@@ -195,20 +193,12 @@ module _ {arities objects : List ℕ} {schema : Schema} {buffer : List ℕ} {cou
       ∙ ap (insertedAll (map factNumber (putIn model-schema objects)))
       (numbers-removed shape (takenOut model-schema objects) before out-known before-known))
 
-  -- What the function answers: 19, 20, or the count of the next state, which is stored.
-  pub refused-missing : applicable model-schema objects before ≡ false
-      → Matches (storing buffer (progress model-schema objects before)) buffer PreconditionMissing
-  unfolding storing progress need _>>_ _>>=_ finish appliedSays
-  refused-missing e = rw e (record { answer = refl; buffer = refl })
-
-  -- storing the numbers of the next state is what is asked where the preconditions hold
-  pub next-replaced :
-      {numbers after : List ℕ} {r : Applied} → applicable model-schema objects before ≡ true → numbers ≡ map factNumber next
-      → Matches (storingNumbers buffer numbers) after r → Matches (storing buffer (progress model-schema objects before)) after r
-  unfolding progress need _>>_ _>>=_
-  next-replaced {numbers} e q matches =
+  -- storing the numbers of the next state is storing that state
+  pub next-replaced : {numbers after : List ℕ} {r : Applied} → numbers ≡ map factNumber next → Matches (storingNumbers buffer numbers) after r
+      → Matches (storing buffer (limited next)) after r
+  next-replaced {numbers} q matches =
       let same = ap (λ (l : List ℕ). stored l buffer) q ∙ stored-written shape next buffer next-known in
-      rw e (rw (replaced-by-facts numbers buffer next (ap length q ∙ length-map next factNumber) same) at matches)
+      rw (replaced-by-facts numbers buffer next (ap length q ∙ length-map next factNumber) same) at matches
 
   -- Whether the action is allowed: 19 refuses it, or the room that the state has.
   pub missing-closes : applicable model-schema objects before ≡ false → false ≡ isAccepted (progress model-schema objects before)

@@ -7,10 +7,12 @@ use mathlib.Core.Bool.{Bool, true, false}
 use mathlib.Core.List.{List, _++_, map}
 use lib.ListN.{length, getD, take, drop, length-map}
 use lib.Seq.{take-at}
+use Rattle.model.specs.Answer.{Answer, refused, accepted, _>>_}
 use Rattle.model.specs.Card as model
-use Rattle.model.specs.Strips.{Action, stateBytes, factsIn, wellFormed}
-use Rattle.model.specs.Calls.{Call, finish, initialOf, pressOf}
-use Rattle.card.specs.Represents.{schemaOf, factsOf, taskOf, blankSchema, Represented}
+use Rattle.model.specs.Strips.{Action, stateBytes, factsIn, wellFormed, schemaAt}
+use Rattle.model.specs.Calls.{finish, initialOf}
+use Rattle.model.proofs.Answers.{first-passed, both-accepted}
+use Rattle.card.specs.Represents.{aritiesFor, schemaOf, schemaFor, factsOf, taskOf, taskFor, blankSchema, Represented}
 use Rattle.card.specs.declared.Schema.{Schema}
 use Rattle.card.specs.declared.Task.{Task}
 use Rattle.card.proofs.Counts.{predicates-inside, schema-count, fact-count, facts-few}
@@ -18,11 +20,13 @@ use Rattle.card.proofs.Entries.{arities-part}
 use Rattle.state.specs.Rows.{factNumber, stored, Shape}
 use Rattle.state.proofs.FactNumbers.{stored-written}
 use Rattle.actions.specs.Grounds.{FactsRight}
-use Rattle.strips.specs.Answers.{Matches}
-use Rattle.strips.specs.Steps.{applySchema, storing, SchemaKept, StateKept}
+use Rattle.strips.specs.Admission.{Admissible, admitSchema, countAdmitted, admissionOf}
+use Rattle.strips.specs.Answers.{appliedSays, aritiesBeside, schemaBeside, Matches, Granted}
+use Rattle.strips.specs.Steps.{SchemaKept, StateKept}
 use Rattle.strips.specs.declared.Applied.{Applied}
-use Rattle.strips.specs.declared.Applied.the-variants.{Count, StateMalformed, SchemaUnknown}
-use Rattle.strips.proofs.Tasks.{modelTask, arities, task-shape, few-schemas, chosen-is, chosen-kept}
+use Rattle.strips.specs.declared.Applied.the-variants.{Count}
+use Rattle.strips.proofs.Admitting.{admitted-tests, refused-alike}
+use Rattle.strips.proofs.Tasks.{modelTask, arities, task-shape, few-schemas, chosen-is, chosen-for, chosen-kept}
 use Rattle.strips.proofs.Tasks.{getD-default, facts-kept, facts-known}
 use Rattle.strips.proofs.Refusing.{state-malformed, schema-unknown, schema-named, task-opened}
 
@@ -41,15 +45,15 @@ module _ (task : Task) (kept : Represented task (taskOf task)) where
   facts-right numbers room = subst (λ (l : List ℕ). FactsRight l (task .facts) numbers) (sym same) (facts-kept task kept numbers room)
 
   module _ (buffer : List ℕ) (count : ℕ) (action : Action) where
-    -- the press call on the task
-    abbrev pressing : Call
-    pressing = finish buffer (pressOf (modelTask task kept) buffer count action)
+    -- what may be applied, by the task
+    abbrev admitting : Answer Admissible
+    admitting = admissionOf (modelTask task kept) buffer count action
 
     -- what 15 says
     formed : {r : Bool} → r ≡ wellFormed part (task .objects) buffer count → r ≡ wellFormed (arities task kept) (task .objects) buffer count
     formed e = e ∙ ap (λ (l : List ℕ). wellFormed l (task .objects) buffer count) same
 
-    pub refused-malformed : {r : Bool} → r ≡ wellFormed part (task .objects) buffer count → r ≡ false → Matches pressing buffer StateMalformed
+    pub refused-malformed : {r : Bool} → r ≡ wellFormed part (task .objects) buffer count → r ≡ false → admitting ≡ refused 15
     unfolding taskOf
     refused-malformed e f = state-malformed (modelTask task kept) buffer count action (sym (formed e) ∙ f)
 
@@ -63,7 +67,7 @@ module _ (task : Task) (kept : Represented task (taskOf task)) where
         well = sym says ∙ passed;
       }
 
-      pub refused-unknown : task .schemas .count ≤ action .schema → Matches pressing buffer SchemaUnknown
+      pub refused-unknown : task .schemas .count ≤ action .schema → admitting ≡ refused 16
       unfolding taskOf
       refused-unknown h =
           schema-unknown (modelTask task kept) buffer count action well (subst (λ (n : ℕ). n ≤ action .schema) (schema-count task kept) h)
@@ -81,18 +85,66 @@ module _ (task : Task) (kept : Represented task (taskOf task)) where
             subst (λ (l : List ℕ). SchemaKept l chosen) (sym same)
             (subst (SchemaKept (arities task kept)) (sym usual) (chosen-kept task kept (action .schema) within))
 
-        -- what is left for a schema: 17 to 20
-        abbrev with-schema : List ℕ → model.Schema → Call
-        with-schema l s = storing buffer (applySchema (task .objects) s (action .objects) (factsIn l count buffer))
+        -- the schema that is chosen is the one that is named
+        chosen-named : schemaOf part chosen ≡ schemaAt (modelTask task kept) (action .schema)
+        chosen-named =
+            ap (λ (l : List ℕ). schemaOf l chosen) same ∙ ap (schemaOf (arities task kept)) usual ∙ chosen-is task kept (action .schema) within
 
-        pub pressed : {after : List ℕ} {answer : Applied} → Matches (with-schema part (schemaOf part chosen)) after answer → Matches pressing after answer
+        -- what is left for it: 17 to 19
+        abbrev with-schema : List ℕ → model.Schema → Answer Admissible
+        with-schema l s =
+            admitSchema (task .objects) s (action .objects) (factsIn l count buffer) >> accepted (record { arities = l; schema = s })
+
+        schema-left : admitting ≡ with-schema part (schemaOf part chosen)
         unfolding taskOf
-        pressed {after} {answer} matches =
-            subst (λ (c : Call). Matches c after answer)
-            (ap (λ (l : List ℕ). with-schema l (schemaOf l chosen)) same
-            ∙ ap (with-schema (arities task kept)) (ap (schemaOf (arities task kept)) usual ∙ chosen-is task kept (action .schema) within)
-            ∙ sym (schema-named (modelTask task kept) buffer count action well (subst (λ (n : ℕ). action .schema < n) (schema-count task kept) within)))
-            matches
+        schema-left =
+            schema-named (modelTask task kept) buffer count action well (subst (λ (n : ℕ). action .schema < n) (schema-count task kept) within)
+            ∙ ap (λ (l : List ℕ). with-schema l (schemaAt (modelTask task kept) (action .schema))) (sym same)
+            ∙ ap (with-schema part) (sym chosen-named)
+
+        -- the answer to 17 to 19, with the number of facts where they pass
+        module _
+            (answer : Applied)
+            (answered : appliedSays answer ≡ countAdmitted (task .objects) (schemaOf part chosen) (action .objects) (factsIn part count buffer) count)
+          where
+            -- a refusal is that of the action
+            pub refused-schema : (m : ℕ) → appliedSays answer ≡ refused m → admitting ≡ refused m
+            refused-schema m e = schema-left ∙ refused-alike _ _ _ (sym answered ∙ e)
+
+            module _ {m : ℕ} (counted : answer ≡ Count m) where
+              passed-all : admitSchema (task .objects) (schemaOf part chosen) (action .objects) (factsIn part count buffer) ≡ accepted tt
+              unfolding appliedSays
+              passed-all = first-passed _ _ m (sym answered ∙ ap appliedSays counted)
+
+              -- an action that passes may be applied
+              pub schema-granted : Granted admitting buffer count (action .objects) (task .predicates) chosen
+              unfolding schemaOf
+              schema-granted =
+                  let tests = admitted-tests (task .objects) (schemaOf part chosen) (action .objects) (factsIn part count buffer) passed-all in
+                  record {
+                    inside = predicates-inside task kept;
+                    ready = record {
+                      known-objects = task .objects;
+                      state = state-kept;
+                      schema-kept = schema-kept;
+                      one-for-each = tests .one-for-each;
+                      objects-known = tests .objects-known;
+                      different = tests .different;
+                    };
+                    allowed = tests .holds;
+                    is = schema-left ∙ both-accepted _ passed-all;
+                  }
+
+              -- and the arities and the schema are kept whole
+              pub arities-whole : task .predicates ≡ aritiesBeside admitting
+              unfolding aritiesBeside taskOf taskFor
+              arities-whole =
+                  ap (λ (t : Task). t .predicates) (kept .stands) ∙ ap aritiesFor (sym same) ∙ sym (ap aritiesBeside (schema-granted .is))
+
+              pub schema-whole : chosen ≡ schemaBeside admitting
+              unfolding schemaBeside
+              schema-whole =
+                  usual ∙ chosen-for task kept (action .schema) within ∙ ap schemaFor (sym chosen-named) ∙ sym (ap schemaBeside (schema-granted .is))
 
   -- the opening call: the numbers of the facts, at the front of an array, stored
   module _ (buffer numbers was : List ℕ) (loaded : numbers ≡ map factNumber (factsOf part (task .facts)) ++ drop (task .facts .count) was) where

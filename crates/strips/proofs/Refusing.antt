@@ -1,6 +1,6 @@
 -- Refusals in their order: which check a stage refuses by, and what is left when its checks have passed.
 use Prim.Native.Nat.{ℕ, _≤_, _<_}
-use mathlib.Core.Path.{_≡_, refl, ap, _∙_}
+use mathlib.Core.Path.{_≡_, refl, ap}
 use mathlib.Core.Bool.{Bool, true, false, _&&_}
 use mathlib.Core.List.{List}
 use lib.Dec.{ltb, eqb}
@@ -8,65 +8,76 @@ use lib.ListN.{length}
 use borrow.Author.Tests.{eq-eqb, ne-eqb, lt-ltb, le-ltb, le-leb, lt-leb}
 use Rattle.laws.specs.Lists.{all, distinct}
 use Rattle.laws.proofs.Tests.{and-intro, and-false-left, and-false-right}
-use Rattle.model.specs.Answer.{Answer, accepted, _>>=_, _>>_, need}
+use Rattle.model.specs.Answer.{Answer, refused, accepted, _>>_, need}
 use Rattle.model.specs.Card.{Schema, Task}
-use Rattle.model.specs.Strips.{State, Action, stateBytes, factsIn, wellFormed, schemaAt, checkObjects, checkAction, apply, written}
-use Rattle.model.specs.Calls.{finish, store, initialOf, pressOf}
+use Rattle.model.specs.Strips.{State, Action, stateBytes, factsIn, wellFormed, applicable, schemaAt, checkObjects, checkAction, written}
+use Rattle.model.specs.Calls.{finish, store, initialOf}
+use Rattle.strips.specs.Admission.{Admissible, admitSchema, admissionOf}
 use Rattle.strips.specs.Answers.{appliedSays, Matches}
-use Rattle.strips.specs.Steps.{applySchema, storing}
-use Rattle.strips.specs.declared.Applied.the-variants.{Count, StateMalformed, SchemaUnknown, ObjectsWrong, ObjectsRepeated}
+use Rattle.strips.specs.declared.Applied.the-variants.{Count, StateMalformed, ObjectsWrong, ObjectsRepeated, PreconditionMissing}
 
--- 17 and 18
-module _ (known : ℕ) (schema : Schema) (objects : List ℕ) (next : Answer State) where
+-- 17 to 19
+module _ (known : ℕ) (schema : Schema) (objects : List ℕ) (state : State) (count : ℕ) where
   complete : Bool
   complete = eqb (length objects) (schema .parameters) && all (λ o. ltb o known) objects
 
-  module _ {buffer : List ℕ} where
-    objects-refused : complete ≡ false → Matches (storing buffer (checkObjects known schema objects >> next)) buffer ObjectsWrong
-    unfolding complete storing checkObjects need _>>_ _>>=_ finish appliedSays
-    objects-refused e = rw e (record { answer = refl; buffer = refl })
+  -- what is to be answered: the first refusal, or the number of facts
+  abbrev admitting : Answer ℕ
+  admitting = admitSchema known schema objects state >> accepted count
 
-    pub wrong-number : (length objects ≡ schema .parameters → ⊥) → Matches (storing buffer (checkObjects known schema objects >> next)) buffer ObjectsWrong
-    unfolding complete
-    wrong-number d = objects-refused (and-false-left _ _ (ne-eqb (length objects) (schema .parameters) d))
+  objects-refused : complete ≡ false → appliedSays ObjectsWrong ≡ admitting
+  unfolding complete admitSchema checkObjects need _>>_ appliedSays
+  objects-refused e = rw e refl
 
-    pub unknown-object : all (λ o. ltb o known) objects ≡ false → Matches (storing buffer (checkObjects known schema objects >> next)) buffer ObjectsWrong
-    unfolding complete
-    unknown-object e = objects-refused (and-false-right (eqb (length objects) (schema .parameters)) _ e)
+  pub wrong-number : (length objects ≡ schema .parameters → ⊥) → appliedSays ObjectsWrong ≡ admitting
+  unfolding complete
+  wrong-number d = objects-refused (and-false-left _ _ (ne-eqb (length objects) (schema .parameters) d))
+
+  pub unknown-object : all (λ o. ltb o known) objects ≡ false → appliedSays ObjectsWrong ≡ admitting
+  unfolding complete
+  unknown-object e = objects-refused (and-false-right (eqb (length objects) (schema .parameters)) _ e)
 
   module _ (number : length objects ≡ schema .parameters) (all-known : all (λ o. ltb o known) objects ≡ true) where
     completes : complete ≡ true
     unfolding complete
     completes = and-intro _ _ (eq-eqb (length objects) (schema .parameters) number) all-known
 
-    pub object-repeated : {buffer : List ℕ} → distinct objects ≡ false
-        → Matches (storing buffer (checkObjects known schema objects >> next)) buffer ObjectsRepeated
-    unfolding complete storing checkObjects need _>>_ _>>=_ finish appliedSays
-    object-repeated e = rw (completes, e) (record { answer = refl; buffer = refl })
+    pub object-repeated : distinct objects ≡ false → appliedSays ObjectsRepeated ≡ admitting
+    unfolding complete admitSchema checkObjects need _>>_ appliedSays
+    object-repeated e = rw (completes, e) refl
 
-    pub objects-right : distinct objects ≡ true → (checkObjects known schema objects >> next) ≡ next
-    unfolding complete checkObjects need _>>_
-    objects-right e = rw (completes, e) refl
+    pub precondition-missing : distinct objects ≡ true → applicable schema objects state ≡ false → appliedSays PreconditionMissing ≡ admitting
+    unfolding complete admitSchema checkObjects need _>>_ appliedSays
+    precondition-missing d e = rw (completes, d, e) refl
+
+    pub schema-admitted : distinct objects ≡ true → applicable schema objects state ≡ true → appliedSays (Count count) ≡ admitting
+    unfolding complete admitSchema checkObjects need _>>_ appliedSays
+    schema-admitted d e = rw (completes, d, e) refl
 
 -- 15 and 16
 module _ (t : Task) (buffer : List ℕ) (count : ℕ) (action : Action) where
-  pub state-malformed : wellFormed (t .arities) (t .objects) buffer count ≡ false
-      → Matches (finish buffer (pressOf t buffer count action)) buffer StateMalformed
-  unfolding pressOf need _>>_ finish appliedSays
-  state-malformed e = rw e (record { answer = refl; buffer = refl })
+  pub state-malformed : wellFormed (t .arities) (t .objects) buffer count ≡ false → admissionOf t buffer count action ≡ refused 15
+  unfolding admissionOf need _>>_
+  state-malformed e = rw e refl
 
   module _ (well : wellFormed (t .arities) (t .objects) buffer count ≡ true) where
-    pub schema-unknown : length (t .schemas) ≤ action .schema → Matches (finish buffer (pressOf t buffer count action)) buffer SchemaUnknown
-    unfolding pressOf apply checkAction need _>>_ _>>=_ finish appliedSays
-    schema-unknown h = rw (well, le-ltb (action .schema) (length (t .schemas)) h) (record { answer = refl; buffer = refl })
+    pub schema-unknown : length (t .schemas) ≤ action .schema → admissionOf t buffer count action ≡ refused 16
+    unfolding admissionOf checkAction need _>>_
+    schema-unknown h = rw (well, le-ltb (action .schema) (length (t .schemas)) h) refl
 
-    -- the schema is named: 17 to 20 are left
+    -- the schema is named: 17 to 19 are left
     pub schema-named :
         action .schema < length (t .schemas)
-        → finish buffer (pressOf t buffer count action)
-        ≡ storing buffer (applySchema (t .objects) (schemaAt t (action .schema)) (action .objects) (factsIn (t .arities) count buffer))
-    unfolding pressOf storing apply checkAction need _>>_
-    schema-named h = rw (well, lt-ltb (action .schema) (length (t .schemas)) h)
+        → admissionOf t buffer count action
+        ≡ (admitSchema (t .objects) (schemaAt t (action .schema)) (action .objects) (factsIn (t .arities) count buffer)
+        >> accepted (record { arities = t .arities; schema = schemaAt t (action .schema) }))
+    unfolding admissionOf admitSchema checkAction need _>>_
+    schema-named h =
+        rw (well, lt-ltb (action .schema) (length (t .schemas)) h) (regrouped (checkObjects (t .objects) (schemaAt t (action .schema)) (action .objects)) _ _)
+      where
+        regrouped : (x y : Answer (Unit {0})) (z : Answer Admissible) → (x >> (y >> z)) ≡ ((x >> y) >> z)
+        regrouped (refused n) y z = unfold _>>_ in refl
+        regrouped (accepted done) y z = unfold _>>_ in refl
 
 -- 15 of the opening call
 module _ (t : Task) (buffer : List ℕ) where

@@ -71,7 +71,7 @@ module _ (task : Task) (kept : Represented task (taskOf task)) where
         sym (item-at (schemaOf arities) (task .schemas .count) blankSchema (task .schemas .schemas) n within)
         ∙ getD-default (modelTask .schemas) n _ _ inside
 
-    chosen-for : chosen ≡ schemaFor (schemaAt modelTask n)
+    pub chosen-for : chosen ≡ schemaFor (schemaAt modelTask n)
     unfolding taskFor schemasFor schemaAt
     chosen-for =
         let schemas : List model.Schema = modelTask .schemas in

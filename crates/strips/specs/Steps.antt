@@ -1,28 +1,23 @@
 -- What applying an action leaves in the buffer, the numbers of the next state, and what each function relies on.
-use Prim.Native.Nat.{ℕ, _+_, _≤_}
+use Prim.Native.Nat.{ℕ, _+_, _-_, _≤_}
 use mathlib.Core.Path.{_≡_}
 use mathlib.Core.Bool.{true}
 use mathlib.Core.List.{List, map}
 use lib.Dec.{leb, ltb}
-use lib.ListN.{length}
+use lib.ListN.{length, take}
 use Rattle.laws.specs.Lists.{all, distinct}
 use Rattle.model.specs.Answer.{Answer, accepted, _>>=_, _>>_, need}
 use Rattle.model.specs.Card as model
 use Rattle.model.specs.Writer.{checkSchema}
-use Rattle.model.specs.Strips.{State, mostFacts, wellFormed, takenOut, putIn, checkObjects, progress}
+use Rattle.model.specs.Strips.{State, mostFacts, wellFormed, takenOut, putIn}
 use Rattle.model.specs.Calls.{Call, finish, store}
 use Rattle.card.specs.Represents.{schemaOf}
+use Rattle.card.specs.declared.ArityList.{ArityList}
 use Rattle.card.specs.declared.AtomList.{AtomList}
 use Rattle.card.specs.declared.Schema.{Schema}
 use Rattle.sets.specs.Numbers.{withoutAll, insertedAll, SetKept}
 use Rattle.state.specs.Rows.{factNumber, stored, Shape}
 use Rattle.actions.specs.Grounds.{Bound}
-
--- 17 to 20: a schema with these objects on a state; the task has `known` objects
-abbrev pub applySchema : ℕ → model.Schema → List ℕ → State → Answer State
-applySchema known schema objects state = do
-  checkObjects known schema objects
-  progress schema objects state
 
 -- the state that is answered is stored; a refusal alters no byte
 unfoldable pub storing : List ℕ → Answer State → Call
@@ -39,6 +34,10 @@ storingNumbers buffer numbers =
 unfoldable pub nextNumbers : model.Schema → List ℕ → List ℕ → List ℕ
 nextNumbers schema objects numbers =
     insertedAll (map factNumber (putIn schema objects)) (withoutAll (map factNumber (takenOut schema objects)) numbers)
+
+-- the arities as they are lent on
+abbrev pub lent : ArityList → List ℕ
+lent predicates = take (predicates .count - 0) (predicates .arities)
 
 -- A list of atoms as the code keeps it: at most eight, in an array of eight.
 pub record ListKept (l : AtomList) : Type 0 where

@@ -6,10 +6,13 @@ use actions::fact_numbers;
 use actions::missing_facts;
 use actions::put_in;
 use actions::taken_out;
+use card::ArityList;
 use card::Refusal;
 use card::Schema;
 use card::Task;
 use card::Verdict;
+use card::blank_schema;
+use card::no_arities;
 use reader::decode;
 use sets::insert_all;
 use sets::remove_all;
@@ -21,13 +24,14 @@ use state::well_formed;
 ghost use mathlib.Core.Path.{_≡_};
 ghost use Prim.Native.Nat.{_≤_};
 ghost use lib.ListN.{length, take};
-ghost use Rattle.model.specs.Strips.{stateBytes, factsIn, progress};
+ghost use Rattle.model.specs.Strips.{stateBytes, factsIn, limited, progress, successor};
 ghost use Rattle.model.specs.Open.{isAccepted};
-ghost use Rattle.model.specs.Calls.{finish, initialOf, initial, pressOf, press};
+ghost use Rattle.model.specs.Calls.{finish, initialOf, initial, press};
 ghost use Rattle.card.specs.Represents.{schemaOf, taskOf, Represented};
 ghost use Rattle.sets.specs.Numbers.{Becomes};
-ghost use Rattle.strips.specs.Answers.{Matches};
-ghost use Rattle.strips.specs.Steps.{applySchema, storing, storingNumbers, nextNumbers, ActionReady, NextReady, StateKept, SchemaKept};
+ghost use Rattle.strips.specs.Answers.{appliedSays, Matches, notAdmitted, Admits};
+ghost use Rattle.strips.specs.Steps.{storing, storingNumbers, nextNumbers, ActionReady, NextReady, StateKept, SchemaKept};
+ghost use Rattle.strips.specs.Admission.{countAdmitted, admissionOf, admission};
 
 // What the opening call and applying an action answer: the number of facts, or why not. A refusal of the card is handed through.
 pub enum Applied {
@@ -81,8 +85,8 @@ fn store_next(state: &mut [u8], numbers: &[u32]) -> Applied
     Applied::Count(count)
 }
 
-// 19 and 20.
-fn apply_bound(
+// The next state of an action, stored: 20.
+pub fn store_successor(
     schema: Schema,
     arities: &[u8],
     state: &mut [u8],
@@ -91,14 +95,10 @@ fn apply_bound(
 ) -> Applied
     requires { ⌜ ActionReady (now arities) (now objects) schema (now state) count ⌝ }
     ensures { λ r. ⌜
-        Matches (storing (now (state .entry)) (progress (schemaOf (now (arities .entry)) schema) (now (objects .entry))
-        (factsIn (now (arities .entry)) count (now (state .entry))))) (now (state .exit)) r
+        Matches (storing (now (state .entry)) (limited (successor (schemaOf (now (arities .entry)) schema) (now (objects .entry))
+        (factsIn (now (arities .entry)) count (now (state .entry)))))) (now (state .exit)) r
         ⌝ }
 {
-    let preconditions = schema.preconditions;
-    if !all_hold(preconditions, arities, state, count, objects) {
-        return Applied::PreconditionMissing;
-    }
     let mut numbers = [0u32; NEXT_FACTS];
     load(state, count, &mut numbers);
     let next = next_numbers(&mut numbers, count, schema, arities, objects);
@@ -126,19 +126,37 @@ pub fn allows(schema: Schema, arities: &[u8], state: &[u8], count: usize, object
     missing_facts(adds, arities, state, count, objects) <= room
 }
 
-// 17 to 20: the objects first.
-fn apply_schema(
+// An action that may be applied: the arities of its card's predicates, and its schema, with the number of facts that the state has. Or why
+// it may not be applied; then the two are blank.
+pub struct Admitted {
+    pub answer: Applied,
+    pub predicates: ArityList,
+    pub schema: Schema,
+}
+
+fn not_admitted(refusal: Applied) -> Admitted
+    ensures { λ r. ⌜ r ≡ notAdmitted refusal ⌝ }
+{
+    Admitted {
+        answer: refusal,
+        predicates: no_arities(),
+        schema: blank_schema(),
+    }
+}
+
+// 17 to 19: the objects first, then the preconditions.
+fn admit_schema(
     schema: Schema,
     arities: &[u8],
     known: usize,
-    state: &mut [u8],
+    state: &[u8],
     count: usize,
     objects: &[u8],
 ) -> Applied
     requires { ⌜ (StateKept (now arities) known (now state) count) × (SchemaKept (now arities) schema) ⌝ }
     ensures { λ r. ⌜
-        Matches (storing (now (state .entry)) (applySchema known (schemaOf (now (arities .entry)) schema) (now (objects .entry))
-        (factsIn (now (arities .entry)) count (now (state .entry))))) (now (state .exit)) r
+        appliedSays r
+        ≡ countAdmitted known (schemaOf (now (arities .entry)) schema) (now (objects .entry)) (factsIn (now (arities .entry)) count (now (state .entry))) count
         ⌝ }
 {
     let parameters = schema.parameters;
@@ -151,15 +169,19 @@ fn apply_schema(
     if !all_different(objects) {
         return Applied::ObjectsRepeated;
     }
-    apply_bound(schema, arities, state, count, objects)
+    let preconditions = schema.preconditions;
+    if !all_hold(preconditions, arities, state, count, objects) {
+        return Applied::PreconditionMissing;
+    }
+    Applied::Count(count)
 }
 
-// 15 to 20, for a task: the state first, then the schema.
-fn apply_task(task: Task, state: &mut [u8], count: usize, schema: usize, objects: &[u8]) -> Applied
+// 15 to 19, for a task: the state first, then the schema.
+fn admit_task(task: Task, state: &[u8], count: usize, number: usize, objects: &[u8]) -> Admitted
     requires { ⌜ Represented task (taskOf task) ⌝ }
     ensures { λ r. ⌜
-        Matches (finish (now (state .entry)) (pressOf (taskOf task) (now (state .entry)) count (record { schema = schema; objects = now (objects .entry) })))
-        (now (state .exit)) r
+        Admits (admissionOf (taskOf task) (now (state .entry)) count (record { schema = number; objects = now (objects .entry) }))
+        (now (state .entry)) count (now (objects .entry)) r
         ⌝ }
 {
     let predicates = task.predicates;
@@ -167,22 +189,46 @@ fn apply_task(task: Task, state: &mut [u8], count: usize, schema: usize, objects
     let arities = predicates.arities;
     let known = task.objects;
     if !well_formed(state, count, &arities[0..predicate_count], known) {
-        return Applied::StateMalformed;
+        return not_admitted(Applied::StateMalformed);
     }
     let schemas = task.schemas;
     let schema_count = schemas.count;
-    if schema_count <= schema {
-        return Applied::SchemaUnknown;
+    if schema_count <= number {
+        return not_admitted(Applied::SchemaUnknown);
     }
-    let chosen = schemas.schemas[schema];
-    apply_schema(
-        chosen,
+    let schema = schemas.schemas[number];
+    let answer = admit_schema(
+        schema,
         &arities[0..predicate_count],
         known,
         state,
         count,
         objects,
-    )
+    );
+    let Applied::Count(_) = answer else {
+        return not_admitted(answer);
+    };
+    Admitted {
+        answer,
+        predicates,
+        schema,
+    }
+}
+
+// The checks that applying, previewing and committing an action make alike, 1 to 19: the card, the state, the action, its preconditions.
+pub fn admit(card: &[u8], state: &[u8], count: usize, schema: usize, objects: &[u8]) -> Admitted
+    ensures { λ r. ⌜
+        Admits (admission (now (card .entry)) (now (state .entry)) count (record { schema = schema; objects = now (objects .entry) }))
+        (now (state .entry)) count (now (objects .entry)) r
+        ⌝ }
+{
+    let decoded = decode(card);
+    let verdict = decoded.verdict;
+    let task = decoded.task;
+    match verdict {
+        Verdict::Refused(refusal) => not_admitted(Applied::CardRefused(refusal)),
+        Verdict::Accepted => admit_task(task, state, count, schema, objects),
+    }
 }
 
 // The opening call for a task: its facts are stored.
@@ -223,11 +269,14 @@ pub fn apply(card: &[u8], state: &mut [u8], count: usize, schema: usize, objects
         Matches (press (now (card .entry)) (now (state .entry)) count (record { schema = schema; objects = now (objects .entry) })) (now (state .exit)) r
         ⌝ }
 {
-    let decoded = decode(card);
-    let verdict = decoded.verdict;
-    let task = decoded.task;
-    match verdict {
-        Verdict::Refused(refusal) => Applied::CardRefused(refusal),
-        Verdict::Accepted => apply_task(task, state, count, schema, objects),
-    }
+    let admitted = admit(card, state, count, schema, objects);
+    let answer = admitted.answer;
+    let Applied::Count(_) = answer else {
+        return answer;
+    };
+    let chosen = admitted.schema;
+    let predicates = admitted.predicates;
+    let predicate_count = predicates.count;
+    let arities = predicates.arities;
+    store_successor(chosen, &arities[0..predicate_count], state, count, objects)
 }

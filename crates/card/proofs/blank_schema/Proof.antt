@@ -1,8 +1,8 @@
 -- `blank_schema` is the schema with nothing in it.
 use Rattle.card.specs.Represents.{blankSchema}
 use borrow.Author.Needs.{needs}
-use Rattle.reader.proofs.blank_schema.Statement.{statement}
-use Rattle.reader.proofs.blank_schema.Tie as tie
+use Rattle.card.proofs.blank_schema.Statement.{statement}
+use Rattle.card.proofs.blank_schema.Tie as tie
 
 no-atoms-requires : tie.Need-no-atoms-requires
 no-atoms-requires c κs = search needs

@@ -4,9 +4,9 @@ use mathlib.Core.Path.{_≡_, refl}
 use native.Mathlib.Omega.{arith}
 use lib.ListN.{length, take}
 use Rattle.laws.specs.Lists.{padded}
-use Rattle.open_actions.proofs.Levels.{one-filled, all-filled}
-use Rattle.open_actions.proofs.schemas.in_front.Statement.{statement}
-use Rattle.open_actions.proofs.schemas.in_front.Tie as tie
+use Rattle.actions.proofs.Fronts.{one-filled, all-filled}
+use Rattle.actions.proofs.in_front.Statement.{statement}
+use Rattle.actions.proofs.in_front.Tie as tie
 
 abbrev Inv-loop : tie.InvT-loop
 Inv-loop objects front₀ i₀ front i = (i ≤ length objects) × (front ≡ padded 6 0 (take i objects))
