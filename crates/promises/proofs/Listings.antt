@@ -1,5 +1,5 @@
 -- Demand 3 on the listing call, down to its bytes: what an accepted call wrote is the text of one section of the card's listing and of no other
--- lines, and everything on those lines is true after every list of calls that press on the card. And the calls for all sections together write
+-- lines, and everything on those lines is true after every list of calls that press, ask or commit on the card. And the calls for all sections together write
 -- what the program prints.
 use Prim.Native.Nat.{ℕ, suc, _≤_}
 use mathlib.Core.Path.{_≡_, refl, sym, ap, _∙_, subst}
@@ -10,11 +10,11 @@ use Rattle.laws.specs.Lists.{upTo}
 use Rattle.laws.proofs.Lists.{mem-getD}
 use Rattle.model.specs.Answer.{accepted}
 use Rattle.model.specs.Card as model
-use Rattle.model.specs.Strips.{Action}
 use Rattle.model.specs.Spaces.{spaces}
 use Rattle.model.specs.Lines.{Line, sections}
 use Rattle.model.specs.Text.{text}
 use Rattle.model.specs.Calls.{outputBytes, initial, program, Standing, stateOf}
+use Rattle.model.specs.Histories.{Event}
 use Rattle.model.specs.Truth.{_isSectionOf_, Holds}
 use Rattle.model.proofs.TextLines.{text-determines}
 use Rattle.model.proofs.SectionCalls.{written, section-calls, accepted-section}
@@ -59,15 +59,15 @@ one-section card before after number n r lists e =
 -- whatever lines the bytes are the text of: they are a section of the card's listing, and what is listed is true of the state after any calls
 pub bytes-are-true : (card before after : List ℕ) (number n : ℕ) (r : Listed) → Lists card number before after r → listedSays r ≡ accepted n
     → (buffer opened : List ℕ) (count : ℕ) (o : Applied) → Matches (initial card buffer) opened o → appliedSays o ≡ accepted count
-    → (actions : List Action) (standing : Standing) → Calls card (record { buffer = opened; count = count }) actions standing
+    → (events : List Event) (standing : Standing) → Calls card (record { buffer = opened; count = count }) events standing
     → (lines : List Line) → take n after ≡ text lines
     → (t : model.Task) × (model.decode card ≡ accepted t) × (lines isSectionOf t) × Holds t (stateOf t standing)
-bytes-are-true card before after number n r lists e buffer opened count o opens said actions standing calls lines same =
+bytes-are-true card before after number n r lists e buffer opened count o opens said events standing calls lines same =
     let w = one-section card before after number n r lists e in (
       w .task,
       w .decoded,
       subst (λ (ls : List Line). ls isSectionOf w .task) (sym (w .alone lines same)) (w .listed),
-      calls-keep-the-listing card buffer opened (w .task) count o actions standing (w .decoded) opens said calls,
+      calls-keep-the-listing card buffer opened (w .task) count o events standing (w .decoded) opens said calls,
     )
 
 -- the calls for sections 0 to n of a card with n spaces, each with a buffer of its own, write what the program prints

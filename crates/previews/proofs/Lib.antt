@@ -1,0 +1,4 @@
+pub mod RowLists
+pub mod InOrder
+pub mod Foreseeing
+pub mod Committing

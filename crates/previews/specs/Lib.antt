@@ -1,0 +1,3 @@
+pub mod Represents
+pub mod Steps
+pub mod Answers
