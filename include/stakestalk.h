@@ -27,7 +27,7 @@ extern "C" {
 /* The version of this header. CHANGELOG.md says what each version changed; a change of an answer or of the card raises it. */
 #define STAKESTALK_VERSION_MAJOR 0
 #define STAKESTALK_VERSION_MINOR 2
-#define STAKESTALK_VERSION_PATCH 0
+#define STAKESTALK_VERSION_PATCH 1
 #define STAKESTALK_VERSION (STAKESTALK_VERSION_MAJOR * 10000 + STAKESTALK_VERSION_MINOR * 100 + STAKESTALK_VERSION_PATCH)
 
 /* Sizes of buffers, in bytes. */
@@ -35,12 +35,21 @@ extern "C" {
 #define STAKESTALK_OUTPUT_BYTES 65536 /* the least buffer for a section or a rewritten card */
 #define STAKESTALK_FACT_BYTES 4       /* one fact of a state: predicate, objects, 255 for missing arguments */
 #define STAKESTALK_FOUND_BYTES 7      /* a press that is found: schema, objects, 0 for missing objects */
+#define STAKESTALK_CHANGES_BYTES 74   /* a press and what it would change */
+
+/* The parts of these 74 bytes, each by its first byte; unused places are 0. */
+#define STAKESTALK_CHANGES_SCHEMA 0   /* the schema of the press */
+#define STAKESTALK_CHANGES_OBJECTS 1  /* the number of its objects, then 6 places of a byte each */
+#define STAKESTALK_CHANGES_GOING 8    /* the number of facts that would go, then 8 places for them, as in a state */
+#define STAKESTALK_CHANGES_COMING 41  /* the number of facts that would newly come, then 8 places for them */
 
 /* Stack that is enough for a call, in bytes, and for any of them. `tests/c/stack --write` measures them anew. */
 #define STAKESTALK_STACK_CHECK 24576
 #define STAKESTALK_STACK_INITIAL 28672
-#define STAKESTALK_STACK_PRESS 32768
+#define STAKESTALK_STACK_PRESS 28672
 #define STAKESTALK_STACK_NEXT_OPEN 28672
+#define STAKESTALK_STACK_PREVIEW 28672
+#define STAKESTALK_STACK_COMMIT 28672
 #define STAKESTALK_STACK_REWRITE 28672
 #define STAKESTALK_STACK_SECTION 135168
 #define STAKESTALK_STACK STAKESTALK_STACK_SECTION
@@ -71,7 +80,9 @@ enum stakestalk_refusal {
     STAKESTALK_REFUSED_STATE_FULL = 20,    /* the new state would have over 1,024 facts */
     /* of an output buffer and a section number */
     STAKESTALK_REFUSED_OUTPUT = 21,        /* the output buffer is under 65,536 bytes */
-    STAKESTALK_REFUSED_SECTION = 22        /* the section number is past the last section */
+    STAKESTALK_REFUSED_SECTION = 22,       /* the section number is past the last section */
+    /* of a commit */
+    STAKESTALK_REFUSED_CHANGES_DIFFER = 23 /* the press would take out or put in other facts than are listed */
 };
 
 /* The version of the library that is linked, as STAKESTALK_VERSION has it. */
@@ -119,6 +130,29 @@ int32_t stakestalk_press(const uint8_t *card, size_t card_len, uint8_t *state, s
  */
 int32_t stakestalk_next_open(const uint8_t *card, size_t card_len, const uint8_t *state, size_t state_len, size_t count, int32_t given,
                              size_t schema, const uint8_t *objects, size_t objects_len, uint8_t *found);
+
+/* Shows what a press would do: answers as stakestalk_press with the same arguments would, and alters no byte of the state.
+ * Answers the number of facts that the press would leave, 0 to 1,024, else -1 to -20.
+ * Where the press would be accepted, 74 bytes are written at `changes`: the press, the facts that would be taken out of the state, and
+ * those that would newly be put in. Both lists have the form and the order of a state; an added fact that is in the state already is in
+ * neither. Else `changes` stays as it is. */
+int32_t stakestalk_preview(const uint8_t *card, size_t card_len, const uint8_t *state, size_t state_len, size_t count, size_t schema,
+                           const uint8_t *objects, size_t objects_len, uint8_t *changes);
+
+/* Commits to what was shown: does the press of the 74 bytes at `changes`, if in this state the same facts would go and the same would
+ * come. Straight after stakestalk_preview it is stakestalk_press, answer and every byte.
+ * Answers the new number of facts, 0 to 1,024, else -1 to -20 as the press would, or then -23 where other facts would go or come than are
+ * listed. As after a press, keep the count where it is refused.
+ * All is worked out anew from card and state, so the 74 bytes may be any. More than 6 objects are refused as too many; lists that
+ * differ in a byte, in order or in number, with more than 8 facts too, by -23. Places past the numbers are not looked at.
+ *
+ *     uint8_t changes[STAKESTALK_CHANGES_BYTES];
+ *     int32_t answer = stakestalk_preview(card, card_len, state, state_len, count, schema, objects, objects_len, changes);
+ *     if (answer >= 0 && wanted(changes))
+ *         answer = stakestalk_commit(card, card_len, state, state_len, count, changes);
+ */
+int32_t stakestalk_commit(const uint8_t *card, size_t card_len, uint8_t *state, size_t state_len, size_t count,
+                          const uint8_t *changes);
 
 /* Writes one section of the card's listing as text, from byte 0 of out; bytes past the text stay as they are.
  * Sections 0 to n-1 are those of the n spaces, n is the closing one.

@@ -3,3 +3,4 @@ pub mod Sizes
 pub mod Checking
 pub mod Sections
 pub mod Asking
+pub mod Previewing

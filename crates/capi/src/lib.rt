@@ -9,29 +9,47 @@ use open_actions::Found;
 use open_actions::Given;
 use open_actions::NextOpen;
 use open_actions::next_open;
+use previews::Changes;
+use previews::Committed;
+use previews::Previewed;
+use previews::Rows;
+use previews::commit;
+use previews::preview;
 use reader::decode;
 use strips::Applied;
 use strips::apply;
 use strips::initial;
 use writer::Writing;
 use writer::encode;
-ghost use mathlib.Core.List.{_∷_};
+ghost use mathlib.Core.List.{_∷_, _++_};
 ghost use mathlib.Core.Path.{_≡_};
-ghost use Prim.Native.Nat.{_<_};
+ghost use Prim.Native.Nat.{_+_, _≤_, _<_};
 ghost use Rattle.model.specs.Answer.{refused};
 ghost use Rattle.model.specs.Calls.{initial, press, section};
 ghost use Rattle.model.specs.Open.{nextOpen};
+ghost use Rattle.model.specs.Preview.{ask, commit};
 ghost use Rattle.card.specs.Represents.{refusalNumber};
 ghost use Rattle.listing.specs.Answers.{listedSays};
 ghost use Rattle.strips.specs.Answers.{appliedSays};
 ghost use Rattle.writer.specs.Answers.{writingSays};
 ghost use Rattle.open_actions.specs.Answers.{givenOf};
+ghost use Rattle.previews.specs.Represents.{previewOf};
+ghost use Rattle.previews.specs.Answers.{committedSays};
 ghost use Rattle.capi.specs.Numbers.{signed, checks, rewrites, Small, versionNumber};
 ghost use Rattle.capi.specs.Asking.{givenAs, countSaid, bytesSaid, objectCount, shownIn, SmallAction};
+ghost use Rattle.capi.specs.Previewing.{rowsShown, rowsHeld, changesHeld, changesShown, askedCount, askedShown, shownBeside, SmallChanges};
 ghost use lib.IntN.{pos};
+ghost use lib.ListN.{length, take, drop};
 
-// The version of these calls, 0.2.0, as include/stakestalk.h has it: two decimal digits each for minor and patch.
-const VERSION: i32 = 200;
+// The version of these calls, 0.2.1, as include/stakestalk.h has it: two decimal digits each for minor and patch.
+const VERSION: i32 = 201;
+
+// The bytes of changes, and where in them the number of rows that go and of rows that come stands.
+const CHANGES_BYTES: usize = 74;
+
+const GONE: usize = 8;
+
+const COME: usize = 41;
 
 fn refusal_code(refusal: Refusal) -> i32
     ensures { λ r. ⌜ r ≡ signed (refused (refusalNumber refusal)) ⌝ }
@@ -127,6 +145,103 @@ fn next_open_code(next: NextOpen, found: &mut [u8; 7]) -> i32
     }
 }
 
+fn committed_code(committed: Committed) -> i32
+    requires { ⌜ Small (committedSays committed) ⌝ }
+    ensures { λ r. ⌜ r ≡ signed (committedSays committed) ⌝ }
+{
+    match committed {
+        Committed::Answered(applied) => applied_code(applied),
+        Committed::ChangesDiffer => -23,
+    }
+}
+
+// Copies bytes to a run of the same length.
+fn copy(to: &mut [u8], from: &[u8])
+    requires { ⌜ length (now to) ≡ length (now from) ⌝ }
+    ensures { λ _. ⌜ now (to .exit) ≡ now (from .entry) ⌝ }
+{
+    let mut i = 0;
+    while i < from.len() {
+        to[i] = from[i];
+        i = i + 1;
+    }
+}
+
+// Writes rows to a place: their number, then eight places of four bytes.
+fn write_rows(bytes: &mut [u8], at: usize, rows: Rows)
+    requires { ⌜ (at + 33 ≤ length (now bytes)) × (rows .count < 256) ⌝ }
+    ensures { λ _. ⌜ now (bytes .exit) ≡ take at (now (bytes .entry)) ++ rowsShown rows ++ drop (at + 33) (now (bytes .entry)) ⌝ }
+{
+    bytes[at] = rows.count as u8;
+    let start = at + 1;
+    let end = at + 33;
+    let eight = rows.rows;
+    copy(&mut bytes[start..end], &eight);
+}
+
+// Writes changes: the schema, the number of objects and six places for them, the rows that go, and those that come.
+fn write_changes(bytes: &mut [u8], changes: Changes)
+    requires { ⌜ (length (now bytes) ≡ 74) × SmallChanges changes ⌝ }
+    ensures { λ _. ⌜ now (bytes .exit) ≡ changesShown changes ⌝ }
+{
+    bytes[0] = changes.schema as u8;
+    bytes[1] = changes.object_count as u8;
+    let objects = changes.objects;
+    copy(&mut bytes[2..GONE], &objects);
+    let gone = changes.gone;
+    write_rows(bytes, GONE, gone);
+    let come = changes.come;
+    write_rows(bytes, COME, come);
+}
+
+// The rows whose number stands at a place of such bytes.
+fn rows_at(bytes: &[u8], at: usize) -> Rows
+    requires { ⌜ at + 33 ≤ length (now bytes) ⌝ }
+    ensures { λ r. ⌜ r ≡ rowsHeld at (now (bytes .entry)) ⌝ }
+{
+    let count = bytes[at] as usize;
+    let start = at + 1;
+    let end = at + 33;
+    let mut rows = [0u8; 32];
+    copy(&mut rows, &bytes[start..end]);
+    Rows { count, rows }
+}
+
+// The changes that such bytes hold.
+fn changes_from(bytes: &[u8]) -> Changes
+    requires { ⌜ length (now bytes) ≡ 74 ⌝ }
+    ensures { λ r. ⌜ r ≡ changesHeld (now (bytes .entry)) ⌝ }
+{
+    let schema = bytes[0] as usize;
+    let object_count = bytes[1] as usize;
+    let mut objects = [0u8; 6];
+    copy(&mut objects, &bytes[2..GONE]);
+    let gone = rows_at(bytes, GONE);
+    let come = rows_at(bytes, COME);
+    Changes {
+        schema,
+        object_count,
+        objects,
+        gone,
+        come,
+    }
+}
+
+// The bytes of changes that are foreseen are written; nothing is beside a refusal.
+fn previewed_code(previewed: Previewed, changes: &mut [u8; CHANGES_BYTES]) -> i32
+    requires { ⌜ Small (appliedSays (previewed .applied)) × SmallChanges (previewed .changes) ⌝ }
+    ensures { λ r. ⌜ r ≡ signed (appliedSays (previewed .applied)) ⌝ }
+    ensures { λ _. ⌜ now (changes .exit) ≡ shownBeside (previewed .applied) (previewed .changes) (now (changes .entry)) ⌝ }
+{
+    let applied = previewed.applied;
+    let Applied::Count(_) = applied else {
+        return applied_code(applied);
+    };
+    let foreseen = previewed.changes;
+    write_changes(changes, foreseen);
+    applied_code(applied)
+}
+
 // The version of these calls, a larger number for a later one.
 #[no_mangle]
 pub extern "C" fn stakestalk_version() -> i32
@@ -199,6 +314,45 @@ pub extern "C" fn stakestalk_next_open(
     let after = given_action(given, schema);
     let next = next_open(card, state, count, after, objects);
     next_open_code(next, found)
+}
+
+// Asks what applying a schema to objects would do in the state of `count` facts: the number of facts that there would be then. Only where it
+// would be accepted `changes` is written: the action, the facts that would go, and those that would newly come, with 0 in unused places.
+#[no_mangle]
+pub extern "C" fn stakestalk_preview(
+    card: &[u8],
+    state: &[u8],
+    count: usize,
+    schema: usize,
+    objects: &[u8],
+    changes: &mut [u8; CHANGES_BYTES],
+) -> i32
+    ensures { λ r. ⌜
+        r ≡ signed (askedCount (ask (now (card .entry)) (now (state .entry)) count (record { schema = schema; objects = now (objects .entry) })))
+        ⌝ }
+    ensures { λ _. ⌜
+        now (changes .exit)
+        ≡ askedShown (ask (now (card .entry)) (now (state .entry)) count (record { schema = schema; objects = now (objects .entry) })) (now (changes .entry))
+        ⌝ }
+{
+    let previewed = preview(card, state, count, schema, objects);
+    previewed_code(previewed, changes)
+}
+
+// Applies the action that `changes` carries, if in the state of `count` facts it still does what they say: the next state's number of facts.
+#[no_mangle]
+pub extern "C" fn stakestalk_commit(
+    card: &[u8],
+    state: &mut [u8],
+    count: usize,
+    changes: &[u8; CHANGES_BYTES],
+) -> i32
+    ensures { λ r. ⌜ r ≡ signed (commit (now (card .entry)) (now (state .entry)) count (previewOf (changesHeld (now (changes .entry)))) .answer) ⌝ }
+    ensures { λ _. ⌜ now (state .exit) ≡ commit (now (card .entry)) (now (state .entry)) count (previewOf (changesHeld (now (changes .entry)))) .buffer ⌝ }
+{
+    let given = changes_from(changes);
+    let committed = commit(card, state, count, given);
+    committed_code(committed)
 }
 
 // Reads a card and writes what was read as a card again: its length.
