@@ -1,4 +1,5 @@
-/* Opens the bench card K1 of docs/CARD.md, shows what may be pressed and presses as a program would, and prints what the calls answer. */
+/* Opens the bench card K1 of docs/CARD.md, shows what may be pressed and what a press would change, presses as a program would, and
+ * prints what the calls answer. */
 #include <stdio.h>
 #include <string.h>
 #include "stakestalk.h"
@@ -44,7 +45,37 @@ static void show_after(int32_t given, size_t schema, const uint8_t *objects, siz
     printf("\n");
 }
 
+/* Some facts of a state, of which there are `number`. */
+static void show_facts(const uint8_t *facts, size_t number) {
+    for (size_t i = 0; i < number; i++) {
+        const uint8_t *fact = facts + STAKESTALK_FACT_BYTES * i;
+        printf("%d %d %d %d\n", fact[0], fact[1], fact[2], fact[3]);
+    }
+}
+
+/* Shows what a press would take out and put in; the state stays as it is. */
+static void preview(size_t schema, const uint8_t *objects, size_t objects_len, uint8_t *changes) {
+    int32_t answer = stakestalk_preview(card, sizeof card, state, sizeof state, count, schema, objects, objects_len, changes);
+    printf("preview of schema %zu: %d\n", schema, answer);
+    if (answer < 0)
+        return;
+    const uint8_t *going = changes + STAKESTALK_CHANGES_GOING, *coming = changes + STAKESTALK_CHANGES_COMING;
+    printf("%d would go\n", going[0]);
+    show_facts(going + 1, going[0]);
+    printf("%d would come\n", coming[0]);
+    show_facts(coming + 1, coming[0]);
+}
+
+/* Does the press that was shown, if it would still change the same. As after a press, the count stays where it is refused. */
+static void commit(const uint8_t *changes) {
+    int32_t answer = stakestalk_commit(card, sizeof card, state, sizeof state, count, changes);
+    if (answer >= 0)
+        count = (size_t)answer;
+    printf("commit %d, and %zu facts\n", answer, count);
+}
+
 int main(void) {
+    uint8_t changes[STAKESTALK_CHANGES_BYTES];
     const uint8_t first[] = {0}, three[] = {0, 2, 3}, twice[] = {0, 2, 2};
 
     if (stakestalk_version() != STAKESTALK_VERSION) {
@@ -71,10 +102,17 @@ int main(void) {
         return 1;
     press(1, twice, sizeof twice); /* refused: one object in two roles */
     press(1, three, sizeof three);
-    for (size_t i = 0; i < count; i++) {
-        const uint8_t *fact = state + STAKESTALK_FACT_BYTES * i;
-        printf("%d %d %d %d\n", fact[0], fact[1], fact[2], fact[3]);
-    }
+    show_facts(state, count);
+
+    /* The presses of K3 have left idle(0), idle(1), holds(0,3), holds(1,2), sample(2) and sample(3). */
+    preview(1, three, sizeof three, changes); /* refused, as the press would be: object 0 is not armed */
+    preview(0, first, sizeof first, changes);
+    changes[STAKESTALK_CHANGES_OBJECTS + 1] = 1;
+    commit(changes); /* refused: on object 1 the press is allowed, but changes other facts than are listed */
+    changes[STAKESTALK_CHANGES_OBJECTS + 1] = 0;
+    commit(changes); /* what was shown */
+    commit(changes); /* refused: what was shown is outdated, since object 0 is not idle any more */
+    show_facts(state, count);
 
     int32_t length = stakestalk_rewrite(card, sizeof card, out, sizeof out);
     printf("rewrite %d of %zu\n", length, sizeof card);

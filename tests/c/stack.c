@@ -10,17 +10,18 @@
 #include <sys/mman.h>
 #include "stakestalk.h"
 
-enum { PAINT = 0xA5, STACK = 1 << 20, PAGE = 4096, CALLS = 6, MOST_BINDINGS = 60, MOST_OPEN = 20 };
-static const char *const names[CALLS] = {"check", "initial", "press", "section", "rewrite", "next_open"};
+enum { PAINT = 0xA5, STACK = 1 << 20, PAGE = 4096, CALLS = 8, MOST_BINDINGS = 60, MOST_OPEN = 20 };
+static const char *const names[CALLS] = {"check", "initial", "press", "section", "rewrite", "next_open", "preview", "commit"};
 static const size_t said[CALLS] = {
     STAKESTALK_STACK_CHECK,   STAKESTALK_STACK_INITIAL, STAKESTALK_STACK_PRESS,
     STAKESTALK_STACK_SECTION, STAKESTALK_STACK_REWRITE, STAKESTALK_STACK_NEXT_OPEN,
+    STAKESTALK_STACK_PREVIEW, STAKESTALK_STACK_COMMIT,
 };
 static size_t most[CALLS];
 static const char *where[CALLS];
 
 static uint8_t *stack, card[1 << 16], state[STAKESTALK_STATE_BYTES], out[STAKESTALK_OUTPUT_BYTES], objects[6];
-static uint8_t found[STAKESTALK_FOUND_BYTES];
+static uint8_t found[STAKESTALK_FOUND_BYTES], changes[STAKESTALK_CHANGES_BYTES];
 static size_t card_len, count, schema, objects_len, number;
 static int call;
 static int32_t answer;
@@ -35,9 +36,14 @@ static void *make(void *nothing) {
     case 2: answer = stakestalk_press(card, card_len, state, sizeof state, count, schema, objects, objects_len); break;
     case 3: answer = stakestalk_section(card, card_len, number, out, sizeof out); break;
     case 4: answer = stakestalk_rewrite(card, card_len, out, sizeof out); break;
-    default:
+    case 5:
         answer = stakestalk_next_open(card, card_len, state, sizeof state, count, (int32_t)objects_len, schema, objects, objects_len,
                                       found);
+        break;
+    case 6:
+        answer = stakestalk_preview(card, card_len, state, sizeof state, count, schema, objects, objects_len, changes);
+        break;
+    default: answer = stakestalk_commit(card, card_len, state, sizeof state, count, changes);
     }
     return nothing;
 }
@@ -85,7 +91,7 @@ static int32_t measured(int which, const char *name) {
     return answer;
 }
 
-/* Presses each schema, on the first binding of its roles that is accepted. */
+/* Presses each schema, on the first binding of its roles that is accepted; and asks about the same press and commits it. */
 static void press_all(const char *name) {
     for (schema = 0;; schema++) {
         for (objects_len = 1; objects_len <= sizeof objects; objects_len++) {
@@ -99,6 +105,9 @@ static void press_all(const char *name) {
                 if (next >= 0) {
                     stakestalk_initial(card, card_len, state, sizeof state);
                     measured(2, name);
+                    stakestalk_initial(card, card_len, state, sizeof state);
+                    measured(6, name);
+                    measured(7, name);
                     break;
                 }
                 size_t place = objects_len;

@@ -1,12 +1,15 @@
 //! Two implementations side by side: the same calls on the same bytes, answers and every lent byte compared.
 
 mod open;
+mod preview;
 
 pub use open::{every_press, missing_of_open};
+pub use preview::missing_of_previews;
 
 use crate::card::{decode, Schema, Task, OUTPUT_LEN};
 use crate::crowded;
 use crate::met::{every_answer, Call, Case, Met, LINES, NESTINGS, SPACES, TALLIES};
+use crate::preview::{Changes, ChangesBytes};
 use crate::proved::{Calls, Found};
 use crate::random::{write_unchecked, Malformed, Random, MALFORMED_PARTS};
 use crate::refusal::{BINDING, OUTPUT, SECTION, STATE};
@@ -41,6 +44,8 @@ enum Request<'a> {
     Section(usize),
     Press { count: usize, press: &'a Press },
     NextOpen { state: &'a [u8], count: usize, given: Option<&'a Press> },
+    Preview { state: &'a [u8], count: usize, press: &'a Press },
+    Commit { count: usize, changes: &'a ChangesBytes },
 }
 
 impl Request<'_> {
@@ -52,6 +57,8 @@ impl Request<'_> {
             Request::Section(_) => Call::Section,
             Request::Press { .. } => Call::Press,
             Request::NextOpen { .. } => Call::NextOpen,
+            Request::Preview { .. } => Call::Preview,
+            Request::Commit { .. } => Call::Commit,
         }
     }
 
@@ -68,6 +75,8 @@ impl Request<'_> {
                 let given = given.map_or("none".into(), in_words);
                 format!("next open press after {given}, {}", state_in_words(state, *count))
             }
+            Request::Preview { state, count, press } => format!("preview of {}, {}", in_words(press), state_in_words(state, *count)),
+            Request::Commit { count, changes } => format!("commit of {}, {}", to_hex(&changes[..]), state_in_words(buffer, *count)),
         }
     }
 }
@@ -114,15 +123,18 @@ struct Outcome {
     bytes: Vec<u8>,
 }
 
-/// Makes the call on copies. Says so where it altered what it may not: card, objects, a state that is only read, bytes that were not
-/// lent, anything on a refusal or at the end of the open presses.
+/// Makes the call on copies. Says so where it altered what it may not: card, objects, a state that is only read, what is committed, bytes
+/// that were not lent, anything on a refusal or at the end of the open presses.
 fn outcome(calls: &dyn Calls, card: &[u8], request: Request, before: &[u8]) -> Result<Outcome, String> {
-    let (objects, state): (&[u8], &[u8]) = match request {
+    // Beside the card: objects, and a state or what is committed.
+    let (objects, read): (&[u8], &[u8]) = match request {
         Request::Press { press, .. } => (&press.objects, &[]),
         Request::NextOpen { state, given, .. } => (given.map_or(&[], |given| &given.objects), state),
+        Request::Preview { state, press, .. } => (&press.objects, state),
+        Request::Commit { changes, .. } => (&[], changes),
         _ => (&[], &[]),
     };
-    let (mut lent_card, mut lent_objects, mut lent_state) = (Lent::new(card), Lent::new(objects), Lent::new(state));
+    let (mut lent_card, mut lent_objects, mut lent_read) = (Lent::new(card), Lent::new(objects), Lent::new(read));
     let mut buffer = Lent::new(before);
     let answer = match request {
         Request::Check => calls.check(lent_card.lend()).map(|()| 0),
@@ -133,10 +145,18 @@ fn outcome(calls: &dyn Calls, card: &[u8], request: Request, before: &[u8]) -> R
         Request::NextOpen { count, given, .. } => {
             let given = given.map(|given| (given.schema, &*lent_objects.lend()));
             let found: &mut Found = buffer.lend().try_into().map_err(|_| "needs room for a press".to_string())?;
-            calls.next_open(lent_card.lend(), lent_state.lend(), count, given, found)
+            calls.next_open(lent_card.lend(), lent_read.lend(), count, given, found)
+        }
+        Request::Preview { count, press, .. } => {
+            let changes: &mut ChangesBytes = buffer.lend().try_into().map_err(|_| "needs room for what a press changes".to_string())?;
+            calls.preview(lent_card.lend(), lent_read.lend(), count, press.schema, lent_objects.lend(), changes)
+        }
+        Request::Commit { count, .. } => {
+            let changes: &ChangesBytes = (&*lent_read.lend()).try_into().map_err(|_| "needs what a press changes".to_string())?;
+            calls.commit(lent_card.lend(), buffer.lend(), count, changes)
         }
     };
-    let read = [(lent_card, card), (lent_objects, objects), (lent_state, state)];
+    let read = [(lent_card, card), (lent_objects, objects), (lent_read, read)];
     if read.into_iter().any(|(lent, bytes)| lent.back().as_deref() != Some(bytes)) {
         return Err(format!("answers {answer:?} and bytes that are only read are altered"));
     }
@@ -163,6 +183,9 @@ const UNKNOWN_OBJECT: Case = ("objects", "unknown");
 const LONG_PRESS: Case = ("accepted press", "in a long buffer");
 const FULL_BEFORE: Case = ("accepted press", "on 1,024 facts");
 const FULL_AFTER: Case = ("accepted press", "to 1,024 facts");
+const LONG_COMMIT: Case = ("accepted commit", "in a long buffer");
+const FULL_BEFORE_COMMIT: Case = ("accepted commit", "on 1,024 facts");
+const FULL_AFTER_COMMIT: Case = ("accepted commit", "to 1,024 facts");
 
 /// What random cards have to bring up and did not: every answer of the calls that take a card alone, every kind of space, of line and
 /// of nesting, 64 conditions and a 65th from several starts, short and long buffers, section numbers past the last.
@@ -191,19 +214,27 @@ fn case(card: &[u8], request: Request, length: usize, answer: Result<usize, u8>)
         (Request::Rewrite | Request::Section(_), Ok(_)) if length > OUTPUT_LEN => Some(LONG_OUTPUT),
         (Request::Rewrite | Request::Section(_), Err(OUTPUT)) => Some(SHORT_OUTPUT),
         (Request::Section(number), Err(SECTION)) => Some(if number <= MAX_SECTIONS { NEAR_SECTION } else { FAR_SECTION }),
-        (Request::Press { press, .. } | Request::NextOpen { given: Some(press), .. }, Err(BINDING)) => {
-            let roles = decode(card).ok()?.schemas().get(press.schema)?.parameters as usize;
-            Some(match press.objects.len().cmp(&roles) {
-                Ordering::Less => TOO_FEW,
-                Ordering::Equal => UNKNOWN_OBJECT,
-                Ordering::Greater => TOO_MANY,
-            })
-        }
+        (Request::Press { press, .. } | Request::NextOpen { given: Some(press), .. }, Err(BINDING)) => part_of_binding(card, press),
+        (Request::Preview { press, .. }, Err(BINDING)) => part_of_binding(card, press),
+        (Request::Commit { changes, .. }, Err(BINDING)) => part_of_binding(card, &Changes::from_bytes(changes).press),
         (Request::Press { .. }, Ok(MAX_STATE_FACTS)) => Some(FULL_AFTER),
         (Request::Press { count: MAX_STATE_FACTS, .. }, Ok(_)) => Some(FULL_BEFORE),
         (Request::Press { .. }, Ok(_)) if length > STATE_LEN => Some(LONG_PRESS),
+        (Request::Commit { .. }, Ok(MAX_STATE_FACTS)) => Some(FULL_AFTER_COMMIT),
+        (Request::Commit { count: MAX_STATE_FACTS, .. }, Ok(_)) => Some(FULL_BEFORE_COMMIT),
+        (Request::Commit { .. }, Ok(_)) if length > STATE_LEN => Some(LONG_COMMIT),
         _ => None,
     }
+}
+
+/// Which part of 17 refuses a press.
+fn part_of_binding(card: &[u8], press: &Press) -> Option<Case> {
+    let roles = decode(card).ok()?.schemas().get(press.schema)?.parameters as usize;
+    Some(match press.objects.len().cmp(&roles) {
+        Ordering::Less => TOO_FEW,
+        Ordering::Equal => UNKNOWN_OBJECT,
+        Ordering::Greater => TOO_MANY,
+    })
 }
 
 pub struct Comparison<'a> {
@@ -407,6 +438,7 @@ impl<'a> Comparison<'a> {
 }
 
 /// A state as the call before left it, and the count last answered.
+#[derive(Clone)]
 struct History {
     state: Vec<u8>,
     count: usize,

@@ -2,7 +2,7 @@
 //! precondition at its last role tries a great many bindings. With 64 objects most of the states are full.
 
 use crate::examples::card;
-use crate::strips::{FACT_LEN, FILLER, MAX_STATE_FACTS, STATE_LEN};
+use crate::strips::{Fact, FILLER, MAX_STATE_FACTS, STATE_LEN};
 
 pub struct Hard {
     pub name: &'static str,
@@ -36,8 +36,6 @@ pub fn hard_states(objects: usize) -> Vec<Hard> {
         hard("20 alone refuses", objects, "same/2 other/3", "add same(a,f)", &full),
     ]
 }
-
-type Fact = [u8; FACT_LEN];
 
 /// The objects in a ring: the predicate holds of each one and those that are so many steps further on.
 fn ring(predicate: u8, steps: &[usize], objects: usize) -> Vec<Fact> {

@@ -1,10 +1,11 @@
-//! Random histories by one implementation's calls: the `E` lines of its listing checked against the `T` lines, and every other line
-//! against the state after each call.
+//! Random histories by one implementation's calls, presses, asks and commits mixed: the `E` lines of its listing checked against the `T`
+//! lines, and every other line against the state after each call.
 
 use crate::card::Task;
-use crate::met::{Call, Met, LINES, NESTINGS, SPACES};
+use crate::met::{Call, Case, Met, LINES, NESTINGS, SPACES};
+use crate::preview::{ChangesBytes, CHANGES_LEN};
 use crate::proved::Calls;
-use crate::random::{write_unchecked, Random};
+use crate::random::{write_unchecked, Damaged, Random};
 use crate::strips::{Press, FACT_LEN, STATE_LEN};
 use crate::truth::{check, check_nestings, Listing};
 use crate::vectors::to_hex;
@@ -15,39 +16,79 @@ use std::fmt;
 pub struct Untrue {
     card: Vec<u8>,
     listing: String,
-    presses: Vec<Press>,
+    steps: Vec<Step>,
     fault: String,
 }
 
 impl fmt::Display for Untrue {
     fn fmt(&self, f: &mut fmt::Formatter) -> fmt::Result {
         write!(f, "card {}\n{}", to_hex(&self.card), self.listing)?;
-        for Press { schema, objects } in &self.presses {
-            writeln!(f, "press schema {schema}, objects {objects:?}")?;
+        for step in &self.steps {
+            match step {
+                Step::Press(Press { schema, objects }) => writeln!(f, "press schema {schema}, objects {objects:?}")?,
+                Step::Preview(Press { schema, objects }) => writeln!(f, "preview of schema {schema}, objects {objects:?}")?,
+                Step::Commit(changes) => writeln!(f, "commit of {}", to_hex(changes))?,
+            }
         }
         write!(f, "{}", self.fault)
+    }
+}
+
+/// A call of a history, with what is handed in beside card and state.
+#[derive(Debug)]
+enum Step {
+    Press(Press),
+    Preview(Press),
+    Commit(ChangesBytes),
+}
+
+/// A history as far as it has come.
+struct History {
+    state: Vec<u8>,
+    count: usize,
+    /// What was asked so far, and whether the state is still the one that was asked about last.
+    asked: Vec<ChangesBytes>,
+    unchanged: bool,
+    steps: Vec<Step>,
+}
+
+impl History {
+    fn facts(&self) -> &[u8] {
+        &self.state[..self.count * FACT_LEN]
+    }
+
+    /// The count after a call that may change the state. A refused one answers none.
+    fn answered(&mut self, answer: Result<usize, u8>) {
+        if let Ok(count) = answer {
+            self.count = count;
+            self.unchanged = false;
+        }
     }
 }
 
 pub struct Histories<'a> {
     calls: &'a dyn Calls,
     random: Random,
-    /// The answers of the presses; the spaces and the lines, each as often as it was checked.
+    /// The answers of presses, asks and commits; the spaces and the lines, each as often as it was checked.
     pub met: Met,
     pub states: usize,
 }
 
-/// The most presses of one history, and of one that is to fill the state up, which comes once in so many.
-const MOST_PRESSES: usize = 40;
-const FILLING_PRESSES: usize = 250;
+/// The most calls of one history, and of one that is to fill the state up, which comes once in so many.
+const MOST_CALLS: usize = 40;
+const FILLING_CALLS: usize = 300;
 const FILLING: usize = 200;
+
+const AS_ASKED: Case = ("committed", "in the state that was asked about");
+const OUTDATED: Case = ("committed", "in another state");
+const DAMAGED: Case = ("committed", "damaged");
 
 impl<'a> Histories<'a> {
     pub fn new(calls: &'a dyn Calls, seed: u64) -> Histories<'a> {
         Histories { calls, random: Random::new(seed), met: Met::default(), states: 0 }
     }
 
-    /// The opening call on a random card, then presses, accepted and refused ones.
+    /// The opening call on a random card, then presses, asks and commits, accepted and refused ones.
     pub fn random_history(&mut self) -> Result<(), Untrue> {
         let filling = self.random.once_in(FILLING);
         let task = match self.random.below(8) {
@@ -55,29 +96,69 @@ impl<'a> Histories<'a> {
             0 => self.random.roomy_task(),
             _ => self.random.task(),
         };
-        let most = if filling { FILLING_PRESSES } else { self.random.below(MOST_PRESSES + 1) };
+        let most = if filling { FILLING_CALLS } else { self.random.below(MOST_CALLS + 1) };
         let card = write_unchecked(&task);
         let listing = String::from_utf8_lossy(&self.calls.listing(&card)).into_owned();
-        let mut presses = Vec::new();
-        self.press_and_check(&task, &card, &listing, most, &mut presses).map_err(|fault| Untrue { card, listing, presses, fault })
+        let mut history = History { state: vec![0; STATE_LEN], count: 0, asked: Vec::new(), unchanged: false, steps: Vec::new() };
+        let checked = self.call_and_check(&task, &card, &listing, most, &mut history);
+        checked.map_err(|fault| Untrue { card, listing, steps: history.steps, fault })
     }
 
-    /// Says what is false, with the presses that led there.
-    fn press_and_check(&mut self, task: &Task, card: &[u8], text: &str, most: usize, presses: &mut Vec<Press>) -> Result<(), String> {
+    /// Says what is false; the history has the calls that led there.
+    fn call_and_check(&mut self, task: &Task, card: &[u8], text: &str, most: usize, history: &mut History) -> Result<(), String> {
         let listing = Listing::parse(text).ok_or("what was listed is no listing")?;
         check_nestings(&listing)?;
-        let mut state = vec![0; STATE_LEN];
-        let mut count = self.calls.initial(card, &mut state).map_err(|refusal| format!("the opening call answers {refusal}"))?;
-        self.check(task, &listing, text, &state[..count * FACT_LEN])?;
+        let opened = self.calls.initial(card, &mut history.state);
+        history.count = opened.map_err(|refusal| format!("the opening call answers {refusal}"))?;
+        self.check(task, &listing, text, history.facts())?;
         for _ in 0..most {
-            let press = self.random.press(task, &state[..count * FACT_LEN]);
-            let answer = self.calls.press(card, &mut state, count, press.schema, &press.objects);
-            self.met.answer(Call::Press, answer);
-            count = answer.unwrap_or(count);
-            presses.push(press);
-            self.check(task, &listing, text, &state[..count * FACT_LEN])?;
+            match self.random.below(8) {
+                0 | 1 => self.preview(task, card, history),
+                2 | 3 => self.commit(task, card, history),
+                _ => self.press(task, card, history),
+            }
+            self.check(task, &listing, text, history.facts())?;
         }
         Ok(())
+    }
+
+    fn press(&mut self, task: &Task, card: &[u8], history: &mut History) {
+        let press = self.random.press(task, history.facts());
+        let answer = self.calls.press(card, &mut history.state, history.count, press.schema, &press.objects);
+        self.met.answer(Call::Press, answer);
+        history.answered(answer);
+        history.steps.push(Step::Press(press));
+    }
+
+    /// Asks about a press. The count stays as it is.
+    fn preview(&mut self, task: &Task, card: &[u8], history: &mut History) {
+        let press = self.random.press(task, history.facts());
+        let mut changes = [0; CHANGES_LEN];
+        let answer = self.calls.preview(card, &history.state, history.count, press.schema, &press.objects, &mut changes);
+        self.met.answer(Call::Preview, answer);
+        if answer.is_ok() {
+            history.asked.push(changes);
+            history.unchanged = true;
+        }
+        history.steps.push(Step::Preview(press));
+    }
+
+    /// Commits what was asked last, or before, or something else; nothing where nothing was asked yet.
+    fn commit(&mut self, task: &Task, card: &[u8], history: &mut History) {
+        let Some(&last) = history.asked.last() else { return };
+        let (changes, case) = match self.random.below(4) {
+            0 => (*self.random.pick(&history.asked).unwrap_or(&last), OUTDATED),
+            1 => {
+                let Damaged { changes, .. } = self.random.damaged(task, history.facts(), &last);
+                (changes, DAMAGED)
+            }
+            _ => (last, if history.unchanged { AS_ASKED } else { OUTDATED }),
+        };
+        let answer = self.calls.commit(card, &mut history.state, history.count, &changes);
+        self.met.answer(Call::Commit, answer);
+        self.met.case(case);
+        history.answered(answer);
+        history.steps.push(Step::Commit(changes));
     }
 
     fn check(&mut self, task: &Task, listing: &Listing, text: &str, facts: &[u8]) -> Result<(), String> {
@@ -86,9 +167,12 @@ impl<'a> Histories<'a> {
         check(task, listing, facts)
     }
 
-    /// What never came up: a press that is accepted or refused by 16 to 20, a kind of space, of line or of nesting.
+    /// What never came up: a press, an ask or a commit that is accepted or refused by 16 to 20, a commit that is refused by 23, one in the
+    /// state that was asked about, in another one, or of something damaged; a kind of space, of line or of nesting.
     pub fn missing(&self) -> Vec<String> {
-        let answers = [0, 16, 17, 18, 19, 20].map(|answer| (Call::Press, answer));
-        self.met.missing(&answers, &[&SPACES[..], &LINES, &NESTINGS].concat())
+        let calls = [Call::Press, Call::Preview, Call::Commit];
+        let answers = calls.into_iter().flat_map(|call| [0, 16, 17, 18, 19, 20].map(|answer| (call, answer)));
+        let answers: Vec<(Call, u8)> = answers.chain([(Call::Commit, 23)]).collect();
+        self.met.missing(&answers, &[&SPACES[..], &LINES, &NESTINGS, &[AS_ASKED, OUTDATED, DAMAGED]].concat())
     }
 }

@@ -14,11 +14,13 @@ pub enum Call {
     Section,
     Press,
     NextOpen,
+    Preview,
+    Commit,
     Encode,
 }
 
 impl Call {
-    /// The answers that document 01 gives this call: 0 for an accepted call, and the numbers of its refusals.
+    /// The answers that the documents give this call: 0 for an accepted call, and the numbers of its refusals.
     pub fn answers(self) -> Vec<u8> {
         let (last, more): (u8, &[u8]) = match self {
             Call::Encode => return [0].into_iter().chain(2..=13).chain([21]).collect(),
@@ -28,6 +30,8 @@ impl Call {
             Call::Section => (14, &[21, 22]),
             Call::Press => (20, &[]),
             Call::NextOpen => (18, &[]),
+            Call::Preview => (20, &[]),
+            Call::Commit => (20, &[23]),
         };
         (0..=last).chain(more.iter().copied()).collect()
     }
@@ -40,6 +44,8 @@ impl Call {
             Call::Section => "section",
             Call::Press => "press",
             Call::NextOpen => "next open",
+            Call::Preview => "preview",
+            Call::Commit => "commit",
             Call::Encode => "encode",
         }
     }

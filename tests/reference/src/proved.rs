@@ -2,6 +2,7 @@
 
 use crate::card::MAX_PARAMETERS;
 use crate::open::Given;
+use crate::preview::{Changes, ChangesBytes};
 use crate::strips::Press;
 
 /// Where a press that is found is written: its schema, its objects, and then 0.
@@ -24,6 +25,18 @@ pub trait Calls {
     /// The next open press after the given one, or the first if none is given: the number of its objects, or 0 at the end.
     /// `found` is written only where a press is found.
     fn next_open(&self, card: &[u8], state: &[u8], count: usize, given: Given, found: &mut Found) -> Result<usize, u8>;
+    /// What a press would do: the count that it would answer. `changes` is written only where it would be accepted.
+    fn preview(
+        &self,
+        card: &[u8],
+        state: &[u8],
+        count: usize,
+        schema: usize,
+        objects: &[u8],
+        changes: &mut ChangesBytes,
+    ) -> Result<usize, u8>;
+    /// The press that was asked about, if it would still change the same: the new count.
+    fn commit(&self, card: &[u8], state: &mut [u8], count: usize, changes: &ChangesBytes) -> Result<usize, u8>;
     /// One section of the listing: its length.
     fn section(&self, card: &[u8], number: usize, out: &mut [u8]) -> Result<usize, u8>;
     /// The card read and written again: its length.
@@ -70,6 +83,24 @@ impl Calls for Reference {
         Ok(objects.len())
     }
 
+    fn preview(
+        &self,
+        card: &[u8],
+        state: &[u8],
+        count: usize,
+        schema: usize,
+        objects: &[u8],
+        changes: &mut ChangesBytes,
+    ) -> Result<usize, u8> {
+        let (count, asked) = crate::preview(card, state, count, schema, objects)?;
+        *changes = asked.to_bytes();
+        Ok(count)
+    }
+
+    fn commit(&self, card: &[u8], state: &mut [u8], count: usize, changes: &ChangesBytes) -> Result<usize, u8> {
+        crate::commit(card, state, count, &Changes::from_bytes(changes))
+    }
+
     fn section(&self, card: &[u8], number: usize, out: &mut [u8]) -> Result<usize, u8> {
         crate::section(card, number, out)
     }
@@ -110,12 +141,31 @@ mod foreign {
             objects_len: usize,
             found: *mut u8,
         ) -> i32;
+        pub fn stakestalk_preview(
+            card: *const u8,
+            card_len: usize,
+            state: *const u8,
+            state_len: usize,
+            count: usize,
+            schema: usize,
+            objects: *const u8,
+            objects_len: usize,
+            changes: *mut u8,
+        ) -> i32;
+        pub fn stakestalk_commit(
+            card: *const u8,
+            card_len: usize,
+            state: *mut u8,
+            state_len: usize,
+            count: usize,
+            changes: *const u8,
+        ) -> i32;
         pub fn stakestalk_section(card: *const u8, card_len: usize, number: usize, out: *mut u8, out_len: usize) -> i32;
         pub fn stakestalk_rewrite(card: *const u8, card_len: usize, out: *mut u8, out_len: usize) -> i32;
     }
 }
 
-/// A refusal comes as minus its number. No refusal is above 22, so anything else below 0 is kept apart as 255.
+/// A refusal comes as minus its number. No refusal is above 23, so anything else below 0 is kept apart as 255.
 #[cfg(feature = "proved")]
 fn answer(number: i32) -> Result<usize, u8> {
     match usize::try_from(number) {
@@ -156,6 +206,27 @@ impl Calls for Proved {
         answer(unsafe {
             foreign::stakestalk_next_open(card, card_len, state, state_len, count, says, schema, objects, objects_len, found.as_mut_ptr())
         })
+    }
+
+    fn preview(
+        &self,
+        card: &[u8],
+        state: &[u8],
+        count: usize,
+        schema: usize,
+        objects: &[u8],
+        changes: &mut ChangesBytes,
+    ) -> Result<usize, u8> {
+        let (card, card_len, state, state_len) = (card.as_ptr(), card.len(), state.as_ptr(), state.len());
+        let (objects, objects_len) = (objects.as_ptr(), objects.len());
+        answer(unsafe {
+            foreign::stakestalk_preview(card, card_len, state, state_len, count, schema, objects, objects_len, changes.as_mut_ptr())
+        })
+    }
+
+    fn commit(&self, card: &[u8], state: &mut [u8], count: usize, changes: &ChangesBytes) -> Result<usize, u8> {
+        let (state, state_len) = (state.as_mut_ptr(), state.len());
+        answer(unsafe { foreign::stakestalk_commit(card.as_ptr(), card.len(), state, state_len, count, changes.as_ptr()) })
     }
 
     fn section(&self, card: &[u8], number: usize, out: &mut [u8]) -> Result<usize, u8> {

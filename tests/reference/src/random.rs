@@ -1,9 +1,13 @@
-//! Seeded random cards, tables, states and presses, sound and damaged.
+//! Seeded random cards, tables, states and presses, and what was asked, sound and damaged.
+
+mod changes;
+
+pub use changes::{Damaged, DAMAGED_LISTS, DAMAGED_PRESS, UNUSED};
 
 use crate::card::*;
 use crate::crowded::{conditions, Condition};
 use crate::met::Case;
-use crate::strips::{ground, Press, FACT_LEN, FILLER, MAX_STATE_FACTS, STATE_LEN};
+use crate::strips::{ground, Fact, Press, FACT_LEN, FILLER, MAX_STATE_FACTS, STATE_LEN};
 
 /// SplitMix64.
 pub struct Random {
@@ -108,11 +112,41 @@ impl Random {
             task.schema_places[place] = Schema::default();
         }
         task.schema_count = task.schema_count.min(2);
-        let facts = self.facts(&task, MAX_FACTS);
+        self.replace_facts(&mut task, MAX_FACTS);
+        task
+    }
+
+    /// A task with one schema, whose deletes and whose adds are as many as a list holds.
+    pub fn full_lists_task(&mut self) -> Task {
+        loop {
+            let mut task = self.task();
+            let parameters = MAX_PARAMETERS as u8;
+            let mut atoms: Vec<Atom> = (0..8 * MAX_ATOMS).map(|_| self.atom(&task, parameters)).collect();
+            sort(&mut atoms);
+            if task.object_count <= parameters || atoms.len() < 2 * MAX_ATOMS {
+                continue;
+            }
+            let mut lists = [Vec::new(), Vec::new()];
+            for list in &mut lists {
+                *list = (0..MAX_ATOMS).map(|_| atoms.remove(self.below(atoms.len()))).collect();
+                sort(list);
+            }
+            let [deletes, adds] = lists.map(|atoms| list(&atoms));
+            task.schema_places = [Schema::default(); MAX_SCHEMAS];
+            task.schema_places[0] = Schema { parameters, preconditions: deletes, deletes, adds };
+            task.schema_count = 1;
+            let wanted = self.within(MAX_ATOMS, 4 * MAX_ATOMS);
+            self.replace_facts(&mut task, wanted);
+            return task;
+        }
+    }
+
+    /// Other facts in the place of the task's, up to `count`.
+    fn replace_facts(&mut self, task: &mut Task, count: usize) {
+        let facts = self.facts(task, count);
         task.fact_places = [Atom::default(); MAX_FACTS];
         task.fact_count = facts.len() as u16;
         task.fact_places[..facts.len()].copy_from_slice(&facts);
-        task
     }
 
     fn task_of(&mut self, roomy: bool) -> Task {
@@ -146,9 +180,7 @@ impl Random {
             2..=5 => self.within(1, 60),
             _ => self.within(1, 10),
         };
-        let facts = self.facts(&task, facts);
-        task.fact_count = facts.len() as u16;
-        task.fact_places[..facts.len()].copy_from_slice(&facts);
+        self.replace_facts(&mut task, facts);
         task
     }
 
@@ -721,6 +753,12 @@ impl Random {
             }
         }
         objects.into_iter().flatten().collect()
+    }
+
+    /// A fact of the card, in the state's form.
+    pub fn fact(&mut self, task: &Task) -> Fact {
+        let fact = self.atom(task, task.object_count);
+        ground(task, &fact, |object| object)
     }
 
     /// A well-formed state of at most `count` facts, and its count.

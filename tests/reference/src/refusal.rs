@@ -1,4 +1,4 @@
-//! Document 01's refusals by number.
+//! The refusals by number: document 01's, and 23 of document 02, request 4.
 
 pub const CARD_ENDS: u8 = 1;
 pub const PREDICATES: u8 = 2;
@@ -22,3 +22,4 @@ pub const PRECONDITION: u8 = 19;
 pub const FULL: u8 = 20;
 pub const OUTPUT: u8 = 21;
 pub const SECTION: u8 = 22;
+pub const CHANGES_DIFFER: u8 = 23;

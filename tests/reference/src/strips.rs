@@ -3,8 +3,9 @@
 use crate::card::{decode, Atom, Schema, Task};
 use crate::refusal::*;
 
-/// A fact of a state: predicate, objects, filler.
+/// The length of a fact of a state: predicate, objects, filler.
 pub const FACT_LEN: usize = 4;
+pub type Fact = [u8; FACT_LEN];
 pub const FILLER: u8 = 0xFF;
 pub const MAX_STATE_FACTS: usize = 1_024;
 pub const STATE_LEN: usize = MAX_STATE_FACTS * FACT_LEN;
@@ -42,8 +43,12 @@ pub fn press(card: &[u8], state: &mut [u8], count: usize, schema: usize, objects
     let facts = facts_of(&task, state, count)?;
     let schema = named_schema(&task, schema, objects)?;
     may_press(&task, facts, schema, objects)?;
+    Ok(apply(&task, state, count, schema, objects))
+}
 
-    let bind = |atom: &Atom| ground(&task, atom, |parameter| objects[parameter as usize]);
+/// Takes the deletes out of a state that allows the press and puts the adds in; answers the new count. Past the last fact it leaves 0.
+pub fn apply(task: &Task, state: &mut [u8], count: usize, schema: &Schema, objects: &[u8]) -> usize {
+    let bind = |atom: &Atom| ground(task, atom, |parameter| objects[parameter as usize]);
     let state = &mut state[..STATE_LEN];
     let mut end = count * FACT_LEN;
     for atom in schema.deletes.as_slice() {
@@ -61,7 +66,12 @@ pub fn press(card: &[u8], state: &mut [u8], count: usize, schema: usize, objects
         }
     }
     state[end..].fill(0);
-    Ok(end / FACT_LEN)
+    end / FACT_LEN
+}
+
+/// A run of bytes as facts.
+pub fn facts_in(bytes: &[u8]) -> &[Fact] {
+    bytes.as_chunks().0
 }
 
 /// The facts of a state in its buffer. Refuses by 15.
@@ -110,7 +120,7 @@ pub fn holds(task: &Task, facts: &[u8], atom: &Atom, objects: &[u8]) -> bool {
 }
 
 /// The fact that an atom becomes when its arguments are looked up.
-pub fn ground(task: &Task, atom: &Atom, object: impl Fn(u8) -> u8) -> [u8; FACT_LEN] {
+pub fn ground(task: &Task, atom: &Atom, object: impl Fn(u8) -> u8) -> Fact {
     let mut fact = [FILLER; FACT_LEN];
     fact[0] = atom.predicate;
     for (place, &argument) in fact[1..].iter_mut().zip(task.arguments(atom)) {
@@ -120,7 +130,7 @@ pub fn ground(task: &Task, atom: &Atom, object: impl Fn(u8) -> u8) -> [u8; FACT_
 }
 
 /// The byte at which the fact stands among ascending facts, or else the byte at which it would have to.
-fn find(facts: &[u8], fact: &[u8; FACT_LEN]) -> Result<usize, usize> {
+fn find(facts: &[u8], fact: &Fact) -> Result<usize, usize> {
     let (mut low, mut high) = (0, facts.len() / FACT_LEN);
     while low < high {
         let middle = (low + high) / 2;

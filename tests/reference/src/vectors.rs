@@ -1,6 +1,7 @@
 //! The outside vectors of tests/vectors, and document 01's bench card.
 
-use crate::strips::Press;
+use crate::preview::Changes;
+use crate::strips::{facts_in, Fact, Press};
 use std::fs;
 use std::path::PathBuf;
 
@@ -37,6 +38,13 @@ pub struct OpenPresses {
     pub facts: Vec<u8>,
     pub open: Vec<Press>,
     pub after: Vec<Answered<Option<Press>>>,
+}
+
+/// The facts of a state, and what some presses would change in it.
+pub struct Asks {
+    pub card: Vec<u8>,
+    pub facts: Vec<u8>,
+    pub asks: Vec<Answered<Changes>>,
 }
 
 /// The repository's directory of tests.
@@ -113,6 +121,28 @@ fn open_presses_of(lines: &[&str]) -> OpenPresses {
         }
     }
     OpenPresses { card: from_hex(lines[0]), facts, open, after }
+}
+
+/// The 150 states of asks.txt.
+pub fn asks() -> Vec<Asks> {
+    let text = read("vectors/asks.txt");
+    blocks(&text).into_iter().map(|lines| asks_of(&lines)).collect()
+}
+
+fn asks_of(lines: &[&str]) -> Asks {
+    let facts = from_hex(lines[1].strip_prefix("state").expect("a state comes after its card"));
+    let ask = |line: &&str| {
+        let words = line.strip_prefix("ask").expect("asks come after the state");
+        let Answered { press, answer } = answered(words, going_and_coming);
+        Answered { answer: answer.map(|[going, coming]| Changes { press: press.clone(), going, coming }), press }
+    };
+    Asks { card: from_hex(lines[0]), facts, asks: lines[2..].iter().map(ask).collect() }
+}
+
+/// The facts that go and those that come.
+fn going_and_coming(words: &str) -> [Vec<Fact>; 2] {
+    let (going, coming) = words.strip_prefix("going").and_then(|lists| lists.split_once("coming")).expect("an ask has two lists");
+    [going, coming].map(|list| facts_in(&from_hex(list)).to_vec())
 }
 
 /// A press, an arrow and its answer, which is a refusal or something else.

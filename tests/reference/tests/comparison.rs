@@ -1,9 +1,12 @@
 //! The comparison passes two equal implementations and finds a fault in each part of a faulty one.
 
-use reference::comparison::{missing_of_cards, missing_of_histories, missing_of_open, Comparison};
+use reference::comparison::{missing_of_cards, missing_of_histories, missing_of_open, missing_of_previews, Comparison};
 use reference::met::{Call, Met, NESTINGS, TALLIES};
 use reference::open::Given;
+use reference::preview::{Changes, ChangesBytes, CHANGES_LEN, COMING_AT, GOING_AT};
 use reference::proved::{Calls, Found, Reference};
+use reference::strips::{FACT_LEN, STATE_LEN};
+use std::hint::black_box;
 use std::mem::swap;
 
 /// The reference with one fault put in.
@@ -30,9 +33,23 @@ enum Fault {
     ChecksTheGivenBeforeTheState,
     WritesAtTheEnd,
     LeavesPlacesPastTheObjects,
+    AsksInAFullState,
+    AskingAnswersTheCountBefore,
+    AskingClearsTheTail,
+    AskingWritesBesideARefusal,
+    AskingLeavesUnusedPlaces,
+    CommitsWhateverIsListed,
+    ComparesWhatGoesAlone,
+    ComparesUnusedPlaces,
+    ComparesBeforeItIsFull,
+    RefusesUnknownRowsBy15,
+    TakesOver8RowsForNone,
+    RefusesOver6ObjectsFirst,
+    CommitWritesBeforeItCompares,
+    CommitLeavesTheTail,
 }
 
-const FAULTS: [Fault; 21] = [
+const FAULTS: [Fault; 35] = [
     Fault::AcceptsTrailingBytes,
     Fault::RewritesOneByte,
     Fault::WritesPastTheCard,
@@ -54,6 +71,20 @@ const FAULTS: [Fault; 21] = [
     Fault::ChecksTheGivenBeforeTheState,
     Fault::WritesAtTheEnd,
     Fault::LeavesPlacesPastTheObjects,
+    Fault::AsksInAFullState,
+    Fault::AskingAnswersTheCountBefore,
+    Fault::AskingClearsTheTail,
+    Fault::AskingWritesBesideARefusal,
+    Fault::AskingLeavesUnusedPlaces,
+    Fault::CommitsWhateverIsListed,
+    Fault::ComparesWhatGoesAlone,
+    Fault::ComparesUnusedPlaces,
+    Fault::ComparesBeforeItIsFull,
+    Fault::RefusesUnknownRowsBy15,
+    Fault::TakesOver8RowsForNone,
+    Fault::RefusesOver6ObjectsFirst,
+    Fault::CommitWritesBeforeItCompares,
+    Fault::CommitLeavesTheTail,
 ];
 
 /// Writes the `E` lines of a section anew, with their pairs changed; they are its last lines.
@@ -67,6 +98,12 @@ fn change_nestings(out: &mut [u8], text: &str, change: fn(&mut Vec<(usize, usize
     change(&mut pairs);
     let changed: String = pairs.iter().map(|(inner, outer)| format!("E {inner} {outer}\n")).collect();
     out[at..text.len()].copy_from_slice(changed.as_bytes());
+}
+
+/// Clears bytes that were lent to be read, as code on the other side of the C interface could.
+fn clear(bytes: &[u8]) {
+    let start = black_box(bytes.as_ptr()).cast_mut();
+    unsafe { start.write_bytes(0, bytes.len()) };
 }
 
 struct Faulty(Fault);
@@ -126,6 +163,67 @@ impl Calls for Faulty {
         answer
     }
 
+    fn preview(
+        &self,
+        card: &[u8],
+        state: &[u8],
+        count: usize,
+        schema: usize,
+        objects: &[u8],
+        changes: &mut ChangesBytes,
+    ) -> Result<usize, u8> {
+        let before = *changes;
+        let answer = Reference.preview(card, state, count, schema, objects, changes);
+        match (self.0, answer) {
+            (Fault::AsksInAFullState, Err(20)) => {
+                *changes = [0; CHANGES_LEN];
+                return Ok(1_025);
+            }
+            (Fault::AskingAnswersTheCountBefore, Ok(_)) => return Ok(count),
+            (Fault::AskingClearsTheTail, Ok(_)) => clear(&state[count * FACT_LEN..STATE_LEN]),
+            (Fault::AskingWritesBesideARefusal, Err(19)) => *changes = [0; CHANGES_LEN],
+            (Fault::AskingLeavesUnusedPlaces, Ok(_)) => {
+                let used = COMING_AT + 1 + changes[COMING_AT] as usize * FACT_LEN;
+                changes[used..].copy_from_slice(&before[used..]);
+            }
+            _ => {}
+        }
+        answer
+    }
+
+    fn commit(&self, card: &[u8], state: &mut [u8], count: usize, changes: &ChangesBytes) -> Result<usize, u8> {
+        let before = state.to_vec();
+        let handed_in = Changes::from_bytes(changes);
+        let Changes { press, going, coming } = &handed_in;
+        let answer = Reference.commit(card, state, count, changes);
+        let press = |state: &mut [u8]| Reference.press(card, state, count, press.schema, &press.objects);
+        match (self.0, answer) {
+            (Fault::CommitsWhateverIsListed, Err(23)) => return press(state),
+            (Fault::ComparesWhatGoesAlone, Err(23)) => {
+                let (_, now) = reference::preview(card, state, count, handed_in.press.schema, &handed_in.press.objects)?;
+                if now.going == *going {
+                    return press(state);
+                }
+            }
+            (Fault::ComparesUnusedPlaces, Ok(_)) if handed_in.to_bytes() != *changes => {
+                state.copy_from_slice(&before);
+                return Err(23);
+            }
+            (Fault::ComparesBeforeItIsFull, Err(20)) if going.is_empty() && coming.is_empty() => return Err(23),
+            (Fault::RefusesUnknownRowsBy15, Err(23)) if going.iter().chain(coming).any(|fact| fact[0] > 20) => return Err(15),
+            (Fault::TakesOver8RowsForNone, Err(23)) if going.len() > 8 => {
+                let mut none = *changes;
+                none[GOING_AT] = 0;
+                return Reference.commit(card, state, count, &none);
+            }
+            (Fault::RefusesOver6ObjectsFirst, Err(_)) if changes[1] > 6 => return Err(17),
+            (Fault::CommitWritesBeforeItCompares, Err(23)) => drop(press(state)),
+            (Fault::CommitLeavesTheTail, Ok(new)) if new < count => state[new * 4..count * 4].copy_from_slice(&before[new * 4..count * 4]),
+            _ => {}
+        }
+        answer
+    }
+
     fn section(&self, card: &[u8], number: usize, out: &mut [u8]) -> Result<usize, u8> {
         if matches!(self.0, Fault::RefusesShortBufferFirst) && out.len() < 65_536 {
             return Err(21);
@@ -169,7 +267,13 @@ impl Calls for Faulty {
 
 fn finds(calls: &dyn Calls, others: &dyn Calls) -> bool {
     let mut comparison = Comparison::new(calls, others, 7);
-    (0..1_500).any(|_| comparison.random_card().is_err() || comparison.random_history().is_err() || comparison.random_open().is_err())
+    let mut round = || {
+        comparison.random_card()?;
+        comparison.random_history()?;
+        comparison.random_open()?;
+        comparison.random_preview()
+    };
+    (0..1_500).any(|_| round().is_err())
 }
 
 #[test]
@@ -177,17 +281,20 @@ fn equal_implementations_pass_and_every_case_comes_up() {
     let mut cards = Comparison::new(&Reference, &Reference, 7);
     let mut histories = Comparison::new(&Reference, &Reference, 8);
     let mut open = Comparison::new(&Reference, &Reference, 9);
+    let mut previews = Comparison::new(&Reference, &Reference, 10);
     for _ in 0..3_000 {
         cards.random_card().unwrap();
         histories.random_history().unwrap();
+        previews.random_preview().unwrap();
     }
     for _ in 0..1_000 {
         open.random_open().unwrap();
     }
-    println!("{}", open.met);
+    println!("{}\n{}", open.met, previews.met);
     assert_eq!(missing_of_cards(&cards.met), [""; 0]);
     assert_eq!(missing_of_histories(&histories.met), [""; 0]);
     assert_eq!(missing_of_open(&open.met), [""; 0]);
+    assert_eq!(missing_of_previews(&previews.met), [""; 0]);
 }
 
 /// A record with nothing in it misses everything: 15, 16, 16 and 17 answers, 5 kinds of spaces, 9 of lines, 5 of nestings, 2 of
@@ -199,6 +306,12 @@ fn what_never_came_up_is_missing() {
     met.answer(Call::Check, Err(3));
     met.lines("S 0 P : 0 : 1\n");
     assert_eq!(missing_of_cards(&met).len(), 15 + 16 + 16 + 17 + 5 + 9 + 5 + 2 + 6 - 3);
+    // Of previews 21 and 22 answers, 7 parts of 15 and 3 of 17, 9 kinds of lists, 4 of buffers and full states, 4 of something outdated,
+    // and damage: 6 parts of the press, 16 of the lists, the unused places, and 19 and 20 of damaged lists.
+    assert_eq!(missing_of_previews(&met).len(), 21 + 22 + 7 + 3 + 9 + 4 + 4 + 6 + 16 + 1 + 2);
+    met.answer(Call::Commit, Err(23));
+    met.case(("going", "another order"));
+    assert_eq!(missing_of_previews(&met).len(), 21 + 22 + 7 + 3 + 9 + 4 + 4 + 6 + 16 + 1 + 2 - 2);
 }
 
 /// Each kind of nesting is met by the lines of a space that have it, and by no others.
@@ -246,6 +359,15 @@ fn tallies_are_told_apart() {
 #[test]
 fn a_fault_of_both_sides_is_found_on_crowded_cards() {
     for fault in [Fault::WrongBag, Fault::IsWideAt64] {
+        assert!(finds(&Faulty(fault), &Faulty(fault)), "{fault:?}");
+    }
+}
+
+/// Asking and committing are held to the press calls of both sides, so that one fault of both is found as well.
+#[test]
+fn a_fault_of_both_sides_is_found_by_their_presses() {
+    for fault in [Fault::AsksInAFullState, Fault::AskingAnswersTheCountBefore, Fault::CommitsWhateverIsListed, Fault::ComparesWhatGoesAlone]
+    {
         assert!(finds(&Faulty(fault), &Faulty(fault)), "{fault:?}");
     }
 }

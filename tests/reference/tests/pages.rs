@@ -145,12 +145,17 @@ fn the_header_has_every_number() {
     let header = page("include/stakestalk.h");
     let refusals = header.lines().filter_map(|line| line.trim().strip_prefix("STAKESTALK_REFUSED_"));
     let numbers: Vec<usize> = refusals.map(|line| line.split(['=', ',', '/']).nth(1).unwrap().trim().parse().unwrap()).collect();
-    assert_eq!(numbers, (1..=22).collect::<Vec<_>>());
+    assert_eq!(numbers, (1..=23).collect::<Vec<_>>());
     for (name, value) in [
         ("STATE_BYTES", reference::strips::STATE_LEN),
         ("OUTPUT_BYTES", reference::card::OUTPUT_LEN),
         ("FACT_BYTES", reference::strips::FACT_LEN),
         ("FOUND_BYTES", reference::proved::Found::default().len()),
+        ("CHANGES_BYTES", reference::preview::CHANGES_LEN),
+        ("CHANGES_SCHEMA", 0),
+        ("CHANGES_OBJECTS", reference::preview::OBJECTS_AT - 1),
+        ("CHANGES_GOING", reference::preview::GOING_AT),
+        ("CHANGES_COMING", reference::preview::COMING_AT),
     ] {
         assert!(header.contains(&format!("#define STAKESTALK_{name} {value} ")), "{name}");
     }

@@ -2,12 +2,13 @@
 
 use reference::card::OUTPUT_LEN;
 use reference::histories::Histories;
+use reference::preview::Changes;
 use reference::proved::Reference;
-use reference::random::{trimmed, write_unchecked, Random};
+use reference::random::{trimmed, write_unchecked, Damaged, Random, UNUSED};
 use reference::strips::{FACT_LEN, MAX_STATE_FACTS, STATE_LEN};
 use reference::truth::Listing;
 use reference::vectors::to_hex;
-use reference::{decode, encode, initial, listing, press, section};
+use reference::{commit, decode, encode, initial, listing, press, preview, section};
 
 const SEED: u64 = 20_260_101;
 
@@ -153,5 +154,32 @@ fn short_and_long_buffers() {
         let refusal = random.within(1, 14) as u8;
         assert_eq!(section(&random.refused_card(refusal), usize::MAX, &mut []), Err(refusal));
         assert_eq!(initial(&random.refused_card(refusal), &mut []), Err(refusal));
+    }
+}
+
+/// What was asked, damaged in a list, is refused by 23; with another number of objects, by 17; in unused places it is as before.
+#[test]
+fn damaged_parts_are_refused_by_their_numbers() {
+    let mut random = Random::new(SEED);
+    let mut commits = 0;
+    while commits < 3_000 {
+        let task = random.task();
+        let card = write_unchecked(&task);
+        let mut state = vec![0; STATE_LEN];
+        let count = initial(&card, &mut state).unwrap();
+        let call = random.press(&task, &state[..count * FACT_LEN]);
+        let Ok((_, changes)) = preview(&card, &state, count, call.schema, &call.objects) else { continue };
+        for _ in 0..10 {
+            let Damaged { changes: damaged, part } = random.damaged(&task, &state[..count * FACT_LEN], &changes.to_bytes());
+            let answer = commit(&card, &mut state.clone(), count, &Changes::from_bytes(&damaged));
+            let what = format!("{part:?}: {}, {}, {}", to_hex(&card), to_hex(&changes.to_bytes()), to_hex(&damaged));
+            match part {
+                UNUSED => assert_eq!(Changes::from_bytes(&damaged), changes, "{what}"),
+                ("carried press", "fewer objects" | "more objects" | "over 6 objects") => assert_eq!(answer, Err(17), "{what}"),
+                ("carried press", _) => {}
+                _ => assert_eq!(answer, Err(23), "{what}"),
+            }
+            commits += 1;
+        }
     }
 }

@@ -2,8 +2,9 @@
 
 use reference::histories::Histories;
 use reference::open::Given;
+use reference::preview::{Changes, ChangesBytes};
 use reference::proved::{Calls, Found, Reference};
-use reference::strips::{FACT_LEN, STATE_LEN};
+use reference::strips::{facts_in, FACT_LEN, STATE_LEN};
 use reference::truth::{check, check_nestings, Listing};
 use reference::vectors::{from_hex, K1};
 use reference::{decode, initial, listing, press};
@@ -101,10 +102,12 @@ fn lines_out_of_their_order_are_found() {
     }
 }
 
-/// The reference, with one kind of line changed wherever it is listed.
+/// The reference, with one kind of line changed wherever it is listed, or with commits that put back what they took out.
+#[derive(Default)]
 struct Changed {
     letter: &'static str,
-    change: fn(&str) -> String,
+    change: Option<fn(&str) -> String>,
+    puts_back: bool,
 }
 
 impl Calls for Changed {
@@ -124,10 +127,35 @@ impl Calls for Changed {
         Reference.next_open(card, state, count, given, found)
     }
 
+    fn preview(
+        &self,
+        card: &[u8],
+        state: &[u8],
+        count: usize,
+        schema: usize,
+        objects: &[u8],
+        changes: &mut ChangesBytes,
+    ) -> Result<usize, u8> {
+        Reference.preview(card, state, count, schema, objects, changes)
+    }
+
+    fn commit(&self, card: &[u8], state: &mut [u8], count: usize, changes: &ChangesBytes) -> Result<usize, u8> {
+        let count = Reference.commit(card, state, count, changes)?;
+        if !self.puts_back {
+            return Ok(count);
+        }
+        let mut facts = facts_in(&state[..count * FACT_LEN]).to_vec();
+        facts.extend(Changes::from_bytes(changes).going);
+        facts.sort();
+        state[..facts.len() * FACT_LEN].copy_from_slice(facts.as_flattened());
+        Ok(facts.len())
+    }
+
     fn section(&self, card: &[u8], number: usize, out: &mut [u8]) -> Result<usize, u8> {
         let length = Reference.section(card, number, out)?;
+        let Some(change) = self.change else { return Ok(length) };
         let text = String::from_utf8_lossy(&out[..length]);
-        let line = |line: &str| if line.starts_with(self.letter) { (self.change)(line) } else { format!("{line}\n") };
+        let line = |line: &str| if line.starts_with(self.letter) { change(line) } else { format!("{line}\n") };
         let changed: String = text.lines().map(line).collect();
         out[..changed.len()].copy_from_slice(changed.as_bytes());
         Ok(changed.len())
@@ -171,8 +199,16 @@ fn false_lines_are_found_in_histories() {
         ("R", without_last),
     ];
     for (letter, change) in changed {
-        let changed = Changed { letter, change };
+        let changed = Changed { letter, change: Some(change), puts_back: false };
         let mut histories = Histories::new(&changed, 7);
         assert!((0..300).any(|_| histories.random_history().is_err()), "{letter}");
     }
+}
+
+/// What a commit leaves is checked too.
+#[test]
+fn commits_that_put_back_what_goes_are_found() {
+    let putting_back = Changed { puts_back: true, ..Changed::default() };
+    let mut histories = Histories::new(&putting_back, 7);
+    assert!((0..300).any(|_| histories.random_history().is_err()));
 }

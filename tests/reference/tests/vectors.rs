@@ -1,9 +1,9 @@
 //! The outside vectors: every one of them agrees byte for byte.
 
 use reference::card::OUTPUT_LEN;
-use reference::strips::{FACT_LEN, STATE_LEN};
-use reference::vectors::{extremes, histories, listings, open_presses, Listing};
-use reference::{decode, encode, initial, listing, next_open, press, section};
+use reference::strips::{facts_in, Fact, FACT_LEN, STATE_LEN};
+use reference::vectors::{asks, extremes, histories, listings, open_presses, Listing};
+use reference::{commit, decode, encode, initial, listing, next_open, press, preview, section};
 
 #[test]
 fn listings_agree() {
@@ -102,6 +102,35 @@ fn open_presses_agree() {
                 "state {number}, after {:?}",
                 call.press
             );
+        }
+    }
+}
+
+/// Each ask, and then its commit: the state without what goes and with what comes.
+#[test]
+fn asks_agree() {
+    let stored = asks();
+    assert_eq!(stored.len(), 150);
+    for (number, vector) in stored.iter().enumerate() {
+        let facts = facts_in(&vector.facts);
+        let mut state = vector.facts.clone();
+        state.resize(STATE_LEN + 5, 0xAA);
+        for ask in &vector.asks {
+            let what = format!("state {number}, {:?}", ask.press);
+            let (schema, objects) = ask.press.parts();
+            let asked = preview(&vector.card, &state, facts.len(), schema, objects);
+            assert_eq!(asked.as_ref().map(|(_, changes)| changes), ask.answer.as_ref(), "{what}");
+            let Ok((count, changes)) = asked else { continue };
+
+            let mut after: Vec<Fact> = facts.iter().filter(|fact| !changes.going.contains(fact)).copied().collect();
+            after.extend(&changes.coming);
+            after.sort();
+            let mut wanted = after.concat();
+            wanted.resize(STATE_LEN, 0);
+            wanted.resize(STATE_LEN + 5, 0xAA);
+            let mut committed = state.clone();
+            assert_eq!(commit(&vector.card, &mut committed, facts.len(), &changes), Ok(after.len()), "{what}");
+            assert_eq!((count, committed), (after.len(), wanted), "{what}");
         }
     }
 }

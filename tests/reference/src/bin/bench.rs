@@ -1,16 +1,17 @@
 //! What the proved library and the reference cost, side by side: medians of repeated runs, and instructions where valgrind is
-//! installed. Closes with the means of each kind of call and whether they meet their targets, and with states in which the next open press
-//! is hard to find.
+//! installed. Closes with the means of each kind of call and whether they meet their targets, with what asking and committing take beside a
+//! press, and with states in which the next open press is hard to find.
 //!
 //!     bench [SECONDS]             the least time that each median is taken over, 0.3 if not given; at least five runs
 //!     bench --work ROW SIDE N     does the work of one row N times on one side, for the instructions to be counted
 
 use reference::examples;
 use reference::hard::{hard_states, Hard};
+use reference::preview::{ChangesBytes, CHANGES_LEN};
 use reference::proved::{Calls, Found, Proved, Reference};
 use reference::random::Random;
-use reference::strips::{FACT_LEN, STATE_LEN};
-use reference::vectors::{extremes, histories, listings, open_presses, Answered, OpenPresses, K1};
+use reference::strips::{Press, FACT_LEN, STATE_LEN};
+use reference::vectors::{asks, extremes, histories, listings, open_presses, Answered, OpenPresses, K1};
 use std::hint::black_box;
 use std::path::PathBuf;
 use std::process::{Command, Stdio};
@@ -49,6 +50,8 @@ fn work(row: &str, side: &str, times: &str) {
 enum Kind {
     Decode,
     Press,
+    Preview,
+    Commit,
     Open,
     Listing,
     Program,
@@ -73,14 +76,18 @@ fn rows() -> Vec<Row> {
     rows.group("K1");
     rows.row("decode", Kind::Decode, || Some(decode(vec![K1.to_vec()])));
     rows.row("press, four in a ring", Kind::Press, || Some(ring()));
+    rows.row("preview, four in a ring", Kind::Preview, || Some(previews(questions_in_ring())));
+    rows.row("commit, four in a ring", Kind::Commit, || Some(commit_ring()));
     rows.row("open presses, in a ring", Kind::Open, || Some(open_in_ring()));
     rows.row("listing, all sections", Kind::Listing, || Some(listing(vec![K1.to_vec()])));
 
-    rows.group("listings.txt, presses.txt and open.txt");
+    rows.group("listings.txt, presses.txt, asks.txt and open.txt");
     // Those that every version was measured on.
     let cards = || listings().into_iter().take(800).map(|listing| listing.card).collect();
     rows.row("decode, 800 cards", Kind::Decode, move || Some(decode(cards())));
     rows.row("press, 400 histories", Kind::Press, || Some(stored_histories()));
+    rows.row("preview, asks.txt", Kind::Preview, || Some(previews(stored_questions())));
+    rows.row("commit, asks.txt", Kind::Commit, || Some(commits(allowed(stored_questions()))));
     rows.row("open presses, 150 states", Kind::Open, || Some(open_in_stored_states()));
     rows.row("listing, 800 cards", Kind::Listing, move || Some(listing(cards())));
 
@@ -136,12 +143,16 @@ impl Rows {
         self.rows.push(Row { group: self.group.clone(), name: name.to_string(), kind, counts: self.counts, prepare: Box::new(prepare) });
     }
 
-    /// The three rows of one card.
+    /// The rows of one card; where growth is shown, without asking and committing.
     fn card(&mut self, which: &str, card: Vec<u8>) {
-        let [first, second, third] = [card.clone(), card.clone(), card];
+        let [first, second, third, fourth, fifth] = [(); 5].map(|()| card.clone());
         self.row(&format!("{which}decode"), Kind::Decode, move || Some(decode(vec![first.clone()])));
-        self.row(&format!("{which}press"), Kind::Press, move || allowed_press(&second));
-        self.row(&format!("{which}listing"), Kind::Listing, move || Some(listing(vec![third.clone()])));
+        self.row(&format!("{which}press"), Kind::Press, move || allowed_press(&second).map(pressing));
+        if self.counts {
+            self.row(&format!("{which}preview"), Kind::Preview, move || allowed_press(&third).map(|one| previews(vec![one.question])));
+            self.row(&format!("{which}commit"), Kind::Commit, move || allowed_press(&fourth).map(|one| commits(vec![one])));
+        }
+        self.row(&format!("{which}listing"), Kind::Listing, move || Some(listing(vec![fifth.clone()])));
     }
 }
 
@@ -320,22 +331,108 @@ fn stored_histories() -> Work {
     })
 }
 
-/// A press that the opening state allows, if one is found; the state is put back each time.
-fn allowed_press(card: &[u8]) -> Option<Work> {
-    let card = card.to_vec();
-    let task = reference::decode(&card).expect("the card is accepted");
-    let mut opening = vec![0; STATE_LEN];
-    let count = Reference.initial(&card, &mut opening).expect("the card is accepted");
-    let mut state = opening.clone();
+/// A press to ask about in a state.
+#[derive(Clone)]
+struct Question {
+    card: Vec<u8>,
+    state: Vec<u8>,
+    count: usize,
+    press: Press,
+}
+
+/// A press that its state allows, and what is committed of it.
+#[derive(Clone)]
+struct Allowed {
+    question: Question,
+    changes: ChangesBytes,
+}
+
+/// Those of the presses that are accepted.
+fn allowed(questions: Vec<Question>) -> Vec<Allowed> {
+    let asked = |question: Question| {
+        let mut changes = [0; CHANGES_LEN];
+        let Question { card, state, count, press } = &question;
+        Reference.preview(card, state, *count, press.schema, &press.objects, &mut changes).ok()?;
+        Some(Allowed { question, changes })
+    };
+    questions.into_iter().filter_map(asked).collect()
+}
+
+/// The presses of the ring, each in its state.
+fn questions_in_ring() -> Vec<Question> {
+    let mut state = vec![0; STATE_LEN];
+    let mut count = Reference.initial(&K1, &mut state).expect("the card is accepted");
+    let question = |(schema, objects): (usize, &[u8])| {
+        let question = Question { card: K1.to_vec(), state: state.clone(), count, press: Press { schema, objects: objects.to_vec() } };
+        count = Reference.press(&K1, &mut state, count, schema, objects).expect("the press is accepted");
+        question
+    };
+    RING.into_iter().map(question).collect()
+}
+
+/// Every press of asks.txt, in its state.
+fn stored_questions() -> Vec<Question> {
+    let mut questions = Vec::new();
+    for stored in asks() {
+        let (mut state, count) = (stored.facts.clone(), stored.facts.len() / FACT_LEN);
+        state.resize(STATE_LEN, 0);
+        let question = |ask: Answered<_>| Question { card: stored.card.clone(), state: state.clone(), count, press: ask.press };
+        questions.extend(stored.asks.into_iter().map(question));
+    }
+    questions
+}
+
+/// A press that the opening state of a card allows, if one is found.
+fn allowed_press(card: &[u8]) -> Option<Allowed> {
+    let task = reference::decode(card).expect("the card is accepted");
+    let mut state = vec![0; STATE_LEN];
+    let count = Reference.initial(card, &mut state).expect("the card is accepted");
     let mut random = Random::new(1);
-    let press = (0..2_000).map(|_| random.press(&task, &opening[..count * FACT_LEN])).find(|press| {
-        state.copy_from_slice(&opening);
-        Reference.press(&card, &mut state, count, press.schema, &press.objects).is_ok()
-    })?;
-    Some(Box::new(move |Side { calls, .. }| {
-        state.copy_from_slice(&opening);
+    (0..2_000).find_map(|_| {
+        let press = random.press(&task, &state[..count * FACT_LEN]);
+        allowed(vec![Question { card: card.to_vec(), state: state.clone(), count, press }]).pop()
+    })
+}
+
+/// One press; the state is put back each time.
+fn pressing(Allowed { question: Question { card, state: before, count, press }, .. }: Allowed) -> Work {
+    let mut state = before.clone();
+    Box::new(move |Side { calls, .. }| {
+        state.copy_from_slice(&before);
         let _ = black_box(calls.press(black_box(&card), &mut state, count, press.schema, &press.objects));
-    }))
+    })
+}
+
+/// Asks about each press.
+fn previews(questions: Vec<Question>) -> Work {
+    let mut changes = [0; CHANGES_LEN];
+    Box::new(move |Side { calls, .. }| {
+        for Question { card, state, count, press } in &questions {
+            let _ = black_box(calls.preview(black_box(card), state, *count, press.schema, &press.objects, &mut changes));
+        }
+    })
+}
+
+/// Commits each press; the state is put back each time, as it is for a press.
+fn commits(allowed: Vec<Allowed>) -> Work {
+    let mut state = vec![0; STATE_LEN];
+    Box::new(move |Side { calls, .. }| {
+        for Allowed { question: Question { card, state: before, count, .. }, changes } in &allowed {
+            state.copy_from_slice(before);
+            let _ = black_box(calls.commit(black_box(card), &mut state, *count, changes));
+        }
+    })
+}
+
+/// The presses of the ring, committed.
+fn commit_ring() -> Work {
+    let allowed = allowed(questions_in_ring());
+    let Question { mut state, mut count, .. } = allowed[0].question.clone();
+    Box::new(move |Side { calls, .. }| {
+        for Allowed { changes, .. } in &allowed {
+            count = calls.commit(black_box(&K1), &mut state, count, changes).expect("the commit is accepted");
+        }
+    })
 }
 
 // The table.
@@ -377,7 +474,63 @@ fn table(seconds: f64) {
         costs.push((row, Cost { seconds, instructions }));
     }
     means(&costs);
+    beside_presses(least);
     hard();
+}
+
+/// The most that asking and committing may take, by the time of a press.
+const MOST_OF_A_PRESS: f64 = 1.2;
+/// At least so many calls are timed at once, each on a state of its own that was made ready before.
+const AT_ONCE: usize = 32;
+
+/// What asking and committing take beside a press that they are about, by the proved library alone. No time is taken for making states
+/// ready.
+fn beside_presses(least: Duration) {
+    println!(
+        "preview and commit beside the press, a call each, the proved library alone; the aim is at most {MOST_OF_A_PRESS:.2} of a press"
+    );
+    println!("{:<26}{:>13}{:>12}{:>12}{:>16}{:>15}", "", "press", "preview", "commit", "preview/press", "commit/press");
+    let [ring, stored] = [questions_in_ring(), stored_questions()].map(allowed);
+    let extremes = extremes().into_iter().map(|extreme| (extreme.name, allowed_press(&extreme.card).into_iter().collect()));
+    for (name, presses) in [("K1, four in a ring".into(), ring), ("asks.txt".into(), stored)].into_iter().chain(extremes) {
+        if presses.is_empty() {
+            println!("  {name:<24}{:>13}", "none allowed");
+            continue;
+        }
+        let [press, preview, commit] = times_beside(&presses, least);
+        let ratios = [preview / press, commit / press];
+        let verdict = if ratios.iter().all(|&ratio| ratio <= MOST_OF_A_PRESS) { "met" } else { "missed" };
+        let [press, preview, commit] = [press, preview, commit].map(duration);
+        println!("  {name:<24}{press:>13}{preview:>12}{commit:>12}{:>16.2}{:>15.2}  {verdict}", ratios[0], ratios[1]);
+    }
+}
+
+/// The medians of a press, of asking about it and of committing it, timed in turn.
+fn times_beside(presses: &[Allowed], least: Duration) -> [f64; 3] {
+    let all: Vec<&Allowed> = presses.iter().cycle().take(presses.len() * AT_ONCE.div_ceil(presses.len())).collect();
+    let mut states: Vec<Vec<u8>> = vec![vec![0; STATE_LEN]; all.len()];
+    let mut asked = [0; CHANGES_LEN];
+    let mut times = [Vec::new(), Vec::new(), Vec::new()];
+    let started = Instant::now();
+    while times[0].len() < 5 || started.elapsed() < least * 3 {
+        for (kind, times) in times.iter_mut().enumerate() {
+            for (state, Allowed { question, .. }) in states.iter_mut().zip(&all) {
+                state.copy_from_slice(&question.state);
+            }
+            let mut calls = || {
+                for (state, Allowed { question: Question { card, count, press, .. }, changes }) in states.iter_mut().zip(&all) {
+                    let answer = match kind {
+                        0 => Proved.press(black_box(card), state, *count, press.schema, &press.objects),
+                        1 => Proved.preview(black_box(card), state, *count, press.schema, &press.objects, &mut asked),
+                        _ => Proved.commit(black_box(card), state, *count, changes),
+                    };
+                    black_box(answer).expect("the call is accepted");
+                }
+            };
+            times.push(time(1, &mut calls) / all.len() as f64);
+        }
+    }
+    times.map(median)
 }
 
 /// The most seconds that a call may take in a hard state.
@@ -414,9 +567,11 @@ fn ratio(pair: [f64; 2]) -> f64 {
 /// The rows that a mean is taken over.
 type Choice = fn(&Row) -> bool;
 
-const MEANS: [(&str, Choice); 6] = [
+const MEANS: [(&str, Choice); 8] = [
     ("decode", |row| row.counts && row.kind == Kind::Decode),
     ("press", |row| row.counts && row.kind == Kind::Press),
+    ("preview", |row| row.counts && row.kind == Kind::Preview),
+    ("commit", |row| row.counts && row.kind == Kind::Commit),
     ("open presses", |row| row.counts && row.kind == Kind::Open),
     ("listing", |row| row.counts && row.kind == Kind::Listing),
     ("program", |row| row.counts && row.kind == Kind::Program),

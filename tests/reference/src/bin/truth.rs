@@ -1,9 +1,9 @@
-//! Whether what the proved library lists is true: random histories by its calls, every listed line checked against each state by
-//! the reference (truth.rs).
+//! Whether what the proved library lists is true: random histories by its calls, presses, asks and commits mixed, every listed line
+//! checked against each state by the reference (truth.rs).
 //!
 //!     truth [SEED [HISTORIES]]      or TRUTH_SEED, TRUTH_HISTORIES in the environment
 //!
-//! Ends at the first false line with the card, its listing and the presses, and with status 1. A run of 5,000 histories or more
+//! Ends at the first false line with the card, its listing and the calls, and with status 1. A run of 5,000 histories or more
 //! fails too if a kind of space, of line or of answer never came up.
 
 use reference::histories::Histories;

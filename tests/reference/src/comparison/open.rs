@@ -15,7 +15,7 @@ const OPEN_GIVEN: Case = ("given press", "open");
 const REFUSED_GIVEN: Case = ("given press", "refused by 19");
 const CLOSED_GIVEN: Case = ("given press", "refused by 20");
 const END: Case = ("given press", "the last or past it");
-const LONG_READ: Case = ("state", "in a long buffer");
+pub(super) const LONG_READ: Case = ("state", "in a long buffer");
 
 /// What random states have to bring up and did not: every answer of the next open press, every part of 15 and of 17, lists of every
 /// length, presses that 20 alone closes, given presses of every kind.
@@ -119,7 +119,7 @@ impl Comparison<'_> {
         Ok(())
     }
 
-    fn nearly_full(&mut self, task: &Task) -> History {
+    pub(super) fn nearly_full(&mut self, task: &Task) -> History {
         let wanted = self.random.within(MAX_STATE_FACTS - 3, MAX_STATE_FACTS);
         let (mut state, count) = self.random.allowing_state(task, wanted);
         state[count * FACT_LEN..].copy_from_slice(&self.pattern[count * FACT_LEN..STATE_LEN]);
