@@ -26,8 +26,8 @@ extern "C" {
 
 /* The version of this header. CHANGELOG.md says what each version changed; a change of an answer or of the card raises it. */
 #define STAKESTALK_VERSION_MAJOR 0
-#define STAKESTALK_VERSION_MINOR 2
-#define STAKESTALK_VERSION_PATCH 1
+#define STAKESTALK_VERSION_MINOR 3
+#define STAKESTALK_VERSION_PATCH 0
 #define STAKESTALK_VERSION (STAKESTALK_VERSION_MAJOR * 10000 + STAKESTALK_VERSION_MINOR * 100 + STAKESTALK_VERSION_PATCH)
 
 /* Sizes of buffers, in bytes. */

@@ -9,6 +9,9 @@ pub mod Rules
 pub mod Seen
 pub mod Places
 pub mod Tabled
+pub mod HiddenPlaces
 pub mod Tasks
 pub mod Extending
 pub mod Analysing
+pub mod Leaving
+pub mod Rescuing

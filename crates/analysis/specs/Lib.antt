@@ -4,3 +4,4 @@ pub mod Sorting
 pub mod Initial
 pub mod Tasks
 pub mod Analysed
+pub mod Rescued

@@ -12,7 +12,8 @@ use Rattle.laws.proofs.Mapped.{getD-map, flatMap-ext}
 use Rattle.laws.proofs.Fronts.{sum-take-next, sum-take-all}
 use Rattle.model.specs.Card.{Task}
 use Rattle.model.specs.Transitions.{properties}
-use Rattle.model.specs.Lines.{total, analysis, propertyNumber, totalsBy, totals}
+use Rattle.model.specs.Analysis.{analysis}
+use Rattle.model.specs.Lines.{total, propertyNumber, totalsBy, totals}
 use Rattle.model.proofs.RuleCount.{length-properties}
 use Rattle.closing.proofs.Tallying.{entry-next, entry-none}
 use Rattle.closing.specs.Fixed.{firstAndOne, fixedOf, fixedTable, firstSome, totalLine, totalFound}

@@ -18,7 +18,8 @@ use Rattle.laws.proofs.Walks.{keep-few}
 use Rattle.model.specs.Card.{Task, Schema}
 use Rattle.model.specs.Transitions.{properties, bagOf}
 use Rattle.model.specs.Spaces.{Space, hasMember, spaces}
-use Rattle.model.specs.Lines.{Line, total, ceiling, analysis, totals, ceilings, ofPredicate, typesOf, typeLines, closingLines}
+use Rattle.model.specs.Analysis.{analysis}
+use Rattle.model.specs.Lines.{Line, total, ceiling, totals, ceilings, ofPredicate, typesOf, typeLines, closingLines}
 use Rattle.model.specs.Text.{decimal, items, spaced, lineText, text}
 use Rattle.model.proofs.Checked.{Checked}
 use Rattle.model.proofs.ListedSpace.{spaces-of-analysis}

@@ -5,7 +5,8 @@ use lib.ListN.{length, getD, take, drop}
 use Rattle.laws.specs.Lists.{sum, upTo, padded}
 use Rattle.model.specs.Card.{Task}
 use Rattle.model.specs.Transitions.{properties}
-use Rattle.model.specs.Lines.{Line, total, Analysis, analysis, totalsBy}
+use Rattle.model.specs.Analysis.{Analysis, analysis}
+use Rattle.model.specs.Lines.{Line, total, totalsBy}
 use Rattle.properties.specs.Tables.{stride}
 
 -- the first number of a list and one, 0 for none

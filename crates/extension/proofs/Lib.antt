@@ -2,6 +2,7 @@ pub mod PlaceLists
 pub mod Signatures
 pub mod Outsides
 pub mod Comparing
+pub mod Hiding
 pub mod Learning
 pub mod Remaining
 pub mod Choosing

@@ -1,11 +1,12 @@
 -- The sections that are written from a task's tables.
 use Prim.Native.Nat.{ℕ, _≤_}
 use native.Mathlib.Omega.{arith}
-use mathlib.Core.Path.{_≡_, sym, _∙_, subst}
+use mathlib.Core.Path.{_≡_, sym, subst}
 use mathlib.Core.List.{List, []}
 use lib.ListN.{length, getD}
 use Rattle.model.specs.Card.{Task}
-use Rattle.model.specs.Lines.{Line, analysis, closingLines, sections}
+use Rattle.model.specs.Analysis.{analysis}
+use Rattle.model.specs.Lines.{Line, sectionLines, closingLines, sections}
 use Rattle.model.specs.Text.{text}
 use Rattle.text.specs.Written.{Writes}
 use Rattle.spaces.specs.declared.Spaces.{Spaces}
@@ -16,8 +17,7 @@ use Rattle.properties.specs.Parameters.{parametersIn, RoomForBags}
 use Rattle.prepared.specs.declared.Prepared.{Prepared}
 use Rattle.prepared.specs.Prepared.{PreparedOf, Given}
 use Rattle.prepared.specs.declared.Found.{Found}
-use Rattle.prepared.specs.Found.{FoundOf, foundLines}
-use Rattle.prepared.proofs.Finding.{lines-found}
+use Rattle.prepared.specs.Found.{analysisAt, FoundOf}
 use Rattle.prepared.proofs.Lending.{given-filled}
 use Rattle.prepared.proofs.SectionsOf.{section-of-space, section-closing}
 
@@ -33,10 +33,10 @@ tables-given pre filled kept =
 
 -- the section of a space
 pub space-listed : {t : Task} {number : ℕ} {p : Prepared} {f : Found} {conditions : List ℕ} → FoundOf t number p f conditions
-    → {before after : List ℕ} {n : ℕ} → Writes (text (foundLines number p f conditions)) before after n
+    → {before after : List ℕ} {n : ℕ} → Writes (text (sectionLines t number (analysisAt t number))) before after n
     → Writes (text (getD (sections t) number [])) before after n
 space-listed {t} {number} h {before} {after} {n} w =
-    subst (λ (l : List Line). Writes (text l) before after n) (lines-found h ∙ sym (section-of-space t number (h .known))) w
+    subst (λ (l : List Line). Writes (text l) before after n) (sym (section-of-space t number (h .known))) w
 
 -- the closing section
 pub closing-listed : (t : Task) {s : Spaces} {number : ℕ} → SpacesOf t s → number ≤ s .count → s .count ≤ number

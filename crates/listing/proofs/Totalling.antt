@@ -5,14 +5,14 @@ use mathlib.Core.Path.{_≡_, ap, _∙_}
 use mathlib.Core.List.{List}
 use lib.ListN.{length, take, replicate}
 use Rattle.model.specs.Card.{Task}
-use Rattle.model.specs.Lines.{analysis}
+use Rattle.model.specs.Analysis.{analysis}
 use Rattle.closing.specs.Fixed.{fixedTable}
 use Rattle.totals.specs.Totals.{totalsOf}
 use Rattle.prepared.specs.declared.Prepared.{Prepared}
 use Rattle.prepared.specs.declared.Found.{Found}
 use Rattle.prepared.specs.Prepared.{Given}
-use Rattle.prepared.specs.Found.{SpaceReady, SpaceFound, FoundOf, foundTotals}
-use Rattle.prepared.proofs.Analysing.{found-of}
+use Rattle.prepared.specs.Found.{SpaceReady, SpaceFound, foundTotals}
+use Rattle.prepared.proofs.Analysing.{found-in}
 use Rattle.prepared.proofs.Totalling.{totals-none, totals-with, totals-all}
 
 -- The tables lent for the analysis of a space have kept their lengths.
@@ -45,28 +45,14 @@ module _ {p : Prepared} {deletes adds counts : List ℕ} where
     conditions-long = omega (arith, h .conditions-long, kept .conditions-kept);
   }
 
-  module _ {number : ℕ} {starts finishes conditions : List ℕ} (h : SpaceReady number p deletes adds counts starts finishes conditions)
-      {f : Found} {nowStarts nowFinishes nowConditions : List ℕ}
-      (found : SpaceFound number p deletes adds counts f starts finishes conditions nowStarts nowFinishes nowConditions)
-      (kept : length nowConditions ≡ length conditions) where
-    -- what was found is the analysis of a space of whatever task is prepared
-    pub found-for : {t : Task} {preconditions : List ℕ} → Given t p preconditions deletes adds counts → FoundOf t number p f nowConditions
-    found-for {t} {preconditions} given =
-        let here : SpaceReady number p deletes adds counts starts finishes conditions = record {
-          task = t;
-          preconditions = preconditions;
-          given = given;
-          known = h .known;
-          starts-long = h .starts-long;
-          finishes-long = h .finishes-long;
-          conditions-long = h .conditions-long;
-        } in
-        found-of here found kept
-
-    pub entered-next : (fixed : List ℕ) {after : List ℕ} → after ≡ foundTotals number p f nowConditions fixed
-        → Entered p deletes adds counts number fixed → Entered p deletes adds counts (number + 1) after
-    entered-next fixed is entered t preconditions given =
-        is ∙ ap (foundTotals number p f nowConditions) (entered t preconditions given) ∙ totals-with (found-for given)
+  -- one space more
+  pub entered-next : {number : ℕ} {starts finishes conditions : List ℕ} → SpaceReady number p deletes adds counts starts finishes conditions
+      → {f : Found} {nowStarts nowFinishes nowConditions : List ℕ}
+      → SpaceFound number p deletes adds counts f starts finishes conditions nowStarts nowFinishes nowConditions
+      → length nowConditions ≡ length conditions → (fixed : List ℕ) {after : List ℕ} → after ≡ foundTotals number p f nowConditions fixed
+      → Entered p deletes adds counts number fixed → Entered p deletes adds counts (number + 1) after
+  entered-next {number} h {f} {nowConditions = nowConditions} found kept fixed is entered t preconditions given =
+      is ∙ ap (foundTotals number p f nowConditions) (entered t preconditions given) ∙ totals-with (found-in h found kept given .of)
 
 -- after the last space they are the task's
 pub entered-all : {p : Prepared} {deletes adds counts : List ℕ} {number : ℕ} {fixed : List ℕ} → p .spaces .count ≤ number

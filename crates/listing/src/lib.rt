@@ -108,7 +108,18 @@ fn list_with(
             finishes,
             conditions,
         );
-        let length = write_space_section(out, number, prepared, found, conditions);
+        let length = write_space_section(
+            out,
+            number,
+            prepared,
+            found,
+            deletes,
+            adds,
+            counts,
+            starts,
+            finishes,
+            conditions,
+        );
         return Listed::Length(length);
     }
     let fixed = fixed_totals(

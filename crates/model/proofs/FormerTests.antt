@@ -9,7 +9,7 @@ use Rattle.laws.specs.Lists.{any, keep, same, upTo}
 use Rattle.laws.specs.Bags.{Bag, contains, strictlyContains, listed}
 use Rattle.laws.proofs.Mapped.{any-ext, keep-ext}
 use Rattle.laws.proofs.Comparisons.{strictly-differs, covers-contains}
-use Rattle.model.specs.Extension.{Search, mixed, wide, mostConditions, ending, appending, test}
+use Rattle.model.specs.Extension.{Search, mixed, wide, mostConditions, hiddenBy, ending, appending, test}
 use Rattle.model.specs.Lines.{minimal, excluded}
 
 -- ---- the former texts
@@ -25,7 +25,7 @@ formerTest s b =
     s
     (cond
     (any (containsOther b) (s .own))
-    (ending s mixed)
+    (ending s (mixed (hiddenBy (s .own) b)))
     (cond (not (listed (s .known) b) && leb mostConditions (s .tally)) (ending s wide) (appending s b)))
 
 unfoldable pub formerMinimal : List Bag → List ℕ

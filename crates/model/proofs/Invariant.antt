@@ -10,32 +10,35 @@ use lib.Dec.{leb, ltb, eqb}
 use lib.ListN.{length, getD, length-map}
 use borrow.Author.Tests.{leb-true, ltb-true, ltb-false}
 use Rattle.laws.specs.Lists.{all, any, count, upTo, member, standsAt}
-use Rattle.laws.specs.Bags.{Bag, plus, less, meet, contains, isEmpty, single, support, restrict}
+use Rattle.laws.specs.Bags.{Bag, plus, less, meet, contains, isEmpty, support, restrict}
 use Rattle.laws.proofs.Tests.{never, by-test}
 use Rattle.laws.proofs.Lists.{all-at, any-at, any-none, count-none, member-at, member-intro, mem-getD, place-of, length-upTo}
 use Rattle.laws.proofs.Sums.{count-members, standsAt-member}
 use Rattle.laws.proofs.Counting.{count-most}
 use Rattle.laws.proofs.Mapped.{getD-map}
 use Rattle.laws.proofs.Numbers.{distinct-places}
-use Rattle.laws.proofs.Bags.{length-less, getD-plus, getD-less, getD-meet, length-plus, contains-at, isEmpty-at, isEmpty-intro, isEmpty-not}
+use Rattle.laws.proofs.Bags.{length-less, getD-plus, getD-less, getD-meet, length-plus, contains-at, isEmpty-at, isEmpty-intro}
 use Rattle.laws.proofs.Bags.{length-single, single-here, support-at, length-restrict, getD-restrict, restrict-plus, restrict-less, restrict-meet}
 use Rattle.laws.proofs.Bags.{restrict-contains, restrict-isEmpty, restrict-single}
+use Rattle.laws.proofs.Restricted.{restrict-one}
 use Rattle.model.specs.Answer.{accepted}
 use Rattle.model.specs.Card.{Atom, Task, Schema}
 use Rattle.model.specs.Writer.{known, checkTask}
 use Rattle.model.specs.Strips.{State, Action, schemaAt, successor}
-use Rattle.model.specs.Transitions.{Property, Transition, properties, occurs, bagOf, transitions}
-use Rattle.model.specs.Spaces.{Space, property, condition, moved, spaces, kindOf}
+use Rattle.model.specs.Transitions.{Property, properties, occurs, bagOf}
+use Rattle.model.specs.Spaces.{Space, condition, moved, spaces}
 use Rattle.model.specs.Extension.{mostConditions}
-use Rattle.model.specs.Lines.{movesOf, initialConditions, ofPredicate}
+use Rattle.model.specs.Analysis.{movesOf, initialConditions}
+use Rattle.model.specs.Lines.{ofPredicate}
 use Rattle.model.specs.Truth.{Allowed}
 use Rattle.model.proofs.Valid.{Valid}
 use Rattle.model.proofs.Order.{known-arguments}
 use Rattle.model.proofs.Checked.{checked, CheckedAction, checked-action}
-use Rattle.model.proofs.ListedSpace.{Listed, extensionOf}
-use Rattle.model.proofs.Sections.{Capped}
-use Rattle.model.proofs.SpaceFacts.{rule-in-one-space, increasing-members, initial-members, members-known, members-distinct}
-use Rattle.model.proofs.SpaceFacts.{properties-distinct, properties-known, property-rules}
+use Rattle.model.proofs.Parts.{Part, TwoSided, Enclosed, own-rule, own-move, space-enclosed}
+use Rattle.model.proofs.Parts.{known-properties, distinct-properties, known-members, distinct-members}
+use Rattle.model.proofs.ListedSpace.{extensionOf}
+use Rattle.model.proofs.ListedParts.{Extended}
+use Rattle.model.proofs.ClosingLines.{Capped}
 use Rattle.model.proofs.JoinedLists.{adjoin-all-has, adjoin-all-length}
 use Rattle.model.proofs.OwnLists.{own-list-at}
 use Rattle.model.proofs.Chain.{chain, exchange, rest}
@@ -51,13 +54,11 @@ pub record OnOwnList (t : Task) (u : Space) (s : State) (o : ℕ) : Type 0 where
   pub on-list : List·Memᴰ (condition t (u .properties) s o) (getD (extensionOf t u .lists) place [])
 
 pub record Invariant (t : Task) (s : State) : Type 0 where
-  -- a member of a space listed as P stands on the own list of its initial condition
-  pub on-own-list :
-      (u : Space) → List·Memᴰ u (spaces t) → Listed t u → (o : ℕ) → member o (u .members) ≡ true → OnOwnList t u s o
-  -- an object outside a space has none of its properties
+  -- a member of a space listed as P or H, or of any other part with complete own lists, is on the own list of its initial condition
+  pub on-own-list : (u : Space) → Extended t u → (o : ℕ) → member o (u .members) ≡ true → OnOwnList t u s o
+  -- an object outside a space of whatever kind, or outside any other part that nobody enters, has none of its properties
   pub outside :
-      (u : Space) → List·Memᴰ u (spaces t) → (o : ℕ) → member o (u .members) ≡ false
-      → isEmpty (condition t (u .properties) s o) ≡ true
+      (u : Space) → Enclosed t u → (o : ℕ) → member o (u .members) ≡ false → isEmpty (condition t (u .properties) s o) ≡ true
   -- a predicate with a ceiling has no more facts than at first
   pub under-ceiling : (p : ℕ) → Capped t p → ofPredicate p s ≤ ofPredicate p (t .facts)
 
@@ -71,12 +72,12 @@ initial-place t u o m =
     adjoin-all-has [] (map (condition t (u .properties) (t .facts)) (u .members)) (condition t (u .properties) (t .facts) o)
     (Memᴰ·map (condition t (u .properties) (t .facts)) (member-at o (u .members) m))
 
-pub initial-few : (t : Task) (u : Space) → t .objects ≤ 64 → List·Memᴰ u (spaces t) → length (initialConditions t u) ≤ mostConditions
+pub initial-few : {t : Task} {u : Space} → Part t u → t .objects ≤ 64 → length (initialConditions t u) ≤ mostConditions
 unfolding initialConditions
-initial-few t u few m =
+initial-few {t} {u} part few =
     let conditions = adjoin-all-length [] (map (condition t (u .properties) (t .facts)) (u .members)) in
     let one-each = length-map (u .members) (condition t (u .properties) (t .facts)) in
-    let members = count-members (t .objects) (u .members) (members-distinct t u m) (λ o k. members-known t u m o (member-intro o (u .members) k)) in
+    let members = count-members (t .objects) (u .members) (distinct-members part) (λ o k. known-members part o (member-intro o (u .members) k)) in
     let bounded = count-most (λ o. member o (u .members)) (upTo (t .objects)) in
     let objects = length-upTo (t .objects) in
     omega arith
@@ -117,10 +118,10 @@ pub invariant-initially : (t : Task) → checkTask t ≡ accepted tt → Invaria
 invariant-initially t ok =
     record {
       on-own-list =
-          λ u m listed o k.
+          λ u x o k.
           let r = place-of (initialConditions t u) (condition t (u .properties) (t .facts) o) [] (initial-place t u o k) in
           let own =
-          own-list-at (movesOf u) (initialConditions t u) (initial-few t u (checked t ok .few-objects) m) (listed .ended) (r .0) (r .1) in
+          own-list-at (movesOf u) (initialConditions t u) (initial-few (x .part) (checked t ok .few-objects)) (x .ended) (r .0) (r .1) in
           record {
             place = r .0;
             place-known = r .1;
@@ -128,11 +129,11 @@ invariant-initially t ok =
             on-list = subst (λ (b : Bag). List·Memᴰ b (getD (extensionOf t u .lists) (r .0) [])) (r .2) (own .has-initial);
           };
       outside =
-          λ u m o k.
+          λ u x o k.
           by-test (isEmpty (condition t (u .properties) (t .facts) o)) (λ e. e)
           (λ e.
           by-test (ltb o (t .objects))
-          (λ b. never (sym (initial-members t u m o (ltb-true o (t .objects) b) e) ∙ k))
+          (λ b. never (sym (x .part .opens o (ltb-true o (t .objects) b) e) ∙ k))
           (λ b.
           unknown-empty t (u .properties) (t .facts) o (checked t ok .facts-right .facts-known) (ltb-false o (t .objects) b)));
       under-ceiling = λ p capped. le-refl (ofPredicate p (t .facts));
@@ -145,12 +146,12 @@ abbrev pub amount : Task → State → ℕ → ℕ → ℕ
 amount t s o c = getD (bagOf (properties t) s o) c 0
 
 -- an object outside a space has none of each of its properties
-pub none-outside : (t : Task) (s : State) → Invariant t s → (u : Space) → List·Memᴰ u (spaces t) → (o : ℕ)
+pub none-outside : (t : Task) (s : State) → Invariant t s → (u : Space) → Enclosed t u → (o : ℕ)
     → member o (u .members) ≡ false → (c : ℕ) → member c (u .properties) ≡ true → amount t s o c ≡ 0
 unfolding condition
-none-outside t s inv u m o out c k =
+none-outside t s inv u x o out c k =
     let r = place-of (u .properties) c 0 (member-at c (u .properties) k) in
-    let empty = isEmpty-at (condition t (u .properties) s o) (inv .outside u m o out) (r .0) in
+    let empty = isEmpty-at (condition t (u .properties) s o) (inv .outside u x o out) (r .0) in
     ap (λ (d : ℕ). amount t s o d) (sym (r .2)) ∙ sym (getD-restrict (u .properties) (bagOf (properties t) s o) (r .0) (r .1)) ∙ empty
 
 -- an object that has a property is a member of the property's space
@@ -158,22 +159,13 @@ pub member-by-property : (t : Task) (s : State) → Invariant t s → (u : Space
     → member c (u .properties) ≡ true → 0 < amount t s o c → member o (u .members) ≡ true
 member-by-property t s inv u m o c k h =
     by-test (member o (u .members)) (λ e. e)
-    (λ e. let z = none-outside t s inv u m o e c k in absurd (omega arith))
-
--- a rule that moves a property of a space moves no property outside it
-module _ (t : Task) (u : Space) (m : List·Memᴰ u (spaces t)) (r : Transition) (there : List·Memᴰ r (transitions t)) where
-  whole-rule : (c : ℕ) → List·Memᴰ c (moved r) → member c (u .properties) ≡ true → (d : ℕ) → List·Memᴰ d (moved r)
-      → member d (u .properties) ≡ true
-  whole-rule c k h d j = rule-in-one-space t u m r there c k h .0 d j
-
-  own-rule : (c : ℕ) → List·Memᴰ c (moved r) → member c (u .properties) ≡ true → List·Memᴰ r (u .rules)
-  own-rule c k h = rule-in-one-space t u m r there c k h .1
+    (λ e. let z = none-outside t s inv u (space-enclosed t u m) o e c k in absurd (omega arith))
 
 -- the object of a parameter of an allowed action
 module _ (t : Task) (s : State) (ok : checkTask t ≡ accepted tt) (inv : Invariant t s) (schema : Schema) (k : ℕ)
     (named : List·Memᴰ schema (t .schemas)) (below : k < schema .parameters) (o : ℕ) (known-object : o < t .objects) (now : Bag)
     (effect : Effect (length (properties t)) (needed t schema k) (deleted t schema k) (added t schema k) (bagOf (properties t) s o) now)
-    (u : Space) (m : List·Memᴰ u (spaces t)) where
+    (u : Space) (part : Part t u) where
   -- the bags of the parameter and of the object, by property
   record At (c : ℕ) : Type 0 where
     precondition-there : getD (needed t schema k) c 0 ≤ amount t s o c
@@ -205,42 +197,68 @@ module _ (t : Task) (s : State) (ok : checkTask t ≡ accepted tt) (inv : Invari
             ∙ ap (λ (n : ℕ). n + getD (added t schema k) c 0) (getD-less was (deleted t schema k) (lw ∙ sym ld) c));
       }
 
+  -- ---- the rules of the parameter that move a property of the space are rules of the space
+
+  -- its exchange rule of a property that it both deletes and adds
+  own-exchange : (c : ℕ) → member c (u .properties) ≡ true → 0 < getD (common t schema k) c 0 → List·Memᴰ (exchangeRule t schema k c) (u .rules)
+  own-exchange c h x =
+      let inside = known-properties part c h in
+      let size = length-bagOf t (schema .preconditions) k in
+      let once = single-here (length (needed t schema k)) c (omega arith) in
+      let sized = length-single (length (needed t schema k)) c ∙ size in
+      own-rule part (exchangeRule t schema k c) (exchange-there t schema k named below c inside x) c
+      (moved-start (length (properties t)) (exchangeRule t schema k c) sized sized c inside (omega arith))
+      h
+
+  -- its rest rule, which moves what it deletes and does not add, and what it adds and does not delete
+  moved-by-start : (c : ℕ) → member c (u .properties) ≡ true → 0 < getD (less (deleted t schema k) (common t schema k)) c 0
+      → List·Memᴰ c (moved (restRule t schema k))
+  moved-by-start c h x =
+      moved-start (length (properties t)) (restRule t schema k) (length-start t schema k) (length-finish t schema k) c (known-properties part c h) x
+
+  moved-by-finish : (c : ℕ) → member c (u .properties) ≡ true → 0 < getD (less (added t schema k) (common t schema k)) c 0
+      → List·Memᴰ c (moved (restRule t schema k))
+  moved-by-finish c h x =
+      moved-finish (length (properties t)) (restRule t schema k) (length-start t schema k) (length-finish t schema k) c (known-properties part c h) x
+
+  own-rest : isEmpty (less (deleted t schema k) (common t schema k)) ≡ false → (c : ℕ) → List·Memᴰ c (moved (restRule t schema k))
+      → member c (u .properties) ≡ true → List·Memᴰ (restRule t schema k) (u .rules)
+  own-rest e c j h = own-rule part (restRule t schema k) (rest-there t schema k named below e) c j h
+
+  -- its increasing rule of a property, where it deletes no more than it adds
+  own-increasing : isEmpty (less (deleted t schema k) (common t schema k)) ≡ true → (c : ℕ) → member c (u .properties) ≡ true
+      → 0 < getD (less (added t schema k) (common t schema k)) c 0 → List·Memᴰ (increasingRule t schema k c) (u .rules)
+  own-increasing e c h gained =
+      let inside = known-properties part c h in
+      let size = length-bagOf t (schema .preconditions) k in
+      let once = single-here (length (needed t schema k)) c (omega arith) in
+      own-rule part (increasingRule t schema k c) (increasing-there t schema k named below e c inside gained) c
+      (moved-finish (length (properties t)) (increasingRule t schema k c) (length-start t schema k)
+      (length-single (length (needed t schema k)) c ∙ size)
+      c inside (omega arith))
+      h
+
+  -- ---- who is outside
+
   -- an object outside a space gains none of its properties
-  gains-nothing : member o (u .members) ≡ false → (c : ℕ) → member c (u .properties) ≡ true
+  gains-nothing : Enclosed t u → member o (u .members) ≡ false → (c : ℕ) → member c (u .properties) ≡ true
       → 0 < getD (less (added t schema k) (common t schema k)) c 0 → ⊥
-  gains-nothing out c h gained =
+  gains-nothing enclosed out c h gained =
       by-test (isEmpty (less (deleted t schema k) (common t schema k)))
       (λ e.
-      let there = increasing-there t schema k named below e c inside gained in
-      let size = length-bagOf t (schema .preconditions) k in
-      let once = single-here (length (needed t schema k)) c (omega (arith, inside)) in
-      let finish : 0 < getD (single (length (needed t schema k)) c) c 0 = omega arith in
-      let by-rule =
-      own-rule t u m (increasingRule t schema k c) there c
-      (moved-finish (length (properties t)) (increasingRule t schema k c) (length-start t schema k)
-      (length-single (length (needed t schema k)) c ∙ size) c inside finish)
-      h in
       never
       (sym
-      (increasing-members t u m (increasingRule t schema k c) by-rule e o known-object
+      (enclosed .admits-members (increasingRule t schema k c) (own-increasing e c h gained) e o known-object
       (λ d enabler v mv hd. member-by-property t s inv v mv o d hd (enabled e d enabler)))
       ∙ out))
       (λ e.
-      let r = isEmpty-not (less (deleted t schema k) (common t schema k)) e in
-      let there = rest-there t schema k named below e in
-      let low = subst (λ (n : ℕ). r .0 < n) (length-start t schema k) (r .1) in
-      let other =
-      whole-rule t u m (restRule t schema k) there c
-      (moved-finish (length (properties t)) (restRule t schema k) (length-start t schema k) (length-finish t schema k) c inside gained)
-      h (r .0)
-      (moved-start (length (properties t)) (restRule t schema k) (length-start t schema k) (length-finish t schema k) (r .0) low (r .2)) in
-      let nothing = none-outside t s inv u m o out (r .0) other in
+      let r =
+      restrict-one (u .properties) (less (deleted t schema k) (common t schema k))
+      (enclosed .starts-inside (restRule t schema k) (own-rest e c (moved-by-finish c h gained) h) e) in
+      let nothing = none-outside t s inv u enclosed o out (r .0) (member-intro (r .0) (u .properties) (r .1)) in
       let there-before = at (r .0) in
       omega arith)
     where
-      inside : c < length (properties t)
-      inside = properties-known t u m c h
-
       enabled : isEmpty (less (deleted t schema k) (common t schema k)) ≡ true → (d : ℕ)
           → List·Memᴰ d (support (less (needed t schema k) (less (deleted t schema k) (common t schema k))))
           → 0 < amount t s o d
@@ -254,24 +272,17 @@ module _ (t : Task) (s : State) (ok : checkTask t ≡ accepted tt) (inv : Invari
           let here = at d in
           omega arith
 
-  stays-outside : member o (u .members) ≡ false → (c : ℕ) → member c (u .properties) ≡ true → getD now c 0 ≡ 0
-  stays-outside out c h =
+  stays-outside : Enclosed t u → member o (u .members) ≡ false → (c : ℕ) → member c (u .properties) ≡ true → getD now c 0 ≡ 0
+  stays-outside enclosed out c h =
       by-test (ltb 0 (getD (less (added t schema k) (common t schema k)) c 0))
-      (λ e. absurd (gains-nothing out c h (ltb-true 0 _ e)))
+      (λ e. absurd (gains-nothing enclosed out c h (ltb-true 0 _ e)))
       (λ e.
-      let nothing = none-outside t s inv u m o out c h in
+      let nothing = none-outside t s inv u enclosed o out c h in
       let here = at c in
       let low = ltb-false 0 (getD (less (added t schema k) (common t schema k)) c 0) e in
       omega arith)
 
-  -- ---- a member of a space listed as P
-
-  -- moves of a space, from its rules
-  own-move : (r : Transition) → List·Memᴰ r (u .rules)
-      → List·Memᴰ (record { start = restrict (u .properties) (r .start); finish = restrict (u .properties) (r .finish) }) (movesOf u)
-  unfolding movesOf
-  own-move r k =
-      Memᴰ·map (λ r. record { start = restrict (u .properties) (r .start); finish = restrict (u .properties) (r .finish) }) k
+  -- ---- a member of a space with complete own lists
 
   -- the operations over the space's own properties
   over-common :
@@ -309,24 +320,15 @@ module _ (t : Task) (s : State) (ok : checkTask t ≡ accepted tt) (inv : Invari
       → List·Memᴰ (exchange (length (u .properties)) i) (movesOf u)
   exchange-move i h x =
       let c = getD (u .properties) i 0 in
-      let inside = properties-known t u m c (place-member i h) in
       let size = length-bagOf t (schema .preconditions) k in
       let positive : 0 < getD (common t schema k) c 0 =
       subst (λ (n : ℕ). 0 < n) (getD-restrict (u .properties) (common t schema k) i h)
       (subst (λ (b : Bag). 0 < getD b i 0) (sym over-common) x) in
-      let there = exchange-there t schema k named below c inside positive in
-      let once = single-here (length (needed t schema k)) c (omega arith) in
-      let rule =
-      own-rule t u m (exchangeRule t schema k c) there c
-      (moved-start (length (properties t)) (exchangeRule t schema k c) (length-single (length (needed t schema k)) c ∙ size)
-      (length-single (length (needed t schema k)) c ∙ size)
-      c inside (omega arith))
-      (place-member i h) in
       subst (λ (b : Bag). List·Memᴰ (record { start = b; finish = b }) (movesOf u))
       (restrict-single (u .properties) (length (needed t schema k)) i h
-      (λ d j. subst (λ (n : ℕ). d < n) (sym size) (properties-known t u m d (member-intro d (u .properties) j)))
-      (distinct-places (u .properties) (properties-distinct t u m)))
-      (own-move (exchangeRule t schema k c) rule)
+      (λ d j. subst (λ (n : ℕ). d < n) (sym size) (known-properties part d (member-intro d (u .properties) j)))
+      (distinct-places (u .properties) (distinct-properties part)))
+      (own-move u (exchangeRule t schema k c) (own-exchange c (place-member i h) positive))
 
   -- a bag has nothing over the space's properties if it has none of them
   nothing-over : (b : Bag) → ((c : ℕ) → member c (u .properties) ≡ true → 0 < getD b c 0 → ⊥)
@@ -340,20 +342,13 @@ module _ (t : Task) (s : State) (ok : checkTask t ≡ accepted tt) (inv : Invari
       (λ e. absurd (none (getD (u .properties) i 0) (place-member i inside) (ltb-true 0 (getD b (getD (u .properties) i 0) 0) e)))
       (λ e. let low = ltb-false 0 (getD b (getD (u .properties) i 0) 0) e in omega arith))
 
-  -- with nothing more deleted than added, a property space gains nothing: an increasing rule would be its own
-  no-increase : kindOf (u .rules) ≡ property → isEmpty (less (deleted t schema k) (common t schema k)) ≡ true → (c : ℕ)
+  -- with nothing more deleted than added it gains nothing: an increasing rule would be its own, and have no start in it
+  no-increase : TwoSided u → isEmpty (less (deleted t schema k) (common t schema k)) ≡ true → (c : ℕ)
       → member c (u .properties) ≡ true → 0 < getD (less (added t schema k) (common t schema k)) c 0 → ⊥
-  no-increase kind e c h gained =
-      let inside = properties-known t u m c h in
-      let size = length-bagOf t (schema .preconditions) k in
-      let once = single-here (length (needed t schema k)) c (omega arith) in
-      let rule =
-      own-rule t u m (increasingRule t schema k c) (increasing-there t schema k named below e c inside gained) c
-      (moved-finish (length (properties t)) (increasingRule t schema k c) (length-start t schema k)
-      (length-single (length (needed t schema k)) c ∙ size)
-      c inside (omega arith))
-      h in
-      never (sym e ∙ property-rules (u .rules) kind (increasingRule t schema k c) rule .0)
+  no-increase two e c h gained =
+      never
+      (sym (restrict-isEmpty (u .properties) (less (deleted t schema k) (common t schema k)) e)
+      ∙ two .sides _ (own-move u (increasingRule t schema k c) (own-increasing e c h gained)) .0)
 
   -- the rest of the parameter's deletes and adds, over the space's properties
   abbrev own-deleted : Bag
@@ -363,17 +358,17 @@ module _ (t : Task) (s : State) (ok : checkTask t ≡ accepted tt) (inv : Invari
   own-added = restrict (u .properties) (added t schema k)
 
   -- it is a move of the space, or has none of its properties
-  rest-move : kindOf (u .rules) ≡ property
+  rest-move : TwoSided u
       → List·Memᴰ (rest own-deleted own-added) (movesOf u)
       ⊎ ((isEmpty (less own-deleted (meet own-deleted own-added)) ≡ true)
       × (isEmpty (less own-added (meet own-deleted own-added)) ≡ true))
-  rest-move kind =
+  rest-move two =
       by-test (isEmpty (less (deleted t schema k) (common t schema k)))
       (λ e.
       inr (
         subst (λ (b : Bag). isEmpty b ≡ true) over-start (restrict-isEmpty (u .properties) (less (deleted t schema k) (common t schema k)) e),
         subst (λ (b : Bag). isEmpty b ≡ true) over-finish
-            (nothing-over (less (added t schema k) (common t schema k)) (no-increase kind e)),
+            (nothing-over (less (added t schema k) (common t schema k)) (no-increase two e)),
       ))
       (λ e.
       by-test (any (λ c. member c (u .properties)) (moved (restRule t schema k)))
@@ -385,35 +380,24 @@ module _ (t : Task) (s : State) (ok : checkTask t ≡ accepted tt) (inv : Invari
       (λ (b : Bag).
       List·Memᴰ (record { start = b; finish = restrict (u .properties) (less (added t schema k) (common t schema k)) }) (movesOf u))
       over-start
-      (own-move (restRule t schema k)
-      (own-rule t u m (restRule t schema k) (rest-there t schema k named below e) (r .0) (r .1) (r .2))))))
+      (own-move u (restRule t schema k) (own-rest e (r .0) (r .1) (r .2))))))
       (λ none.
       let never-moved : (c : ℕ) → List·Memᴰ c (moved (restRule t schema k)) → member c (u .properties) ≡ false =
       any-none (λ c. member c (u .properties)) (moved (restRule t schema k)) none in
       inr (
         subst (λ (b : Bag). isEmpty b ≡ true) over-start
             (nothing-over (less (deleted t schema k) (common t schema k))
-            (λ c h x.
-            never
-            (sym h
-            ∙ never-moved c
-            (moved-start (length (properties t)) (restRule t schema k) (length-start t schema k) (length-finish t schema k) c
-            (properties-known t u m c h) x)))),
+            (λ c h x. never (sym h ∙ never-moved c (moved-by-start c h x)))),
         subst (λ (b : Bag). isEmpty b ≡ true) over-finish
             (nothing-over (less (added t schema k) (common t schema k))
-            (λ c h x.
-            never
-            (sym h
-            ∙ never-moved c
-            (moved-finish (length (properties t)) (restRule t schema k) (length-start t schema k) (length-finish t schema k) c
-            (properties-known t u m c h) x)))),
+            (λ c h x. never (sym h ∙ never-moved c (moved-by-finish c h x)))),
       )))
 
   -- the object's next condition is on the same own list
-  stays-on-list : Listed t u → (own : OnOwnList t u s o)
+  stays-on-list : Extended t u → (own : OnOwnList t u s o)
       → List·Memᴰ (restrict (u .properties) now) (getD (extensionOf t u .lists) (own .place) [])
   unfolding condition
-  stays-on-list listed own =
+  stays-on-list extended own =
       let ps = u .properties in
       let was = bagOf (properties t) s o in
       let lw = length-bagOf t s o in
@@ -422,7 +406,7 @@ module _ (t : Task) (s : State) (ok : checkTask t ≡ accepted tt) (inv : Invari
       let left = length-less (length (properties t)) was (deleted t schema k) lw ld in
       let joined = length-plus (length (properties t)) (less was (deleted t schema k)) (added t schema k) left la in
       let list =
-      own-list-at (movesOf u) (initialConditions t u) (initial-few t u (checked t ok .few-objects) m) (listed .ended) (own .place)
+      own-list-at (movesOf u) (initialConditions t u) (initial-few part (checked t ok .few-objects)) (extended .ended) (own .place)
       (own .place-known) in
       let over-left : restrict ps (less was (deleted t schema k)) ≡ less (restrict ps was) own-deleted =
       restrict-less ps was (deleted t schema k) (lw ∙ sym ld) in
@@ -446,7 +430,7 @@ module _ (t : Task) (s : State) (ok : checkTask t ≡ accepted tt) (inv : Invari
       (restrict-contains ps was (deleted t schema k) (effect .deletes-there))
       within
       exchange-move
-      (rest-move (listed .rules-kind)))
+      (rest-move (extended .two-sided)))
 
 -- ---- every allowed action keeps the invariant
 
@@ -473,7 +457,7 @@ module _ (t : Task) (ok : checkTask t ≡ accepted tt) (s : State) (a : Action) 
   action : CheckedAction t a
   action = checked-action t a (allowed .named)
 
-  module _ (u : Space) (m : List·Memᴰ u (spaces t)) where
+  module _ (u : Space) where
     -- an object that the action does not name keeps its condition
     same-condition : (o : ℕ) → member o (a .objects) ≡ false → condition t (u .properties) next o ≡ condition t (u .properties) s o
     unfolding condition next
@@ -497,61 +481,61 @@ module _ (t : Task) (ok : checkTask t ≡ accepted tt) (s : State) (a : Action) 
           ltb-true (getD (a .objects) k 0) (t .objects)
           (all-at (λ o. ltb o (t .objects)) (a .objects) (action .objects-known) (getD (a .objects) k 0) (mem-getD (a .objects) k 0 h))
 
-      own-list-kept : Listed t u → member object (u .members) ≡ true → OnOwnList t u next object
+      own-list-kept : Extended t u → member object (u .members) ≡ true → OnOwnList t u next object
       unfolding condition
-      own-list-kept listed inside =
-          let own = inv .on-own-list u m listed object inside in
+      own-list-kept extended inside =
+          let own = inv .on-own-list u extended object inside in
           record {
             place = own .place;
             place-known = own .place-known;
             initial-is = own .initial-is;
             on-list =
                 stays-on-list t s ok inv (schemaAt t (a .schema)) k (schema-named t (a .schema) (action .schema-known)) below object known-object
-                (bagOf (properties t) next object) effect u m listed own;
+                (bagOf (properties t) next object) effect u (extended .part) extended own;
           }
 
-      outside-kept : member object (u .members) ≡ false → isEmpty (condition t (u .properties) next object) ≡ true
+      outside-kept : Enclosed t u → member object (u .members) ≡ false → isEmpty (condition t (u .properties) next object) ≡ true
       unfolding condition
-      outside-kept out =
+      outside-kept enclosed out =
           nothing-over t s ok inv (schemaAt t (a .schema)) k (schema-named t (a .schema) (action .schema-known)) below object known-object
-          (bagOf (properties t) next object) effect u m (bagOf (properties t) next object)
+          (bagOf (properties t) next object) effect u (enclosed .part) (bagOf (properties t) next object)
           (λ c h x.
           let none =
           stays-outside t s ok inv (schemaAt t (a .schema)) k (schema-named t (a .schema) (action .schema-known)) below object known-object
-          (bagOf (properties t) next object) effect u m out c h in
+          (bagOf (properties t) next object) effect u (enclosed .part) enclosed out c h in
           omega arith)
 
-  kept-on-list : (u : Space) → List·Memᴰ u (spaces t) → Listed t u → (o : ℕ) → member o (u .members) ≡ true → OnOwnList t u next o
+  kept-on-list : (u : Space) → Extended t u → (o : ℕ) → member o (u .members) ≡ true → OnOwnList t u next o
   unfolding object
-  kept-on-list u m listed o inside =
+  kept-on-list u extended o inside =
       by-test (member o (a .objects))
       (λ named.
       let p = parameter-of t a o named in
       subst (OnOwnList t u next) (p .object-is)
-      (own-list-kept u m (p .number) (p .number-known) listed
+      (own-list-kept u (p .number) (p .number-known) extended
       (subst (λ (x : ℕ). member x (u .members) ≡ true) (sym (p .object-is)) inside)))
       (λ elsewhere.
-      let own = inv .on-own-list u m listed o inside in
+      let own = inv .on-own-list u extended o inside in
       record {
         place = own .place;
         place-known = own .place-known;
         initial-is = own .initial-is;
         on-list =
-            subst (λ (b : Bag). List·Memᴰ b (getD (extensionOf t u .lists) (own .place) [])) (sym (same-condition u m o elsewhere))
+            subst (λ (b : Bag). List·Memᴰ b (getD (extensionOf t u .lists) (own .place) [])) (sym (same-condition u o elsewhere))
             (own .on-list);
       })
 
-  kept-outside : (u : Space) → List·Memᴰ u (spaces t) → (o : ℕ) → member o (u .members) ≡ false
+  kept-outside : (u : Space) → Enclosed t u → (o : ℕ) → member o (u .members) ≡ false
       → isEmpty (condition t (u .properties) next o) ≡ true
   unfolding object
-  kept-outside u m o out =
+  kept-outside u enclosed o out =
       by-test (member o (a .objects))
       (λ named.
       let p = parameter-of t a o named in
       subst (λ (x : ℕ). isEmpty (condition t (u .properties) next x) ≡ true) (p .object-is)
-      (outside-kept u m (p .number) (p .number-known)
+      (outside-kept u (p .number) (p .number-known) enclosed
       (subst (λ (x : ℕ). member x (u .members) ≡ false) (sym (p .object-is)) out)))
-      (λ elsewhere. ap isEmpty (same-condition u m o elsewhere) ∙ inv .outside u m o out)
+      (λ elsewhere. ap isEmpty (same-condition u o elsewhere) ∙ inv .outside u enclosed o out)
 
   kept-under-ceiling : (p : ℕ) → Capped t p → ofPredicate p next ≤ ofPredicate p (t .facts)
   unfolding next

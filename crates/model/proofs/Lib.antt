@@ -15,6 +15,7 @@ pub mod RoundTrip
 pub mod Grouping
 pub mod Closing
 pub mod SpaceFacts
+pub mod Parts
 pub mod Putting
 pub mod Binding
 pub mod Effect
@@ -25,6 +26,8 @@ pub mod OwnLists
 pub mod TallyCounts
 pub mod Chain
 pub mod ListedSpace
+pub mod ListedParts
+pub mod ClosingLines
 pub mod Sections
 pub mod Totals
 pub mod ParameterRules
@@ -46,3 +49,4 @@ pub mod MixedHolds
 pub mod Nestings
 pub mod FormerTests
 pub mod Recounting
+pub mod Rescues

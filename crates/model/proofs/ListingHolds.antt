@@ -9,12 +9,11 @@ use native.Mathlib.Omega.{arith}
 use mathlib.Core.Path.{_≡_, refl, sym, ap, ap₂, _∙_, subst}
 use mathlib.Core.Bool.{Bool, true, false, cond, not, _&&_}
 use mathlib.Core.Logic.{⊎-elim}
-use mathlib.Core.List.{List, [], _∷_, map, foldl, List·Memᴰ, List·Memᴰ·head, List·Memᴰ·cases-cons, List·Memᴰ·not-nil}
-use mathlib.Core.List.{List·Memᴰ·eq-of-singleton, Memᴰ·map, Memᴰ·of-map}
+use mathlib.Core.List.{List, [], _∷_, map, foldl, List·Memᴰ, List·Memᴰ·cases-cons, List·Memᴰ·not-nil, List·Memᴰ·eq-of-singleton, Memᴰ·map}
 use lib.Dec.{ltb, eqb}
 use lib.ListN.{length, getD}
 use borrow.Author.Tests.{eqb-true, ltb-true}
-use Rattle.laws.specs.Lists.{any, all, upTo, member, distinct}
+use Rattle.laws.specs.Lists.{any, all, upTo, member}
 use Rattle.laws.specs.Bags.{Bag, contains, strictlyContains, covers, support}
 use Rattle.laws.proofs.Tests.{by-test, and-intro, not-true, to-not-true}
 use Rattle.laws.proofs.Lists.{all-at, all-intro, any-intro, any-none, keep-intro, member-intro, mem-getD, place-of, upTo-intro}
@@ -25,20 +24,23 @@ use Rattle.model.specs.Card.{Task, decode}
 use Rattle.model.specs.Writer.{checkTask}
 use Rattle.model.specs.Strips.{State, Action, schemaAt}
 use Rattle.model.specs.Transitions.{properties, bagOf}
-use Rattle.model.specs.Spaces.{Space, Kind, property, condition, spaces, hasMember}
-use Rattle.model.specs.Lines.{Line, space, state, limit, membership, exclusion, total, ceiling, Analysis, analysis, analyse, countOf, largest}
-use Rattle.model.specs.Lines.{minimal, excluded, spaceLines, propertyNumber, oneNumber, ofPredicate}
+use Rattle.model.specs.Spaces.{Kind, condition, spaces, hasMember}
+use Rattle.model.specs.Analysis.{Analysis}
+use Rattle.model.specs.Lines.{Line, space, state, limit, membership, exclusion, total, ceiling, countOf, largest}
+use Rattle.model.specs.Lines.{minimal, excluded, propertyNumber, oneNumber, ofPredicate}
 use Rattle.model.specs.Calls.{Standing, initial, history, stateOf}
-use Rattle.model.specs.Truth.{_isOn_, _isSectionOf_, statesOf, countIn, Allowed, Holds}
+use Rattle.model.specs.Truth.{_isOn_, _isSectionOf_, givesConditions, statesOf, countIn, Allowed, Holds}
 use Rattle.model.proofs.Valid.{Valid}
 use Rattle.model.proofs.Checked.{checked, checked-action}
 use Rattle.model.proofs.History.{Events, presses, event-induction}
 use Rattle.model.proofs.RoundTrip.{decode-checks}
-use Rattle.model.proofs.ListedSpace.{extensionOf, listed-as-property, conditions-listed, space-of-analysis, analysed, spaces-of-analysis}
+use Rattle.model.proofs.Parts.{known-members, distinct-members}
+use Rattle.model.proofs.ListedSpace.{extensionOf}
+use Rattle.model.proofs.ListedParts.{InListing, of-task, listing-enclosed, lists-own, with-condition}
 use Rattle.model.proofs.JoinedLists.{joined-has}
 use Rattle.model.proofs.OwnLists.{own-lists-length}
-use Rattle.model.proofs.SpaceFacts.{space-of, members-known, members-distinct}
-use Rattle.model.proofs.Sections.{on-space, on-limit, on-exclusion, on-nesting, on-total, on-ceiling, on-types, types-on, typed, states-of-space}
+use Rattle.model.proofs.SpaceFacts.{space-of}
+use Rattle.model.proofs.Sections.{OnSpace, on-space, on-limit, on-exclusion, on-nesting, total-from-property, on-ceiling, on-types, types-on, typed}
 use Rattle.model.proofs.Sections.{state-on, membership-on}
 use Rattle.model.proofs.Totals.{total-by-members, count-of-condition}
 use Rattle.model.proofs.Effect.{effect-on-parameter}
@@ -52,7 +54,7 @@ largest-most [] n m = absurd (List·Memᴰ·not-nil m)
 largest-most (x ∷ ns) n m =
     ⊎-elim (λ e. omega arith) (λ k. let later = largest-most ns n k in omega arith) (List·Memᴰ·cases-cons m)
 
--- the one number of a list is each of its numbers, and there is one
+-- the one number of a list is each of its numbers
 one-number-all : (ns : List ℕ) (n : ℕ) → List·Memᴰ n (oneNumber ns) → (x : ℕ) → List·Memᴰ x ns → x ≡ n
 unfolding oneNumber
 one-number-all [] n m x k = absurd (List·Memᴰ·not-nil k)
@@ -64,78 +66,86 @@ one-number-all (y ∷ ns) n m x k = go (all (eqb y) ns) refl m
         ⊎-elim (λ p. p ∙ sym first) (λ q. sym (eqb-true y x (all-at (eqb y) ns e x q)) ∙ sym first) (List·Memᴰ·cases-cons k)
     go false e j = absurd (List·Memᴰ·not-nil j)
 
-one-number-some : (ns : List ℕ) (n : ℕ) → List·Memᴰ n (oneNumber ns) → (x : ℕ) × List·Memᴰ x ns
-unfolding oneNumber
-one-number-some [] n m = absurd (List·Memᴰ·not-nil m)
-one-number-some (y ∷ ns) n m = (y, List·Memᴰ·head refl)
-
 module _ (t : Task) (ok : checkTask t ≡ accepted tt) (s : State) (valid : Valid t s) (inv : Invariant t s) where
-  -- a member of a space listed as P has one of the conditions listed for it
-  condition-listed : (u : Space) → List·Memᴰ u (spaces t) → analyse t u .kind ≡ property → (o : ℕ) → member o (u .members) ≡ true
-      → List·Memᴰ (condition t (u .properties) s o) (analyse t u .conditions)
-  condition-listed u m kind o k =
-      let listed = listed-as-property t u kind in
-      let own = inv .on-own-list u m listed o k in
-      let few = initial-few t u (checked t ok .few-objects) m in
-      let as-many = own-lists-length _ _ few (listed .ended) in
-      let here = own .place-known in
-      subst (λ (bags : List Bag). List·Memᴰ (condition t (u .properties) s o) bags) (sym (listed .conditions-are))
-      (joined-has (extensionOf t u .lists) (getD (extensionOf t u .lists) (own .place) []) (condition t (u .properties) s o)
-      (mem-getD (extensionOf t u .lists) (own .place) [] (omega arith))
-      (own .on-list))
-
-  -- what is so of every space of the task is so of every space of the listing
-  by-space : (Q : Space → Analysis → Type 0) → ((u : Space) → List·Memᴰ u (spaces t) → Q u (analyse t u)) → (a : Analysis)
-      → List·Memᴰ a (analysis t) → Q (a .space) a
-  by-space Q f a m =
-      let r = analysed t a m in
-      subst (λ (x : Analysis). Q (x .space) x) (sym (r .2))
-      (subst (λ (u : Space). Q u (analyse t (r .0))) (sym (space-of-analysis t (r .0))) (f (r .0) (r .1)))
-
-  member-condition : (a : Analysis) → List·Memᴰ a (analysis t) → a .kind ≡ property → (o : ℕ) → member o (a .space .members) ≡ true
+  -- a member of a space whose kind gives conditions, P or H, has one of them
+  member-condition : (a : Analysis) → InListing t a → givesConditions (a .kind) ≡ true → (o : ℕ) → member o (a .space .members) ≡ true
       → List·Memᴰ (condition t (a .space .properties) s o) (a .conditions)
-  member-condition =
-      by-space
-      (λ u a.
-      a .kind ≡ property → (o : ℕ) → member o (u .members) ≡ true
-      → List·Memᴰ (condition t (u .properties) s o) (a .conditions))
-      condition-listed
+  member-condition a l gives o k =
+      let u = a .space in
+      let own = lists-own l gives in
+      let on = inv .on-own-list u (own .extended) o k in
+      let few = initial-few (own .extended .part) (checked t ok .few-objects) in
+      let as-many = own-lists-length _ _ few (own .extended .ended) in
+      let here = on .place-known in
+      subst (λ (bags : List Bag). List·Memᴰ (condition t (u .properties) s o) bags) (sym (own .conditions-are))
+      (joined-has (extensionOf t u .lists) (getD (extensionOf t u .lists) (on .place) []) (condition t (u .properties) s o)
+      (mem-getD (extensionOf t u .lists) (on .place) [] (omega arith))
+      (on .on-list))
 
-  none-of : (a : Analysis) → List·Memᴰ a (analysis t) → (o c : ℕ) → member o (a .space .members) ≡ false
-      → member c (a .space .properties) ≡ true → countIn t s o c ≡ 0
+  -- and an object outside a space, of whatever kind, has none of its properties
+  none-of : (a : Analysis) → InListing t a → (o c : ℕ) → member o (a .space .members) ≡ false → member c (a .space .properties) ≡ true
+      → countIn t s o c ≡ 0
   unfolding countIn
-  none-of =
-      by-space
-      (λ u a. (o c : ℕ) → member o (u .members) ≡ false → member c (u .properties) ≡ true → getD (bagOf (properties t) s o) c 0 ≡ 0)
-      (λ u m o c out k. none-outside t s inv u m o out c k)
-
-  is-property : (a : Analysis) → List·Memᴰ a (analysis t) → (b : Bag) → List·Memᴰ b (a .conditions) → a .kind ≡ property
-  is-property = by-space (λ u a. (b : Bag) → List·Memᴰ b (a .conditions) → a .kind ≡ property) (λ u m. conditions-listed t u)
-
-  distinct-members : (a : Analysis) → List·Memᴰ a (analysis t) → distinct (a .space .members) ≡ true
-  distinct-members = by-space (λ u a. distinct (u .members) ≡ true) (members-distinct t)
-
-  known-members : (a : Analysis) → List·Memᴰ a (analysis t) → (o : ℕ) → member o (a .space .members) ≡ true → o < t .objects
-  known-members = by-space (λ u a. (o : ℕ) → member o (u .members) ≡ true → o < t .objects) (members-known t)
+  none-of a l o c out k = none-outside t s inv (a .space) (listing-enclosed l) o out c k
 
   -- ---- each kind of line
 
-  -- T: the condition of a member is listed
-  state-is-listed : (lines : List Line) (n : ℕ) (ps ms : List ℕ) (o : ℕ) → lines isSectionOf t → space n property ps ms isOn lines
-      → member o ms ≡ true → state (condition t ps s o) isOn lines
-  state-is-listed lines n ps ms o section on k =
-      let r = on-space t lines n property ps ms section on in
-      let inside = subst (λ (x : List ℕ). member o x ≡ true) (r .members-are) k in
-      subst (λ (x : List Line). List·Memᴰ (state (condition t ps s o)) x) (sym (r .section-is))
-      (subst (λ (x : List ℕ). List·Memᴰ (state (condition t x s o)) (spaceLines t n (r .of))) (sym (r .properties-are))
-      (state-on t n (r .of) (condition t (r .of .space .properties) s o)
-      (member-condition (r .of) (r .of-listed) (sym (r .kind-is)) o inside)))
+  -- the space of an S line of a kind that gives conditions, and a member's condition among those of the section
+  module _ (lines : List Line) (n : ℕ) (kind : Kind) (ps ms : List ℕ) (o : ℕ) (section : lines isSectionOf t)
+      (on : space n kind ps ms isOn lines) (gives : givesConditions kind ≡ true) (k : member o ms ≡ true) where
+    abbrev found : OnSpace t lines n kind ps ms
+    found = on-space t lines n kind ps ms section on
+
+    of-kind : givesConditions (found .of .kind) ≡ true
+    of-kind = sym (ap givesConditions (found .kind-is)) ∙ gives
+
+    conditions-are : statesOf lines ≡ found .of .conditions
+    conditions-are = found .of-listed .states-are of-kind
+
+    condition-there : List·Memᴰ (condition t ps s o) (found .of .conditions)
+    condition-there =
+        subst (λ (x : List ℕ). List·Memᴰ (condition t x s o) (found .of .conditions)) (sym (found .properties-are))
+        (member-condition (found .of) (found .of-listed .in-listing) of-kind o (subst (λ (x : List ℕ). member o x ≡ true) (found .members-are) k))
+
+    -- T: the condition of a member is listed
+    state-is-listed : state (condition t ps s o) isOn lines
+    state-is-listed =
+        found .of-listed .has-line (state (condition t ps s o)) (state-on t n (found .of) (condition t ps s o) condition-there)
+
+    -- D: below a member's condition there is a least one
+    membership-holds : (i : ℕ) × (membership i isOn lines) × (contains (condition t ps s o) (getD (statesOf lines) i []) ≡ true)
+    unfolding minimal
+    membership-holds =
+        let bags = found .of .conditions in
+        let least = least-below bags (condition t ps s o) condition-there in
+        let at = place-of bags (least .0) [] (least .1) in (
+          at .0,
+          found .of-listed .has-line (membership (at .0))
+              (membership-on t n (found .of) (at .0)
+              (keep-intro (λ i. not (any (strictlyContains (getD bags i [])) bags)) (upTo (length bags)) (at .0) (upTo-intro (length bags) (at .0) (at .1))
+              (to-not-true (any (strictlyContains (getD bags (at .0) [])) bags)
+              (ap (λ (b : Bag). any (strictlyContains b) bags) (at .2) ∙ least .3)))),
+          subst (λ (x : List Bag). contains (condition t ps s o) (getD x (at .0) []) ≡ true) (sym conditions-are)
+              (subst (λ (b : Bag). contains (condition t ps s o) b ≡ true) (sym (at .2)) (least .2)),
+        )
+
+    -- X: a listed condition does not contain both
+    exclusion-holds : (i j : ℕ) → exclusion i j isOn lines
+        → (contains (condition t ps s o) (getD (statesOf lines) i []) && contains (condition t ps s o) (getD (statesOf lines) j [])) ≡ false
+    unfolding excluded
+    exclusion-holds i j x =
+        let bags = statesOf lines in
+        let b = condition t ps s o in
+        let both : Bag → Bool = λ b. covers b (getD bags i []) && covers b (getD bags j []) in
+        ap₂ (λ (p q : Bool). p && q) (sym (covers-contains b (getD bags i []))) (sym (covers-contains b (getD bags j [])))
+        ∙ any-none both bags (not-true (any both bags) (on-exclusion t lines i j section x)) b
+        (subst (List·Memᴰ b) (sym conditions-are) condition-there)
 
   none-outside-listed : (lines : List Line) (n : ℕ) (kind : Kind) (ps ms : List ℕ) (o c : ℕ) → lines isSectionOf t
       → space n kind ps ms isOn lines → member o ms ≡ false → member c ps ≡ true → countIn t s o c ≡ 0
   none-outside-listed lines n kind ps ms o c section on out k =
       let r = on-space t lines n kind ps ms section on in
-      none-of (r .of) (r .of-listed) o c (subst (λ (x : List ℕ). member o x ≡ false) (r .members-are) out)
+      none-of (r .of) (r .of-listed .in-listing) o c (subst (λ (x : List ℕ). member o x ≡ false) (r .members-are) out)
       (subst (λ (x : List ℕ). member c x ≡ true) (r .properties-are) k)
 
   -- M: no count is above the largest
@@ -146,7 +156,8 @@ module _ (t : Task) (ok : checkTask t ≡ accepted tt) (s : State) (valid : Vali
       let there = member-intro c (a .space .properties) (r .in-space) in
       by-test (member o (a .space .members))
       (λ k.
-      let here = member-condition a (r .of-listed) (is-property a (r .of-listed) (r .some-condition .0) (r .some-condition .1)) o k in
+      let gives = with-condition (r .of-listed) (r .some-condition .0) (r .some-condition .1) in
+      let here = member-condition a (r .of-listed) gives o k in
       let counted = count-of-condition t (a .space .properties) s o c there in
       let bound =
       largest-most (map (countOf (a .space .properties) c) (a .conditions)) (countOf (a .space .properties) c (condition t (a .space .properties) s o))
@@ -155,81 +166,24 @@ module _ (t : Task) (ok : checkTask t ≡ accepted tt) (s : State) (valid : Vali
       omega arith)
       (λ k. let none = none-of a (r .of-listed) o c k there in omega arith)
 
-  -- a condition contains what stands at a place of a list, wherever properties and list are given from
-  contained : (ps own : List ℕ) (bags listed : List Bag) (i o : ℕ) (b : Bag) → ps ≡ own → bags ≡ listed → getD listed i [] ≡ b
-      → contains (condition t own s o) b ≡ true → contains (condition t ps s o) (getD bags i []) ≡ true
-  contained ps own bags listed i o b p q e h =
-      subst (λ (x : List ℕ). contains (condition t x s o) (getD bags i []) ≡ true) (sym p)
-      (subst (λ (x : List Bag). contains (condition t own s o) (getD x i []) ≡ true) (sym q)
-      (subst (λ (x : Bag). contains (condition t own s o) x ≡ true) (sym e) h))
-
-  -- D: below a member's condition there is a least one
-  membership-holds : (lines : List Line) (n : ℕ) (ps ms : List ℕ) (o : ℕ) → lines isSectionOf t → space n property ps ms isOn lines
-      → member o ms ≡ true
-      → (i : ℕ) × (membership i isOn lines) × (contains (condition t ps s o) (getD (statesOf lines) i []) ≡ true)
-  unfolding minimal
-  membership-holds lines n ps ms o section on k =
-      let r = on-space t lines n property ps ms section on in
-      let bags = r .of .conditions in
-      let inside = subst (λ (x : List ℕ). member o x ≡ true) (r .members-are) k in
-      let here = member-condition (r .of) (r .of-listed) (sym (r .kind-is)) o inside in
-      let least = least-below bags (condition t (r .of .space .properties) s o) here in
-      let at = place-of bags (least .0) [] (least .1) in
-      let states = ap statesOf (r .section-is) ∙ states-of-space t n (r .of) in (
-        at .0,
-        subst (λ (x : List Line). List·Memᴰ (membership (at .0)) x) (sym (r .section-is))
-            (membership-on t n (r .of) (at .0)
-            (keep-intro (λ i. not (any (strictlyContains (getD bags i [])) bags)) (upTo (length bags)) (at .0) (upTo-intro (length bags) (at .0) (at .1))
-            (to-not-true (any (strictlyContains (getD bags (at .0) [])) bags)
-            (ap (λ (b : Bag). any (strictlyContains b) bags) (at .2) ∙ least .3)))),
-        contained ps (r .of .space .properties) (statesOf lines) bags (at .0) o (least .0) (r .properties-are) states (at .2) (least .2),
-      )
-
-  -- X: a listed condition does not contain both
-  exclusion-holds : (lines : List Line) (n : ℕ) (kind : Kind) (ps ms : List ℕ) (o i j : ℕ) → lines isSectionOf t
-      → space n kind ps ms isOn lines → member o ms ≡ true → exclusion i j isOn lines
-      → (contains (condition t ps s o) (getD (statesOf lines) i []) && contains (condition t ps s o) (getD (statesOf lines) j [])) ≡ false
-  unfolding excluded
-  exclusion-holds lines n kind ps ms o i j section on k x =
-      let r = on-space t lines n kind ps ms section on in
-      let bags = r .of .conditions in
-      let e = on-exclusion t n (r .of) i j (subst (λ (l : List Line). List·Memᴰ (exclusion i j) l) (r .section-is) x) in
-      let inside = subst (λ (l : List ℕ). member o l ≡ true) (r .members-are) k in
-      let here = member-condition (r .of) (r .of-listed) (is-property (r .of) (r .of-listed) (e .1 .0) (e .1 .1)) o inside in
-      let states = ap statesOf (r .section-is) ∙ states-of-space t n (r .of) in
-      ap
-      (λ (l : List ℕ).
-      contains (condition t l s o) (getD (statesOf lines) i []) && contains (condition t l s o) (getD (statesOf lines) j []))
-      (r .properties-are)
-      ∙ ap
-      (λ (l : List Bag).
-      contains (condition t (r .of .space .properties) s o) (getD l i [])
-      && contains (condition t (r .of .space .properties) s o) (getD l j []))
-      states
-      ∙ ap₂ (λ (p q : Bool). p && q)
-      (sym (covers-contains (condition t (r .of .space .properties) s o) (getD bags i [])))
-      (sym (covers-contains (condition t (r .of .space .properties) s o) (getD bags j [])))
-      ∙ any-none (λ b. covers b (getD bags i []) && covers b (getD bags j [])) bags
-      (not-true (any (λ b. covers b (getD bags i []) && covers b (getD bags j [])) bags) (e .0))
-      (condition t (r .of .space .properties) s o) here
-
-  -- F: members have one count each, the others none
+  -- F: members have one count each, the others none. It comes from a space of the task that is listed as P
   total-holds : (lines : List Line) (p n : ℕ) → lines isSectionOf t → total p n isOn lines → ofPredicate p s ≡ n
+  unfolding givesConditions
   total-holds lines p n section on =
-      let r = on-total t lines p n section on in
+      let from-property = total-from-property t lines p n section on in
+      let r = from-property .0 in
       let a = r .of in
+      let listed : InListing t a = of-task (r .of-listed) in
+      let part = listing-enclosed listed .part in
       let c = propertyNumber t p (r .position) in
-      let some = one-number-some (map (countOf (a .space .properties) c) (a .conditions)) (r .each) (r .one-number) in
-      let b = Memᴰ·of-map (countOf (a .space .properties) c) (a .conditions) (some .1) in
-      let kind = is-property a (r .of-listed) (b .0) (b .1) in
       total-by-members t p (r .position) (r .each) s (a .space .members) (r .predicate-known) (r .position-known) (valid .facts-known)
-      (distinct-members a (r .of-listed)) (known-members a (r .of-listed))
+      (distinct-members part) (known-members part)
       (λ o k.
       sym (count-of-condition t (a .space .properties) s o c (r .in-space))
       ∙ one-number-all (map (countOf (a .space .properties) c) (a .conditions)) (r .each) (r .one-number)
       (countOf (a .space .properties) c (condition t (a .space .properties) s o))
-      (Memᴰ·map (countOf (a .space .properties) c) (member-condition a (r .of-listed) kind o k)))
-      (λ o k. none-of a (r .of-listed) o c k (r .in-space))
+      (Memᴰ·map (countOf (a .space .properties) c) (member-condition a listed (ap givesConditions (from-property .1)) o k)))
+      (λ o k. none-of a listed o c k (r .in-space))
       ∙ sym (r .amount)
 
   -- C
@@ -254,17 +208,16 @@ module _ (t : Task) (ok : checkTask t ≡ accepted tt) (s : State) (valid : Vali
       subst (λ (x : ℕ). member o (typed t x k) ≡ true) e
       (member-intro o (typed t (a .schema) k)
       (keep-intro
-      (λ x. all (hasMember (map (λ a. a .space) (analysis t)) x) (support needs))
+      (λ x. all (hasMember (spaces t) x) (support needs))
       (upTo (t .objects)) o (upTo-intro (t .objects) o known)
-      (all-intro (hasMember (map (λ a. a .space) (analysis t)) o) (support needs)
+      (all-intro (hasMember (spaces t) o) (support needs)
       (λ c m.
       let support = support-at needs c m in
       let there = contains-at (bagOf (properties t) s o) needs (effect .preconditions-there) c in
       let u = space-of t c (subst (λ (x : ℕ). c < x) (length-bagOf t (schemaAt t (a .schema) .preconditions) k) (support .0)) in
-      subst (λ (x : List Space). hasMember x o c ≡ true) (sym (spaces-of-analysis t))
-      (any-intro (λ v. member c (v .properties) && member o (v .members)) (spaces t) (u .0) (u .1)
+      any-intro (λ v. member c (v .properties) && member o (v .members)) (spaces t) (u .0) (u .1)
       (and-intro (member c (u .0 .properties)) (member o (u .0 .members)) (u .2)
-      (member-by-property t s inv (u .0) (u .1) o c (u .2) (le-trans (support .1) there))))))))
+      (member-by-property t s inv (u .0) (u .1) o c (u .2) (le-trans (support .1) there)))))))
 
   holds : Holds t s
   holds =
@@ -273,7 +226,7 @@ module _ (t : Task) (ok : checkTask t ≡ accepted tt) (s : State) (valid : Vali
         outside = none-outside-listed;
         limit-true = limit-holds;
         membership-true = membership-holds;
-        exclusion-true = exclusion-holds;
+        exclusion-true = λ lines n kind ps ms o i j section on gives k x. exclusion-holds lines n kind ps ms o section on gives k i j x;
         nesting-true = on-nesting t;
         total-true = total-holds;
         ceiling-true = ceiling-holds;
@@ -308,11 +261,11 @@ module _ (card buffer : List ℕ) (t : Task) (n : ℕ) (decoded : decode card �
   unfolding standing
   holds-after = holds t ok (stateOf t standing) (invariant-after .1) (invariant-after .0)
 
-  -- and the stronger fact that a member's condition stands on the own list of its own initial condition
-  pub on-own-list-after : (u : Space) → List·Memᴰ u (spaces t) → analyse t u .kind ≡ property → (o : ℕ) → member o (u .members) ≡ true
-      → OnOwnList t u (stateOf t (kind .standing (foldl (kind .happens) start events))) o
+  -- and the stronger fact that the condition of a member of a space listed as P or H is on the own list of its own initial condition
+  pub on-own-list-after : (a : Analysis) → InListing t a → givesConditions (a .kind) ≡ true → (o : ℕ) → member o (a .space .members) ≡ true
+      → OnOwnList t (a .space) (stateOf t (kind .standing (foldl (kind .happens) start events))) o
   unfolding standing
-  on-own-list-after u m listed = invariant-after .0 .on-own-list u m (listed-as-property t u listed)
+  on-own-list-after a l gives = invariant-after .0 .on-own-list (a .space) (lists-own l gives .extended)
 
 -- Demand 3
 pub listing-holds : (card buffer : List ℕ) (t : Task) (n : ℕ) → decode card ≡ accepted t → initial card buffer .answer ≡ accepted n
@@ -321,10 +274,9 @@ pub listing-holds : (card buffer : List ℕ) (t : Task) (n : ℕ) → decode car
 unfolding history
 listing-holds card buffer t n decoded opened actions = holds-after card buffer t n decoded opened (presses card t decoded) _ refl actions
 
--- and the stronger fact that a member's condition stands on the own list of its own initial condition
+-- and the stronger fact that the condition of a member of a space listed as P or H is on the own list of its own initial condition
 pub own-list-holds : (card buffer : List ℕ) (t : Task) (n : ℕ) → decode card ≡ accepted t → initial card buffer .answer ≡ accepted n
-    → (actions : List Action) → (u : Space) → List·Memᴰ u (spaces t) → analyse t u .kind ≡ property → (o : ℕ)
-    → member o (u .members) ≡ true
-    → OnOwnList t u (stateOf t (history card actions (record { buffer = initial card buffer .buffer; count = n }))) o
+    → (actions : List Action) (a : Analysis) → InListing t a → givesConditions (a .kind) ≡ true → (o : ℕ) → member o (a .space .members) ≡ true
+    → OnOwnList t (a .space) (stateOf t (history card actions (record { buffer = initial card buffer .buffer; count = n }))) o
 unfolding history
 own-list-holds card buffer t n decoded opened actions = on-own-list-after card buffer t n decoded opened (presses card t decoded) _ refl actions

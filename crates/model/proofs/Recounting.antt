@@ -9,8 +9,8 @@ use lib.ListN.{length, getD}
 use Rattle.laws.specs.Lists.{any, upTo}
 use Rattle.laws.specs.Bags.{Bag, contains, strictlyContains, listed}
 use Rattle.laws.proofs.Folds.{fold-as}
-use Rattle.model.specs.Extension.{Move, Outcome, neither, mixed, wide, Search, Extension, mostConditions, results, adjoin, ending, appending}
-use Rattle.model.specs.Extension.{starting, test, unlessEnded, offer, try, visit, explore, extendFrom, extend}
+use Rattle.model.specs.Extension.{Move, Outcome, neither, mixed, wide, Search, Extension, mostConditions, results, adjoin, hiddenBy}
+use Rattle.model.specs.Extension.{ending, appending, starting, test, unlessEnded, offer, try, visit, explore, extendFrom, extend}
 use Rattle.model.proofs.OwnLists.{Tallied, offer-takes, onward-try, onward-visit, onward-explore}
 
 -- ---- the former text: what the definitions of the same names said
@@ -27,7 +27,7 @@ testRecounting s b =
     s
     (cond
     (any (strictlyContains b) (s .own))
-    (record { outcome = mixed; own = s .own; known = s .known })
+    (record { outcome = mixed (hiddenBy (s .own) b); own = s .own; known = s .known })
     (cond
     (not (listed (s .known) b) && leb mostConditions (length (s .known)))
     (record { outcome = wide; own = s .own; known = s .known })
@@ -72,9 +72,9 @@ offer-as-before s b e = go (s .outcome) (tested (listed (s .own) b) (any (strict
     either false = refl
 
     tested : (l m k : Bool)
-        → untallied (cond l s (cond m (ending s mixed) (cond (not k && leb mostConditions (s .tally)) (ending s wide) (appending s b))))
+        → untallied (cond l s (cond m (ending s (mixed (hiddenBy (s .own) b))) (cond (not k && leb mostConditions (s .tally)) (ending s wide) (appending s b))))
         ≡ cond l (untallied s)
-        (cond m (record { outcome = mixed; own = s .own; known = s .known })
+        (cond m (record { outcome = mixed (hiddenBy (s .own) b); own = s .own; known = s .known })
         (cond (not k && leb mostConditions (length (s .known)))
         (record { outcome = wide; own = s .own; known = s .known })
         (record { outcome = neither; own = s .own ++ (b ∷ []); known = adjoin (s .known) b })))
@@ -87,7 +87,7 @@ offer-as-before s b e = go (s .outcome) (tested (listed (s .own) b) (any (strict
     go : (o : Outcome) → untallied (test s b) ≡ testRecounting (untallied s) b
         → untallied (unlessEnded o (test s b) s) ≡ unlessEnded o (testRecounting (untallied s) b) (untallied s)
     go neither h = h
-    go mixed h = refl
+    go (mixed places) h = refl
     go wide h = refl
 
 try-as-before : (b : Bag) (s : Search) (m : Move) → Tallied s → untallied (try b s m) ≡ tryRecounting b (untallied s) m

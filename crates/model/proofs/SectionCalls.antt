@@ -17,7 +17,8 @@ use Rattle.laws.proofs.Fronts.{upTo-next}
 use Rattle.model.specs.Answer.{Answer, refused, accepted, _>>=_, _>>_, need}
 use Rattle.model.specs.Card.{Task, decode}
 use Rattle.model.specs.Spaces.{spaces}
-use Rattle.model.specs.Lines.{Analysis, analyse, analysis, closingLines, spaceSections, sections}
+use Rattle.model.specs.Analysis.{Analysis, analyse, analysis}
+use Rattle.model.specs.Lines.{closingLines, spaceSections, sections}
 use Rattle.model.specs.Text.{text}
 use Rattle.model.specs.Calls.{Call, outputBytes, finish, output, section, printed, program}
 use Rattle.model.proofs.Answers.{accepted-not-refused, one-value, by-answer}

@@ -7,13 +7,13 @@ use lib.Dec.{eqb}
 use lib.ListN.{length, getD}
 use native.Mathlib.Omega.{arith}
 use borrow.Author.Tests.{eqb-true, eq-eqb}
-use Rattle.laws.specs.Lists.{any, all, upTo, member, distinct}
+use Rattle.laws.specs.Lists.{any, all, keep, upTo, member}
 use Rattle.laws.specs.Bags.{isEmpty, support}
 use Rattle.laws.proofs.Tests.{cond-true, and-intro, and-false-left, or-right, or-false-left, or-false-right, not-true, to-not-true, by-test, or-neutral}
 use Rattle.laws.proofs.Lists.{all-intro, any-at, any-intro, any-false, keep-at, keep-intro, upTo-intro}
 use Rattle.laws.proofs.Bags.{support-at}
 use Rattle.laws.proofs.Mapped.{map-fixed}
-use Rattle.laws.proofs.Numbers.{distinct-keep, distinct-upTo, member-keep-upTo, kept-below}
+use Rattle.laws.proofs.Numbers.{InOrder, kept-in-order, member-keep-upTo, kept-below}
 use Rattle.laws.proofs.Closure.{repeat-adds, repeat-leaves}
 use Rattle.model.specs.Card.{Task}
 use Rattle.model.specs.Transitions.{Transition, properties, transitions}
@@ -123,14 +123,24 @@ module _ (t : Task) where
       (and-intro (member c (found .0 .properties)) (member o (found .0 .members)) (found .2) (inside (found .0) (found .1) (found .2)))
 
   module _ (s : Space) (m : List·Memᴰ s (spaces t)) where
-    -- the properties of a space are properties of the task, each once
+    -- the properties of a space are properties of the task, in their order
     pub properties-known : (c : ℕ) → member c (s .properties) ≡ true → c < length (properties t)
     unfolding spaceWith
     properties-known c = of-labels (λ u. member c (u .properties) ≡ true → c < length (properties t)) (λ l k e. at-label l c e .0) s m
 
-    pub properties-distinct : distinct (s .properties) ≡ true
+    pub properties-in-order : InOrder (length (properties t)) (s .properties)
     unfolding spaceWith propertiesAt
-    properties-distinct = of-labels (λ u. distinct (u .properties) ≡ true) (λ l k. distinct-keep _ _ (distinct-upTo _)) s m
+    properties-in-order =
+        of-labels (λ u. InOrder (length (properties t)) (u .properties))
+        (λ l k.
+        subst (λ (n : ℕ). InOrder n (propertiesAt t l)) (lowest .sized)
+        (kept-in-order (λ d. eqb (getD (groups t) d 0) l) (length (groups t))))
+        s m
+
+    -- its rules are those that move one of its properties
+    pub rules-moving : s .rules ≡ keep (moves (s .properties)) (transitions t)
+    unfolding spaceWith rulesAt
+    rules-moving = of-labels (λ u. u .rules ≡ keep (moves (u .properties)) (transitions t)) (λ l k. refl) s m
 
     -- a rule that moves one property of a space is a rule of the space, and moves no other properties
     pub rule-in-one-space : (r : Transition) → List·Memᴰ r (transitions t) → (c : ℕ) → List·Memᴰ c (moved r)
@@ -204,14 +214,10 @@ module _ (t : Task) where
         (to-not-true (isEmpty (condition t (propertiesAt t l) (t .facts) o)) e))
         s m
 
-    -- members are objects of the task, each once
-    pub members-known : (o : ℕ) → member o (s .members) ≡ true → o < t .objects
+    -- members are objects of the task in their order
+    pub members-in-order : InOrder (t .objects) (s .members)
     unfolding spaceWith
-    members-known o = of-labels (λ u. member o (u .members) ≡ true → o < t .objects) (λ l k. kept-below _ (t .objects) o) s m
-
-    pub members-distinct : distinct (s .members) ≡ true
-    unfolding spaceWith
-    members-distinct = of-labels (λ u. distinct (u .members) ≡ true) (λ l k. distinct-keep _ _ (distinct-upTo _)) s m
+    members-in-order = of-labels (λ u. InOrder (t .objects) (u .members)) (λ l k. kept-in-order (λ o. belongs t o l) (t .objects)) s m
 
     -- a space whose rules all have a start has the initial members alone
     fixed-members : ((r : Transition) → List·Memᴰ r (s .rules) → isEmpty (r .start) ≡ false) → (o : ℕ) → member o (s .members) ≡ true

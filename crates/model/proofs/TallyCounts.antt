@@ -15,8 +15,8 @@ use Rattle.laws.proofs.Tests.{and-right}
 use Rattle.laws.proofs.Counting.{NoRepeat, no-repeat-length}
 use Rattle.model.specs.Card.{Task}
 use Rattle.model.specs.Spaces.{Space, condition}
-use Rattle.model.specs.Lines.{initialConditions}
-use Rattle.model.specs.Extension.{Move, Outcome, neither, mixed, wide, Search, Extension, mostConditions, adjoin}
+use Rattle.model.specs.Analysis.{initialConditions}
+use Rattle.model.specs.Extension.{Move, Outcome, neither, mixed, wide, Search, Extension, mostConditions, adjoin, hiddenBy}
 use Rattle.model.specs.Extension.{ending, appending, starting, test, unlessEnded, offer, explore, extendFrom, extend, joined}
 use Rattle.model.proofs.JoinedLists.{adjoin-there, adjoin-all-once, joined-last, joined-has, joined-from, joined-once, joined-one}
 use Rattle.model.proofs.OwnLists.{Onward, Tallied, offer-takes, explore-keeps, own-list-of, mixed-closed, wide-closed, wide-not-mixed}
@@ -95,7 +95,7 @@ module _ (moves : List Move) (initial : List Bag) where
       → (o : Outcome) → s .outcome ≡ o → EndsAt initial (unlessEnded o later (record { outcome = o; lists = lists }))
   unfolding unlessEnded
   ends-by lists s stage later ends neither e = ends e
-  ends-by lists s stage later ends mixed e = record { lists = lists; last = s; stage = stage; outcome = sym e; all = mixed-closed }
+  ends-by lists s stage later ends (mixed places) e = record { lists = lists; last = s; stage = stage; outcome = sym e; all = mixed-closed }
   ends-by lists s stage later ends wide e = record { lists = lists; last = s; stage = stage; outcome = sym e; all = wide-closed }
 
   extendFrom-ends : (lists : List (List Bag)) (known : List Bag) (tally : ℕ) (b : Bag) (bags : List Bag)
@@ -159,7 +159,8 @@ unfolding offer unlessEnded test
 offer-wide s b before = go (s .outcome) refl
   where
     tested : (l m w : Bool) → s .outcome ≡ neither → (not (listed (s .known) b) && leb mostConditions (s .tally)) ≡ w
-        → (let t : Search = cond l s (cond m (ending s mixed) (cond w (ending s wide) (appending s b))) in t .outcome ≡ wide → mostConditions ≤ t .tally)
+        → (let t : Search = cond l s (cond m (ending s (mixed (hiddenBy (s .own) b))) (cond w (ending s wide) (appending s b))) in
+        t .outcome ≡ wide → mostConditions ≤ t .tally)
     tested true m w e p f = wide-closed (sym f ∙ e)
     tested false true w e p f = wide-not-mixed (sym f)
     tested false false true e p f =
@@ -170,7 +171,7 @@ offer-wide s b before = go (s .outcome) refl
         → (let t : Search = unlessEnded o (test s b) s in t .outcome ≡ wide → mostConditions ≤ t .tally)
     go neither e =
         tested (listed (s .own) b) (any (strictlyContains b) (s .own)) (not (listed (s .known) b) && leb mostConditions (s .tally)) e refl
-    go mixed e = before
+    go (mixed places) e = before
     go wide e = before
 
 wide-full : {initial : List Bag} {lists : List (List Bag)} {s : Search} → Stage initial lists s → s .outcome ≡ wide → mostConditions ≤ s .tally

@@ -16,7 +16,7 @@ use Rattle.laws.specs.Lists.{all, same}
 use Rattle.laws.proofs.Tests.{never, and-left, and-right, and-intro, to-not-false, by-test}
 use Rattle.laws.proofs.Lists.{same-eq}
 use Rattle.laws.proofs.Reading.{all-append, all-weaken}
-use Rattle.model.specs.Spaces.{Kind, static, attribute, property, mixed, wide}
+use Rattle.model.specs.Spaces.{Kind, static, attribute, property, mixed, wide, rescued}
 use Rattle.model.specs.Lines.{Line, space, state, limit, membership, exclusion, nesting, total, ceiling, types}
 use Rattle.model.specs.Text.{digitsWithin, decimal, kindLetter, colon, items, spaced, lineText, text}
 
@@ -167,6 +167,7 @@ kind-plain attribute = refl
 kind-plain property = refl
 kind-plain mixed = refl
 kind-plain wide = refl
+kind-plain rescued = refl
 
 colon-plain : plain colon
 unfolding all
@@ -191,7 +192,8 @@ items-lettered (types n k objects) =
 -- the kind of a letter
 kindFrom : ℕ → Kind
 kindFrom letter =
-    cond (eqb letter 83) static (cond (eqb letter 65) attribute (cond (eqb letter 80) property (cond (eqb letter 77) mixed wide)))
+    cond (eqb letter 83) static (cond (eqb letter 65) attribute (cond (eqb letter 80) property
+    (cond (eqb letter 77) mixed (cond (eqb letter 87) wide rescued))))
 
 kind-again : (k : Kind) → kindFrom (kindLetter k) ≡ k
 unfolding kindFrom kindLetter
@@ -200,6 +202,7 @@ kind-again attribute = refl
 kind-again property = refl
 kind-again mixed = refl
 kind-again wide = refl
+kind-again rescued = refl
 
 -- the items in front of a colon, and those behind it
 beforeColon : List (List ℕ) → List (List ℕ)

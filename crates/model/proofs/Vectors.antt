@@ -11,6 +11,8 @@ use Rattle.model.specs.Strips.{strips-opens}
 use Rattle.model.specs.Transitions.{transitions-open}
 use Rattle.model.specs.Spaces.{spaces-open}
 use Rattle.model.specs.Extension.{extension-opens}
+use Rattle.model.specs.Analysis.{analysis-opens}
+use Rattle.model.specs.Rescue.{rescue-opens}
 use Rattle.model.specs.Lines.{lines-open}
 use Rattle.model.specs.Text.{text-opens}
 use Rattle.model.specs.Calls.{calls-open}
@@ -26,11 +28,13 @@ use Rattle.model.specs.Vectors.{atoms-first, list-of-9, two-open, after-
 use Rattle.model.specs.Vectors.{in-state-order, nothing-comes, both-asked, malformed-asked, asking-refused, no-room-asked}
 use Rattle.model.specs.Vectors.{still-so, coming-differs, going-differs, filler-differs, order-differs, row-repeated, rows-missing}
 use Rattle.model.specs.Vectors.{checks-first, room-first, committed-and-asked}
+use Rattle.model.specs.Vectors.{rescued-switch, member-left-out, no-total-rescued, first-contained, own-list-alone, rescued-twice}
+use Rattle.model.specs.Vectors.{rule-emptied, start-emptied, finish-emptied, no-property-left, no-member-left, rescue-wide}
 
 -- opens every definition, for what is proved by computation
 unfoldable pub definitions-open : Unit {0}
 unfolding
-    flatMap lists-open bags-open answer-opens card-opens writer-opens strips-opens transitions-open spaces-open extension-opens
+    flatMap lists-open bags-open answer-opens card-opens writer-opens strips-opens transitions-open spaces-open extension-opens analysis-opens rescue-opens
     lines-open text-opens calls-open open-opens preview-opens histories-open vectors-open
 definitions-open = tt
 
@@ -242,6 +246,54 @@ committed-and-asked-holds : Holds committed-and-asked
 unfolding definitions-open
 committed-and-asked-holds = refl
 
+rescued-switch-holds : Holds rescued-switch
+unfolding definitions-open
+rescued-switch-holds = refl
+
+member-left-out-holds : Holds member-left-out
+unfolding definitions-open
+member-left-out-holds = refl
+
+no-total-rescued-holds : Holds no-total-rescued
+unfolding definitions-open
+no-total-rescued-holds = refl
+
+first-contained-holds : Holds first-contained
+unfolding definitions-open
+first-contained-holds = refl
+
+own-list-alone-holds : Holds own-list-alone
+unfolding definitions-open
+own-list-alone-holds = refl
+
+rescued-twice-holds : Holds rescued-twice
+unfolding definitions-open
+rescued-twice-holds = refl
+
+rule-emptied-holds : Holds rule-emptied
+unfolding definitions-open
+rule-emptied-holds = refl
+
+start-emptied-holds : Holds start-emptied
+unfolding definitions-open
+start-emptied-holds = refl
+
+finish-emptied-holds : Holds finish-emptied
+unfolding definitions-open
+finish-emptied-holds = refl
+
+no-property-left-holds : Holds no-property-left
+unfolding definitions-open
+no-property-left-holds = refl
+
+no-member-left-holds : Holds no-member-left
+unfolding definitions-open
+no-member-left-holds = refl
+
+rescue-wide-holds : Holds rescue-wide
+unfolding definitions-open
+rescue-wide-holds = refl
+
 -- each entry of a list holds
 infixr 5 _and_
 data AllHold : List Entry → Type 0 where
@@ -309,6 +361,18 @@ every-entry =
     and checks-first-holds
     and room-first-holds
     and committed-and-asked-holds
+    and rescued-switch-holds
+    and member-left-out-holds
+    and no-total-rescued-holds
+    and first-contained-holds
+    and own-list-alone-holds
+    and rescued-twice-holds
+    and rule-emptied-holds
+    and start-emptied-holds
+    and finish-emptied-holds
+    and no-property-left-holds
+    and no-member-left-holds
+    and rescue-wide-holds
     and none
 
 -- every entry of the table holds

@@ -5,6 +5,8 @@ pub mod Strips
 pub mod Transitions
 pub mod Spaces
 pub mod Extension
+pub mod Analysis
+pub mod Rescue
 pub mod Lines
 pub mod Text
 pub mod Calls

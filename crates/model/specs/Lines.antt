@@ -1,17 +1,17 @@
--- Document 01, "Listing": the lines of each section; and document 02, No. 2: the E lines.
+-- Document 01, "Listing": the lines of each section; and document 02, No. 2: the E lines, and No. 5: the lines of a rescued space.
 use Prim.Native.Nat.{ℕ, suc, _+_, _*_, max}
 use mathlib.Core.Bool.{Bool, cond, not, _&&_}
-use mathlib.Core.List.{List, [], _∷_, _++_, map, flatMap, foldl}
+use mathlib.Core.List.{List, [], _∷_, _++_, map, flatMap}
 use lib.Dec.{leb, eqb}
 use lib.ListN.{length, getD, take}
 use Rattle.laws.specs.Lists.{any, all, keep, count, upTo, sum, member}
-use Rattle.laws.specs.Bags.{Bag, strictlyContains, strictlyWithin, covers, restrict, support}
+use Rattle.laws.specs.Bags.{Bag, strictlyContains, strictlyWithin, covers, support}
 use Rattle.model.specs.Card.{Atom, Schema, Task}
 use Rattle.model.specs.Transitions
 use Rattle.model.specs.Transitions.{bagOf}
-use Rattle.model.specs.Spaces.{Space, Kind, static, attribute, property, mixed, wide, condition, kindOf, hasMember, spaces}
-use Rattle.model.specs.Extension
-use Rattle.model.specs.Extension.{Move, Outcome, adjoin, extend, joined}
+use Rattle.model.specs.Spaces.{Space, Kind, hasMember}
+use Rattle.model.specs.Analysis.{Analysis, analysis}
+use Rattle.model.specs.Rescue.{rescues}
 
 -- A line of the listing; its letter in document 01 stands behind it.
 pub data Line : Type 0 where
@@ -24,52 +24,6 @@ pub data Line : Type 0 where
   total : ℕ → ℕ → Line  -- F: predicate, total
   ceiling : ℕ → ℕ → Line  -- C: predicate, most facts
   types : ℕ → ℕ → List ℕ → Line  -- R: schema, parameter, objects
-
--- the rules of a space over its own properties
-unfoldable pub movesOf : Space → List Move
-movesOf s =
-    map
-    (λ r. record { start = restrict (s .properties) (r .start); finish = restrict (s .properties) (r .finish) })
-    (s .rules)
-
--- the distinct initial conditions of the members, in object order
-unfoldable pub initialConditions : Task → Space → List Bag
-initialConditions t s = foldl adjoin [] (map (condition t (s .properties) (t .facts)) (s .members))
-
--- how a property space is listed: P if its extension ends neither way, with the own lists joined
-unfoldable pub kindFor : Outcome → Kind
-kindFor Outcome.neither = property
-kindFor Outcome.mixed = mixed
-kindFor Outcome.wide = wide
-
--- A space with its kind and the conditions that are listed for it.
-pub record Analysis : Type 0 where
-  pub space : Space
-  pub kind : Kind
-  pub conditions : List Bag
-
-unfoldable pub conditionsFor : Outcome → List (List Bag) → List Bag
-conditionsFor Outcome.neither lists = joined lists
-conditionsFor Outcome.mixed lists = []
-conditionsFor Outcome.wide lists = []
-
-unfoldable pub analysePropertySpace : Task → Space → Analysis
-analysePropertySpace t s =
-    let e = extend (movesOf s) (initialConditions t s) in
-    record { space = s; kind = kindFor (e .outcome); conditions = conditionsFor (e .outcome) (e .lists) }
-
-unfoldable pub analyseAs : Kind → Task → Space → Analysis
-analyseAs static t s = record { space = s; kind = static; conditions = [] }
-analyseAs attribute t s = record { space = s; kind = attribute; conditions = [] }
-analyseAs property t s = analysePropertySpace t s
-analyseAs mixed t s = analysePropertySpace t s
-analyseAs wide t s = analysePropertySpace t s
-
-unfoldable pub analyse : Task → Space → Analysis
-analyse t s = analyseAs (kindOf (s .rules)) t s
-
-unfoldable pub analysis : Task → List Analysis
-analysis t = map (analyse t) (spaces t)
 
 -- the count of property c in a condition over these properties
 unfoldable pub countOf : List ℕ → ℕ → Bag → ℕ
@@ -115,7 +69,7 @@ surrounding bags i = keep (λ j. strictlyWithin (getD bags i []) (getD bags j []
 unfoldable pub nestings : List Bag → List Line
 nestings bags = flatMap (λ i. map (nesting i) (surrounding bags i)) (upTo (length bags))
 
--- the section of a space: S and, for P, all T, all M, all D, all X, all E
+-- the lines of a space: S and, for P and H, all T, all M, all D, all X, all E
 unfoldable pub spaceLines : Task → ℕ → Analysis → List Line
 spaceLines t n a =
     space n (a .kind) (a .space .properties) (a .space .members)
@@ -123,9 +77,13 @@ spaceLines t n a =
     ++ map membership (minimal (a .conditions)) ++ exclusions (a .conditions) (minimal (a .conditions))
     ++ nestings (a .conditions))
 
+-- the section of a space: its lines and, directly after the S line of a mixed space, those of its rescue, under the same number
+unfoldable pub sectionLines : Task → ℕ → Analysis → List Line
+sectionLines t n a = flatMap (spaceLines t n) (a ∷ rescues t a)
+
 unfoldable pub spaceSections : Task → ℕ → List Analysis → List (List Line)
 spaceSections t n [] = []
-spaceSections t n (a ∷ analyses) = spaceLines t n a ∷ spaceSections t (suc n) analyses
+spaceSections t n (a ∷ analyses) = sectionLines t n a ∷ spaceSections t (suc n) analyses
 
 -- the number of the property of predicate p at position i
 unfoldable pub propertyNumber : Task → ℕ → ℕ → ℕ
@@ -184,7 +142,6 @@ sections t = let analyses = analysis t in spaceSections t 0 analyses ++ (closing
 -- opens every definition of this module, for what is proved by computation
 unfoldable pub lines-open : Unit {0}
 unfolding
-    movesOf initialConditions kindFor conditionsFor analysePropertySpace analyseAs analyse analysis countOf largest arityOf
-    limits minimal excluded exclusions surrounding nestings spaceLines spaceSections propertyNumber oneNumber totalsBy totals ofPredicate ceilings
-    typesOf typeLines closingLines sections
+    countOf largest arityOf limits minimal excluded exclusions surrounding nestings spaceLines sectionLines spaceSections propertyNumber
+    oneNumber totalsBy totals ofPredicate ceilings typesOf typeLines closingLines sections
 lines-open = tt

@@ -37,7 +37,7 @@ pub record Space : Type 0 where
   pub rules : List Transition
   pub members : List ℕ
 
--- the rule has a start or finish property among these; all of them are then, as they share a space
+-- the rule has a start or finish property among these. Of a space it then has no other: they share a space
 unfoldable pub moves : List ℕ → Transition → Bool
 moves properties r = any (λ c. member c properties) (moved r)
 
@@ -91,13 +91,14 @@ rounds t (suc n) spaces = rounds t n (round t spaces)
 unfoldable pub spaces : Task → List Space
 spaces t = let opening = initialSpaces t in rounds t (length opening) opening
 
--- The kind of a space; a property space may turn out mixed or wide as its conditions are listed.
+-- The kind of a space; a property space may turn out mixed or wide as its conditions are listed, and a mixed one may be rescued.
 pub data Kind : Type 0 where
   static : Kind
   attribute : Kind
   property : Kind
   mixed : Kind
   wide : Kind
+  rescued : Kind  -- H: what is left of a mixed space without its hidden attributes (document 02, No. 5)
 
 -- no rule: static. Some rule with empty start or finish: attribute. Others are property spaces
 unfoldable pub kindOf : List Transition → Kind

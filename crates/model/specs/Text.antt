@@ -3,7 +3,7 @@ use Prim.Native.Nat.{ℕ, zero, suc, _+_, _/_, _%_}
 use mathlib.Core.Bool.{cond}
 use mathlib.Core.List.{List, [], _∷_, _++_, map, flatMap}
 use lib.Dec.{ltb}
-use Rattle.model.specs.Spaces.{Kind, static, attribute, property, mixed, wide}
+use Rattle.model.specs.Spaces.{Kind, static, attribute, property, mixed, wide, rescued}
 use Rattle.model.specs.Lines.{Line, space, state, limit, membership, exclusion, nesting, total, ceiling, types}
 
 -- at most so many decimal digits of a number
@@ -23,6 +23,7 @@ kindLetter attribute = 65
 kindLetter property = 80
 kindLetter mixed = 77
 kindLetter wide = 87
+kindLetter rescued = 72
 
 abbrev pub colon : List ℕ
 colon = 58 ∷ []

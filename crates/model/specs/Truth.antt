@@ -3,13 +3,14 @@
 -- Let C be an accepted card and S the state after any history of presses on C. Each member of a property space listed as P has in S
 -- a condition that the listing gives for that space. An object outside a space has none of that space's properties. Every limit,
 -- membership, exclusion, fixed total and ceiling listed for C is true of S. A press that S allows puts into each role an object
--- listed for that role. Document 02, No. 2: an E line names two of a space's conditions, the first strictly within the second.
+-- listed for that role. Document 02, No. 2: an E line names two of a space's conditions, the first strictly within the second. No. 5: what
+-- holds of P spaces holds of H spaces too.
 --
 -- `Holds t S` says this of a task t and a state S, over the lines of the sections whose text the listing call writes
 -- (`Calls.section`). That it is so after every history is the theorem `listing-holds` of proofs/ListingHolds.antt.
 use Prim.Native.Nat.{ℕ, _≤_, _<_}
 use mathlib.Core.Path.{_≡_}
-use mathlib.Core.Bool.{true, false, _&&_}
+use mathlib.Core.Bool.{Bool, true, false, _&&_}
 use mathlib.Core.List.{List, [], _∷_, List·Memᴰ}
 use lib.ListN.{length, getD}
 use Rattle.laws.specs.Lists.{member}
@@ -19,7 +20,7 @@ use Rattle.model.specs.Card.{Task}
 use Rattle.model.specs.Strips.{State, Action, schemaAt, checkAction, applicable}
 use Rattle.model.specs.Transitions
 use Rattle.model.specs.Transitions.{bagOf}
-use Rattle.model.specs.Spaces.{Kind, property, condition}
+use Rattle.model.specs.Spaces.{Kind, static, attribute, property, mixed, wide, rescued, condition}
 use Rattle.model.specs.Lines.{Line, space, state, limit, membership, exclusion, nesting, total, ceiling, types, ofPredicate}
 use Rattle.model.specs.Lines.{sections}
 
@@ -32,7 +33,16 @@ infix 5 _isSectionOf_
 abbrev pub _isSectionOf_ : List Line → Task → Type 0
 lines isSectionOf t = List·Memᴰ lines (sections t)
 
--- the conditions that a section gives: the counts of its T lines, in order
+-- a space of this kind is listed with its conditions: P, and H, where a mixed space was rescued
+unfoldable pub givesConditions : Kind → Bool
+givesConditions static = false
+givesConditions attribute = false
+givesConditions property = true
+givesConditions mixed = false
+givesConditions wide = false
+givesConditions rescued = true
+
+-- the conditions that a section gives: the counts of its T lines, in order. At most one space of a section is listed with conditions
 unfoldable pub statesOf : List Line → List Bag
 statesOf [] = []
 statesOf (space n kind properties members ∷ lines) = statesOf lines
@@ -57,11 +67,11 @@ pub record Allowed (t : Task) (s : State) (a : Action) : Type 0 where
 
 -- Each clause of demand 3, of a task t and a state s.
 
--- each member of a space listed as P has a condition that the listing gives for that space
+-- each member of a space listed as P or H has a condition that the listing gives for that space
 abbrev pub StatesListed : Task → State → Type 0
 StatesListed t s =
-    (lines : List Line) (n : ℕ) (properties members : List ℕ) (o : ℕ) → lines isSectionOf t
-    → space n property properties members isOn lines → member o members ≡ true
+    (lines : List Line) (n : ℕ) (kind : Kind) (properties members : List ℕ) (o : ℕ) → lines isSectionOf t
+    → space n kind properties members isOn lines → givesConditions kind ≡ true → member o members ≡ true
     → state (condition t properties s o) isOn lines
 
 -- an object outside a space, of whatever kind, has none of that space's properties
@@ -75,18 +85,18 @@ NoneOutside t s =
 abbrev pub LimitsTrue : Task → State → Type 0
 LimitsTrue t s = (lines : List Line) (c most o : ℕ) → lines isSectionOf t → limit c most isOn lines → countIn t s o c ≤ most
 
--- the condition of each member of a P space contains one of that space's D conditions
+-- the condition of each member of a P or H space contains one of that space's D conditions
 abbrev pub MembershipsTrue : Task → State → Type 0
 MembershipsTrue t s =
-    (lines : List Line) (n : ℕ) (properties members : List ℕ) (o : ℕ) → lines isSectionOf t
-    → space n property properties members isOn lines → member o members ≡ true
+    (lines : List Line) (n : ℕ) (kind : Kind) (properties members : List ℕ) (o : ℕ) → lines isSectionOf t
+    → space n kind properties members isOn lines → givesConditions kind ≡ true → member o members ≡ true
     → (i : ℕ) × (membership i isOn lines) × (contains (condition t properties s o) (getD (statesOf lines) i []) ≡ true)
 
 -- no member's condition contains both of an X
 abbrev pub ExclusionsTrue : Task → State → Type 0
 ExclusionsTrue t s =
     (lines : List Line) (n : ℕ) (kind : Kind) (properties members : List ℕ) (o i j : ℕ) → lines isSectionOf t
-    → space n kind properties members isOn lines → member o members ≡ true → exclusion i j isOn lines
+    → space n kind properties members isOn lines → givesConditions kind ≡ true → member o members ≡ true → exclusion i j isOn lines
     → (contains (condition t properties s o) (getD (statesOf lines) i [])
     && contains (condition t properties s o) (getD (statesOf lines) j []))
     ≡ false

@@ -11,7 +11,7 @@ use Rattle.laws.specs.Lists.{from, upTo}
 use Rattle.model.specs.Answer.{Answer, refused, accepted}
 use Rattle.model.specs.Card.{Atom, Task, decode}
 use Rattle.model.specs.Strips.{Action, stateBytes, factBytes, factsIn}
-use Rattle.model.specs.Lines.{Analysis, analysis}
+use Rattle.model.specs.Analysis.{Analysis, analysis}
 use Rattle.model.specs.Text.{kindLetter}
 use Rattle.model.specs.Calls.{Call, Standing, encode, initial, press, pressed, section, program, history, stateOf, counted}
 use Rattle.model.specs.Open.{bindings, openAfter, nextOpen, oneByOne}
@@ -195,6 +195,80 @@ bare = 2 ∷ 1 ∷ 1 ∷ 1 ∷ 1 ∷ 0x0E ∷ 1 ∷ 0 ∷ 0 ∷ 1 ∷ 0 ∷ 0 �
 unfoldable pub growing : List ℕ
 growing = 3 ∷ 1 ∷ 1 ∷ 1 ∷ 1 ∷ 2 ∷ 0x0A ∷ 1 ∷ 0 ∷ 0 ∷ 1 ∷ 1 ∷ 0 ∷ 0x0A ∷ 1 ∷ 1 ∷ 0 ∷ 1 ∷ 2 ∷ 0 ∷ 0 ∷ 1 ∷ 0 ∷ 0 ∷ []
 
+-- a list of atoms of these predicates, of role 0 each
+unfoldable pub ofRole0 : List ℕ → List ℕ
+ofRole0 predicates = length predicates ∷ flatMap (λ p. p ∷ 0 ∷ []) predicates
+
+-- a schema with one role that takes these predicates, of arity 1, and adds those
+unfoldable pub trade : List ℕ → List ℕ → List ℕ
+trade taken added = 0x0E ∷ ofRole0 taken ++ ofRole0 taken ++ ofRole0 added
+
+-- the card of these arities, with so many objects, these schemas and these facts
+unfoldable pub cardWith : List ℕ → ℕ → List (List ℕ) → List (List ℕ) → List ℕ
+cardWith arities objects schemas facts =
+    length arities ∷ arities
+    ++ (objects ∷ length schemas ∷ flatMap (λ schema. schema) schemas ++ (0 ∷ length facts ∷ flatMap (λ fact. fact) facts))
+
+-- K5's rules with another object: off(0), touched(1)
+unfoldable pub touching : List ℕ
+touching =
+    cardWith (1 ∷ 1 ∷ 1 ∷ []) 2 (trade (1 ∷ []) (0 ∷ 2 ∷ []) ∷ trade (0 ∷ []) (1 ∷ 2 ∷ []) ∷ []) ((1 ∷ 0 ∷ []) ∷ (2 ∷ 1 ∷ []) ∷ [])
+
+-- K5's rules, and sealed/1, broken/1: a rule takes sealed(X) and broken(X) and adds on(X); off(0), sealed(0)
+unfoldable pub sealing : List ℕ
+sealing =
+    cardWith (1 ∷ 1 ∷ 1 ∷ 1 ∷ 1 ∷ []) 1
+    (trade (1 ∷ []) (0 ∷ 2 ∷ []) ∷ trade (0 ∷ []) (1 ∷ 2 ∷ []) ∷ trade (3 ∷ 4 ∷ []) (0 ∷ []) ∷ [])
+    ((1 ∷ 0 ∷ []) ∷ (3 ∷ 0 ∷ []) ∷ [])
+
+-- a/1, b/1, c/1; a gives c, c gives a and b; a(0), c(0)
+unfoldable pub surpassing : List ℕ
+surpassing =
+    cardWith (1 ∷ 1 ∷ 1 ∷ []) 1 (trade (0 ∷ []) (2 ∷ []) ∷ trade (2 ∷ []) (0 ∷ 1 ∷ []) ∷ []) ((0 ∷ 0 ∷ []) ∷ (2 ∷ 0 ∷ []) ∷ [])
+
+-- a/1, b/1, c/1, d/1; a gives b, b gives c, c gives b and d; a(0), d(1)
+unfoldable pub returning : List ℕ
+returning =
+    cardWith (1 ∷ 1 ∷ 1 ∷ 1 ∷ []) 2
+    (trade (0 ∷ []) (1 ∷ []) ∷ trade (1 ∷ []) (2 ∷ []) ∷ trade (2 ∷ []) (1 ∷ 3 ∷ []) ∷ [])
+    ((0 ∷ 0 ∷ []) ∷ (3 ∷ 1 ∷ []) ∷ [])
+
+-- a/1, b/1, c/1, d/1; b gives a and c, c gives b, c gives b and d; b(0)
+unfoldable pub wearing : List ℕ
+wearing =
+    cardWith (1 ∷ 1 ∷ 1 ∷ 1 ∷ []) 1
+    (trade (1 ∷ []) (0 ∷ 2 ∷ []) ∷ trade (2 ∷ []) (1 ∷ []) ∷ trade (2 ∷ []) (1 ∷ 3 ∷ []) ∷ [])
+    ((1 ∷ 0 ∷ []) ∷ [])
+
+-- a/1, b/1, c/1, d/1; a gives b and d, b gives a and what is named here, and one more rule; a(0)
+unfoldable pub swinging : List ℕ → List ℕ → List ℕ
+swinging more rule =
+    cardWith (1 ∷ 1 ∷ 1 ∷ 1 ∷ []) 1 (trade (0 ∷ []) (1 ∷ 3 ∷ []) ∷ trade (1 ∷ []) (0 ∷ more) ∷ rule ∷ []) ((0 ∷ 0 ∷ []) ∷ [])
+
+-- p/2, q/2: the schema with roles X, Y, Z, W that takes p(X,Y) and adds q(X,Y), q(X,Z) and q(X,W), and the one with roles X, Y, Z that
+-- takes q(X,Y) and q(X,Z) and adds p(X,Y) and p(X,Z)
+unfoldable pub tripling : List (List ℕ)
+tripling =
+    (0x0F ∷ 4 ∷ 1 ∷ 0 ∷ 0 ∷ 1 ∷ 1 ∷ 0 ∷ 0 ∷ 1 ∷ 3 ∷ 1 ∷ 0 ∷ 1 ∷ 1 ∷ 0 ∷ 2 ∷ 1 ∷ 0 ∷ 3 ∷ [])
+    ∷ (0x0F ∷ 3 ∷ 2 ∷ 1 ∷ 0 ∷ 1 ∷ 1 ∷ 0 ∷ 2 ∷ 2 ∷ 1 ∷ 0 ∷ 1 ∷ 1 ∷ 0 ∷ 2 ∷ 2 ∷ 0 ∷ 0 ∷ 1 ∷ 0 ∷ 0 ∷ 2 ∷ [])
+    ∷ []
+
+-- r/1, s/1 besides, and a rule that takes p(X,Y) and r(X) and adds q(X,Y) and s(X); p(0,1)
+unfoldable pub triplingMore : List ℕ
+triplingMore =
+    cardWith (2 ∷ 2 ∷ 1 ∷ 1 ∷ []) 2
+    (tripling ++ ((0x0F ∷ 2 ∷ 2 ∷ 0 ∷ 0 ∷ 1 ∷ 2 ∷ 0 ∷ 2 ∷ 0 ∷ 0 ∷ 1 ∷ 2 ∷ 0 ∷ 2 ∷ 1 ∷ 0 ∷ 1 ∷ 3 ∷ 0 ∷ []) ∷ []))
+    ((0 ∷ 0 ∷ 1 ∷ []) ∷ [])
+
+-- p/2, q/2, off/1, on/1, touched/1; off gives on and touched, on gives off, and a rule takes p(X,Y) and adds q(X,Y) and touched(X);
+-- p(0,1) to p(0,8), off(0)
+unfoldable pub moving8 : List ℕ
+moving8 =
+    cardWith (2 ∷ 2 ∷ 1 ∷ 1 ∷ 1 ∷ []) 9
+    (trade (2 ∷ []) (3 ∷ 4 ∷ []) ∷ trade (3 ∷ []) (2 ∷ [])
+    ∷ (0x0F ∷ 2 ∷ 1 ∷ 0 ∷ 0 ∷ 1 ∷ 1 ∷ 0 ∷ 0 ∷ 1 ∷ 2 ∷ 1 ∷ 0 ∷ 1 ∷ 4 ∷ 0 ∷ []) ∷ [])
+    (map (λ i. 0 ∷ 0 ∷ i ∷ []) (from 1 8) ++ ((2 ∷ 0 ∷ []) ∷ []))
+
 unfoldable pub act : ℕ → List ℕ → Action
 act schema objects = record { schema = schema; objects = objects }
 
@@ -211,7 +285,7 @@ tableWith preconditions deletes adds =
       facts = unary 0 0 ∷ unary 1 0 ∷ [];
     }
 
--- A question and the answer that document 01 gives.
+-- A question and the answer that document 01 gives, or document 02.
 pub record Entry : Type 0 where
   pub question : Question
   pub expected : List (List ℕ)
@@ -291,6 +365,263 @@ swallowed-add =
 -- K5: M
 unfoldable pub mixed-space : Entry
 mixed-space = record { question = extends k5 0; expected = (77 ∷ 0 ∷ []) ∷ [] }
+
+-- document 02, No. 5. K5: the whole listing
+unfoldable pub rescued-switch : Entry
+rescued-switch =
+    record {
+      question = prints k5;
+      expected =
+          lines
+          ("S 0 M : 0 1 2 : 0"
+          ∷ "S 0 H : 0 1 : 0"
+          ∷ "T : 0 1"
+          ∷ "T : 1 0"
+          ∷ "D 0"
+          ∷ "D 1"
+          ∷ "X 0 1"
+          ∷ "R 0 0 : 0"
+          ∷ "R 1 0 : 0"
+          ∷ [])
+          ∷ [];
+    }
+
+-- an object that opens with touched alone is no member of what is left, though it is one for the roles
+unfoldable pub member-left-out : Entry
+member-left-out =
+    record {
+      question = prints touching;
+      expected =
+          lines
+          ("S 0 M : 0 1 2 : 0 1"
+          ∷ "S 0 H : 0 1 : 0"
+          ∷ "T : 0 1"
+          ∷ "T : 1 0"
+          ∷ "D 0"
+          ∷ "D 1"
+          ∷ "X 0 1"
+          ∷ "R 0 0 : 0 1"
+          ∷ "R 1 0 : 0 1"
+          ∷ [])
+          ∷ [];
+    }
+
+-- all conditions of what is left have sealed once and broken never, but totals come from P alone
+unfoldable pub no-total-rescued : Entry
+no-total-rescued =
+    record {
+      question = prints sealing;
+      expected =
+          lines
+          ("S 0 M : 0 1 2 3 4 : 0"
+          ∷ "S 0 H : 0 1 3 4 : 0"
+          ∷ "T : 0 1 1 0"
+          ∷ "T : 1 0 1 0"
+          ∷ "D 0"
+          ∷ "D 1"
+          ∷ "X 0 1"
+          ∷ "C 3 1"
+          ∷ "C 4 0"
+          ∷ "R 0 0 : 0"
+          ∷ "R 1 0 : 0"
+          ∷ "R 2 0 : 0"
+          ∷ [])
+          ∷ [];
+    }
+
+-- 1 1 1 contains 1 0 1, 0 0 1 and 1 1 0, in this order on its list: property 1 is dropped
+unfoldable pub first-contained : Entry
+first-contained =
+    record {
+      question = prints surpassing;
+      expected =
+          lines
+          ("S 0 M : 0 1 2 : 0"
+          ∷ "S 0 H : 0 2 : 0"
+          ∷ "T : 1 1"
+          ∷ "T : 0 2"
+          ∷ "T : 0 1"
+          ∷ "T : 2 0"
+          ∷ "T : 1 0"
+          ∷ "D 2"
+          ∷ "D 4"
+          ∷ "E 2 0"
+          ∷ "E 2 1"
+          ∷ "E 4 0"
+          ∷ "E 4 3"
+          ∷ "R 0 0 : 0"
+          ∷ "R 1 0 : 0"
+          ∷ [])
+          ∷ [];
+    }
+
+-- 0 1 0 1 contains the start 0 0 0 1 of the other object, but it is 0 1 0 0 on its own list that counts: property 3 is dropped
+unfoldable pub own-list-alone : Entry
+own-list-alone =
+    record {
+      question = prints returning;
+      expected =
+          lines
+          ("S 0 M : 0 1 2 3 : 0 1"
+          ∷ "S 0 H : 0 1 2 : 0"
+          ∷ "T : 1 0 0"
+          ∷ "T : 0 1 0"
+          ∷ "T : 0 0 1"
+          ∷ "D 0"
+          ∷ "D 1"
+          ∷ "D 2"
+          ∷ "X 0 1"
+          ∷ "X 0 2"
+          ∷ "X 1 2"
+          ∷ "C 0 1"
+          ∷ "R 0 0 : 0 1"
+          ∷ "R 1 0 : 0 1"
+          ∷ "R 2 0 : 0 1"
+          ∷ [])
+          ∷ [];
+    }
+
+-- what is left without property 0 is mixed again, by property 3, which is then at another place
+unfoldable pub rescued-twice : Entry
+rescued-twice =
+    record {
+      question = prints wearing;
+      expected =
+          lines
+          ("S 0 M : 0 1 2 3 : 0"
+          ∷ "S 0 H : 1 2 : 0"
+          ∷ "T : 1 0"
+          ∷ "T : 0 1"
+          ∷ "D 0"
+          ∷ "D 1"
+          ∷ "X 0 1"
+          ∷ "R 0 0 : 0"
+          ∷ "R 1 0 : 0"
+          ∷ "R 2 0 : 0"
+          ∷ [])
+          ∷ [];
+    }
+
+-- properties 2 and 3 are dropped, and with them the last rule, which has nothing left
+unfoldable pub rule-emptied : Entry
+rule-emptied =
+    record {
+      question = prints (swinging (2 ∷ []) (trade (3 ∷ []) (2 ∷ [])));
+      expected =
+          lines
+          ("S 0 M : 0 1 2 3 : 0"
+          ∷ "S 0 H : 0 1 : 0"
+          ∷ "T : 1 0"
+          ∷ "T : 0 1"
+          ∷ "D 0"
+          ∷ "D 1"
+          ∷ "X 0 1"
+          ∷ "R 0 0 : 0"
+          ∷ "R 1 0 : 0"
+          ∷ "R 2 0 : 0"
+          ∷ [])
+          ∷ [];
+    }
+
+-- property 3 is dropped, and the last rule has a finish but no start left: no rescue
+unfoldable pub start-emptied : Entry
+start-emptied =
+    record {
+      question = prints (swinging [] (trade (3 ∷ []) (2 ∷ [])));
+      expected =
+          lines
+          ("S 0 M : 0 1 2 3 : 0"
+          ∷ "R 0 0 : 0"
+          ∷ "R 1 0 : 0"
+          ∷ "R 2 0 : 0"
+          ∷ [])
+          ∷ [];
+    }
+
+-- the same with a start but no finish left
+unfoldable pub finish-emptied : Entry
+finish-emptied =
+    record {
+      question = prints (swinging [] (trade (2 ∷ []) (3 ∷ [])));
+      expected =
+          lines
+          ("S 0 M : 0 1 2 3 : 0"
+          ∷ "C 2 0"
+          ∷ "R 0 0 : 0"
+          ∷ "R 1 0 : 0"
+          ∷ "R 2 0 : 0"
+          ∷ [])
+          ∷ [];
+    }
+
+-- 2 1 contains 1 0, and both properties are dropped: no rescue
+unfoldable pub no-property-left : Entry
+no-property-left =
+    record {
+      question = prints (cardWith (2 ∷ 2 ∷ []) 1 tripling ((0 ∷ 0 ∷ 0 ∷ []) ∷ []));
+      expected =
+          lines
+          ("S 0 M : 0 2 : 0"
+          ∷ "S 1 A : 1 3 : 0"
+          ∷ "R 0 0 : 0"
+          ∷ "R 0 1 : 0"
+          ∷ "R 0 2 : 0"
+          ∷ "R 0 3 : 0"
+          ∷ "R 1 0 : 0"
+          ∷ "R 1 1 : 0"
+          ∷ "R 1 2 : 0"
+          ∷ [])
+          ∷ [];
+    }
+
+-- properties 0 and 2 are dropped, and the one member has nothing of what is left: the S line alone
+unfoldable pub no-member-left : Entry
+no-member-left =
+    record {
+      question = prints triplingMore;
+      expected =
+          lines
+          ("S 0 M : 0 2 4 5 : 0"
+          ∷ "S 0 H : 4 5 :"
+          ∷ "S 1 A : 1 3 : 0 1"
+          ∷ "C 2 0"
+          ∷ "R 0 0 : 0"
+          ∷ "R 0 1 : 0 1"
+          ∷ "R 0 2 : 0 1"
+          ∷ "R 0 3 : 0 1"
+          ∷ "R 1 0 : 0"
+          ∷ "R 1 1 : 0 1"
+          ∷ "R 1 2 : 0 1"
+          ∷ "R 2 0 : 0"
+          ∷ "R 2 1 : 0 1"
+          ∷ [])
+          ∷ [];
+    }
+
+-- what is left without touched is wide: no rescue
+unfoldable pub rescue-wide : Entry
+rescue-wide =
+    record {
+      question = prints moving8;
+      expected =
+          lines
+          ("S 0 M : 0 2 4 5 6 : 0"
+          ∷ "S 1 P : 1 3 : 1 2 3 4 5 6 7 8"
+          ∷ "T : 1 0"
+          ∷ "T : 0 1"
+          ∷ "M 1 1"
+          ∷ "M 3 1"
+          ∷ "D 0"
+          ∷ "D 1"
+          ∷ "X 0 1"
+          ∷ "C 0 8"
+          ∷ "R 0 0 : 0"
+          ∷ "R 1 0 : 0"
+          ∷ "R 2 0 : 0"
+          ∷ "R 2 1 : 1 2 3 4 5 6 7 8"
+          ∷ [])
+          ∷ [];
+    }
 
 -- K6: the space of property 0 is P with 56 conditions
 unfoldable pub conditions-56 : Entry
@@ -742,7 +1073,9 @@ table =
     ∷ two-open ∷ after-closed ∷ given-refused ∷ state-first ∷ no-room
     ∷ in-state-order ∷ nothing-comes ∷ both-asked ∷ malformed-asked ∷ asking-refused ∷ no-room-asked
     ∷ still-so ∷ coming-differs ∷ going-differs ∷ filler-differs ∷ order-differs ∷ row-repeated ∷ rows-missing ∷ checks-first ∷ room-first
-    ∷ committed-and-asked ∷ []
+    ∷ committed-and-asked
+    ∷ rescued-switch ∷ member-left-out ∷ no-total-rescued ∷ first-contained ∷ own-list-alone ∷ rescued-twice ∷ rule-emptied
+    ∷ start-emptied ∷ finish-emptied ∷ no-property-left ∷ no-member-left ∷ rescue-wide ∷ []
 
 -- opens every definition of this module but the table, for what is proved by computation
 unfoldable pub vectors-open : Unit {0}
@@ -757,4 +1090,7 @@ unfolding
     pairing in-state-order nothing-comes both-asked malformed-asked asking-refused no-room-asked
     foreseeing loading unloaded loaded still-so outdated coming-differs going-differs filler-differs order-differs row-repeated rows-missing
     checks-first room-first committed-and-asked
+    ofRole0 trade cardWith touching sealing surpassing returning wearing swinging tripling triplingMore moving8
+    rescued-switch member-left-out no-total-rescued first-contained own-list-alone rescued-twice rule-emptied
+    start-emptied finish-emptied no-property-left no-member-left rescue-wide
 vectors-open = tt

@@ -1,5 +1,5 @@
 -- The analysis of a space of a prepared task can be made, and is the definition's.
-use Prim.Native.Nat.{ℕ, _+_, _*_, _≤_, _<_}
+use Prim.Native.Nat.{ℕ, _≤_, _<_}
 use native.Mathlib.Omega.{arith}
 use mathlib.Core.Path.{_≡_, sym, ap, _∙_, subst}
 use mathlib.Core.List.{List, []}
@@ -11,6 +11,8 @@ use Rattle.model.specs.Card.{Task}
 use Rattle.model.specs.Spaces as model
 use Rattle.model.specs.Transitions.{properties}
 use Rattle.model.proofs.Checked.{checked}
+use Rattle.model.proofs.ListedSpace.{space-of-analysis}
+use Rattle.model.proofs.Parts.{space-part}
 use Rattle.model.proofs.RuleCount.{properties-few}
 use Rattle.spaces.specs.Own.{ownOf, Owns}
 use Rattle.spaces.specs.SpaceTable.{groupsOf, spaceAt}
@@ -21,13 +23,15 @@ use Rattle.analysis.specs.Own.{ownRules}
 use Rattle.analysis.specs.Sorting.{sorted}
 use Rattle.analysis.specs.Initial.{ownConditions}
 use Rattle.analysis.specs.Analysed as analysis
-use Rattle.analysis.specs.Tasks.{SpaceGiven}
+use Rattle.analysis.specs.Tasks.{TaskTables, SpaceGiven, Lengths}
+use Rattle.analysis.proofs.Places.{space-member}
 use Rattle.analysis.proofs.Tasks as tasks
-use Rattle.analysis.proofs.Tasks.{Lengths}
 use Rattle.prepared.proofs.Finding.{padded-long}
 use Rattle.prepared.specs.declared.Prepared.{Prepared}
 use Rattle.prepared.specs.declared.Found.{Found}
-use Rattle.prepared.specs.Found.{ownOfSpace, passAt, initialAt, ownIn, membersAt, SpaceReady, SpaceFound, FoundOf}
+use Rattle.prepared.specs.Prepared.{Given}
+use Rattle.prepared.specs.Found.{ownOfSpace, passAt, initialAt, membersAt, analysisAt}
+use Rattle.prepared.specs.Found.{SpaceReady, SpaceFound, FoundOf, FoundIn, SectionReady}
 
 -- the own properties, as the code keeps them
 pub own-kept : {own : List ℕ} {r : Own} → Owns own r → take (r .count) (r .properties) ≡ own
@@ -38,6 +42,20 @@ own-kept {own} {r} h =
 -- and there is room for them
 pub own-inside : {own : List ℕ} {r : Own} → Owns own r → length own ≤ 60 → r .count ≤ length (r .properties)
 own-inside {own} h few = omega (arith, few, h .count, ap length (h .properties), padded-long 60 own)
+
+-- the tables of a prepared task
+pub tables-of : {t : Task} {p : Prepared} {preconditions deletes adds counts : List ℕ} → Given t p preconditions deletes adds counts
+    → TaskTables t (p .parameters) deletes adds counts
+tables-of {preconditions = preconditions} given = record {
+  checked = given .checked;
+  preconditions = preconditions;
+  preconditions₀ = given .preconditions;
+  deletes₀ = given .deletes;
+  adds₀ = given .adds;
+  parameters-are = given .prepared .tables;
+  counts₀ = given .counts;
+  counts-are = given .prepared .counts-are;
+}
 
 module _ {number : ℕ} {p : Prepared} {deletes adds counts starts finishes conditions : List ℕ}
     (h : SpaceReady number p deletes adds counts starts finishes conditions) where
@@ -74,22 +92,15 @@ module _ {number : ℕ} {p : Prepared} {deletes adds counts starts finishes cond
   pub own-low : length (ownOfSpace p number) ≤ 60
   own-low = omega (arith, own-fewer, few-properties)
 
-  space-given : SpaceGiven t number (ownOfSpace p number) (getD (p .spaces .members) number 0) (p .parameters) deletes adds counts
+  space-given : SpaceGiven t (spaceAt t number) (ownOfSpace p number) (getD (p .spaces .members) number 0) (p .parameters) deletes adds counts
   space-given = record {
-    checked = h .given .checked;
-    place-known = there;
+    part = space-part t (spaceAt t number) (space-member t number there);
     own-are = own-is;
     members-are = members-of t number there (h .given .prepared .spaces-are) (checked t (h .given .checked) .few-objects);
-    preconditions = h .preconditions;
-    preconditions₀ = h .given .preconditions;
-    deletes₀ = h .given .deletes;
-    adds₀ = h .given .adds;
-    parameters-are = h .given .prepared .tables;
-    counts₀ = h .given .counts;
-    counts-are = h .given .prepared .counts-are;
+    tables = tables-of (h .given);
   }
 
-  lengths : Lengths (ownOfSpace p number) (p .parameters) deletes adds counts starts finishes conditions
+  lengths : Lengths (length (ownOfSpace p number)) (p .parameters) deletes adds counts starts finishes conditions
   lengths = record {
     deletes-long = h .given .room .deletes-room;
     adds-long = h .given .room .adds-room;
@@ -129,8 +140,11 @@ module _ {number : ℕ} {p : Prepared} {deletes adds counts starts finishes cond
       → length nowConditions ≡ length conditions → FoundOf t number p f nowConditions
   unfolding passAt initialAt
   found-of {f} found kept =
-      let own : Owns (spaceAt t number .properties) (f .own) = subst (λ (l : List ℕ). Owns l (f .own)) own-is (found .own-is) in
-      let a = tasks.analysis-of space-given lengths (found .analyses) in
+      let space = sym (space-of-analysis t (spaceAt t number)) in
+      let own : Owns (analysisAt t number .space .properties) (f .own) =
+      subst (λ (u : model.Space). Owns (u .properties) (f .own)) space
+      (subst (λ (l : List ℕ). Owns l (f .own)) own-is (found .own-is)) in
+      let a = tasks.analysis-of space-given lengths (space-member t number there) (found .analyses) in
       record {
         checked = h .given .checked;
         known = there;
@@ -142,8 +156,45 @@ module _ {number : ℕ} {p : Prepared} {deletes adds counts starts finishes cond
             record {
               kind-is = a .kind;
               own-is = own-kept own;
-              members-are = space-given .members-are;
+              members-are = space-given .members-are ∙ ap (λ (u : model.Space). u .members) space;
               conditions-held = record { counted = a .count; table-is = a .conditions-are };
             };
+        hides = a .hides;
         short = omega (arith, kept, h .conditions-long);
+      }
+
+-- A space analysed with tables that keep their lengths.
+module _ {number : ℕ} {p : Prepared} {deletes adds counts starts finishes conditions : List ℕ}
+    (h : SpaceReady number p deletes adds counts starts finishes conditions) {f : Found} {nowStarts nowFinishes nowConditions : List ℕ}
+    (found : SpaceFound number p deletes adds counts f starts finishes conditions nowStarts nowFinishes nowConditions)
+    (kept : length nowConditions ≡ length conditions) where
+  -- for whatever task is prepared, what was found is the analysis of its space
+  pub found-in : {t : Task} {preconditions : List ℕ} → Given t p preconditions deletes adds counts
+      → FoundIn t number p f deletes adds counts nowConditions
+  found-in {t} {preconditions} given =
+      let here : SpaceReady number p deletes adds counts starts finishes conditions =
+      record {
+        task = t;
+        preconditions = preconditions;
+        given = given;
+        known = h .known;
+        starts-long = h .starts-long;
+        finishes-long = h .finishes-long;
+        conditions-long = h .conditions-long;
+      } in
+      record { preconditions = preconditions; given = given; of = found-of here found kept }
+
+  -- and its section can be written
+  pub section-ready : length nowStarts ≡ length starts → length nowFinishes ≡ length finishes
+      → SectionReady number p f deletes adds counts nowStarts nowFinishes nowConditions
+  section-ready starts-kept finishes-kept =
+      record {
+        task = h .task;
+        found = found-in (h .given);
+        room =
+            record {
+              starts-room = omega (arith, h .starts-long, starts-kept);
+              finishes-room = omega (arith, h .finishes-long, finishes-kept);
+              conditions-room = kept ∙ h .conditions-long;
+            };
       }

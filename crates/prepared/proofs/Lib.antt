@@ -1,7 +1,9 @@
 pub mod Preparing
 pub mod Finding
 pub mod Analysing
+pub mod Rescuing
 pub mod SectionsOf
+pub mod Within
 pub mod Cleared
 pub mod Totalling
 pub mod Lending

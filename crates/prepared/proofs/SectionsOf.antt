@@ -9,7 +9,8 @@ use lib.Seq.{getD-append-add}
 use Rattle.laws.proofs.Mapped.{getD-map}
 use Rattle.model.specs.Card.{Task}
 use Rattle.model.specs.Spaces.{spaces}
-use Rattle.model.specs.Lines.{Analysis, analyse, analysis, spaceLines, spaceSections, closingLines, sections}
+use Rattle.model.specs.Analysis.{Analysis, analyse, analysis}
+use Rattle.model.specs.Lines.{sectionLines, spaceSections, closingLines, sections}
 use Rattle.spaces.specs.SpaceTable.{spaceAt}
 
 -- the analyses of a task: one for each space, in order
@@ -31,13 +32,13 @@ length-space-sections t n (a ∷ analyses) = ap suc (length-space-sections t (su
 
 -- and at each place the lines of the analysis there, numbered by place
 space-section-at : (t : Task) (n : ℕ) (analyses : List Analysis) (i : ℕ) (d : Analysis) → i < length analyses
-    → getD (spaceSections t n analyses) i [] ≡ spaceLines t (n + i) (getD analyses i d)
+    → getD (spaceSections t n analyses) i [] ≡ sectionLines t (n + i) (getD analyses i d)
 unfolding spaceSections
 space-section-at t n [] i d h = absurd (not-suc-le-zero h)
-space-section-at t n (a ∷ analyses) zero d h = ap (λ (k : ℕ). spaceLines t k a) (sym (add-zero n))
+space-section-at t n (a ∷ analyses) zero d h = ap (λ (k : ℕ). sectionLines t k a) (sym (add-zero n))
 space-section-at t n (a ∷ analyses) (suc i) d h =
     space-section-at t (suc n) analyses i d (le-of-suc-le-suc h)
-    ∙ ap (λ (k : ℕ). spaceLines t k (getD analyses i d)) (omega arith)
+    ∙ ap (λ (k : ℕ). sectionLines t k (getD analyses i d)) (omega arith)
 
 module _ (t : Task) where
   count-fronts : length (spaceSections t 0 (analysis t)) ≡ length (spaces t)
@@ -51,15 +52,15 @@ module _ (t : Task) where
       ∙ ap (λ (n : ℕ). n + 1) count-fronts
 
   -- the section of a space
-  pub section-of-space : (i : ℕ) → i < length (spaces t) → getD (sections t) i [] ≡ spaceLines t i (analyse t (spaceAt t i))
+  pub section-of-space : (i : ℕ) → i < length (spaces t) → getD (sections t) i [] ≡ sectionLines t i (analyse t (spaceAt t i))
   unfolding sections
   section-of-space i h =
       let none : Analysis = analyse t (spaceAt t 0) in
       List·getD-append (spaceSections t 0 (analysis t)) (closingLines t (analysis t) ∷ []) [] i
       (subst (λ (n : ℕ). i < n) (sym count-fronts) h)
       ∙ space-section-at t 0 (analysis t) i none (subst (λ (n : ℕ). i < n) (sym (length-analysis t)) h)
-      ∙ ap (λ (k : ℕ). spaceLines t k (getD (analysis t) i none)) (zero-add i)
-      ∙ ap (spaceLines t i) (analysis-at t i none h)
+      ∙ ap (λ (k : ℕ). sectionLines t k (getD (analysis t) i none)) (zero-add i)
+      ∙ ap (sectionLines t i) (analysis-at t i none h)
 
   -- the closing section
   pub section-closing : (i : ℕ) → i ≡ length (spaces t) → getD (sections t) i [] ≡ closingLines t (analysis t)

@@ -4,26 +4,23 @@ use native.Mathlib.Numerals.{add-one}
 use native.Mathlib.Omega.{arith}
 use mathlib.Core.Path.{_≡_, refl, sym, ap, _∙_}
 use mathlib.Core.List.{List, [], _∷_, _++_}
-use lib.ListN.{length, take, replicate}
+use lib.ListN.{take, replicate}
 use lib.Seq.{take-suc, take-all}
 use Rattle.model.specs.Card.{Task}
-use Rattle.model.specs.Lines.{Analysis, analyse, analysis}
-use Rattle.model.specs.Spaces as model
-use Rattle.model.proofs.ListedSpace.{space-of-analysis}
+use Rattle.model.specs.Analysis.{Analysis, analysis}
 use Rattle.model.proofs.RuleCount.{properties-few}
 use Rattle.properties.specs.Tables.{stride}
-use Rattle.spaces.specs.SpaceTable.{spaceAt}
 use Rattle.space_lines.proofs.Conditions.{bags-are}
-use Rattle.analysis.proofs.Places.{own-few}
 use Rattle.closing.specs.Fixed.{fixedTable}
 use Rattle.closing.specs.Typing.{PreconditionRows}
 use Rattle.closing.proofs.RowsHeld.{preconditions-held}
-use Rattle.totals.specs.Totals.{entered, totalsOf}
+use Rattle.totals.specs.Totals.{totalsOf}
 use Rattle.totals.proofs.AllTotals.{totals-next, totals-are}
 use Rattle.prepared.specs.declared.Prepared.{Prepared}
 use Rattle.prepared.specs.declared.Found.{Found}
 use Rattle.prepared.specs.Prepared.{Given}
-use Rattle.prepared.specs.Found.{FoundOf, foundTotals}
+use Rattle.prepared.specs.Found.{analysisAt, FoundOf, foundTotals}
+use Rattle.prepared.proofs.Finding.{writable-found}
 use Rattle.prepared.proofs.SectionsOf.{length-analysis, analysis-at}
 
 -- the totals before the first space
@@ -36,13 +33,11 @@ pub totals-with : {t : Task} {number : ℕ} {p : Prepared} {f : Found} {conditio
     → foundTotals number p f conditions (totalsOf (take number (analysis t))) ≡ totalsOf (take (number + 1) (analysis t))
 unfolding foundTotals
 totals-with {t} {number} h =
-    let u = spaceAt t number in
-    let a = analyse t u in
+    let a = analysisAt t number in
     let before = take number (analysis t) in
-    let narrow = own-few t number (h .known) (h .checked) in
-    rw (h .held .own-is, h .held .members-are, bags-are t u narrow (h .held .conditions-held))
-    (ap (λ (s : model.Space). entered (s .properties) (a .conditions) (length (s .members)) (totalsOf before)) (sym (space-of-analysis t u))
-    ∙ sym (totals-next before a)
+    let w = writable-found h in
+    rw (h .held .own-is, h .held .members-are, bags-are (w .sized) (w .narrow) (h .held .conditions-held))
+    (sym (totals-next before a)
     ∙ ap (λ (x : Analysis). totalsOf (before ++ (x ∷ []))) (sym (analysis-at t number a (h .known)))
     ∙ ap totalsOf (sym (take-suc (analysis t) number a (omega (arith, h .known, length-analysis t))))
     ∙ ap (λ (n : ℕ). totalsOf (take n (analysis t))) (sym (add-one number)))

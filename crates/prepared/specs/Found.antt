@@ -1,7 +1,7 @@
 -- A space of a prepared task, and its analysis as the code keeps it.
 use Prim.Native.Nat.{ℕ, _+_, _*_, _≤_, _<_}
 use mathlib.Core.Path.{_≡_}
-use mathlib.Core.List.{List, []}
+use mathlib.Core.List.{List, [], flatMap}
 use lib.ListN.{length, getD, take}
 use Rattle.laws.specs.Lists.{padded}
 use Rattle.laws.specs.Bags.{Bag}
@@ -9,7 +9,8 @@ use Rattle.masks.specs.Sets.{membersOf}
 use Rattle.model.specs.Answer.{accepted}
 use Rattle.model.specs.Card.{Task}
 use Rattle.model.specs.Writer.{checkTask}
-use Rattle.model.specs.Lines.{Line}
+use Rattle.model.specs.Analysis.{Analysis, analyse}
+use Rattle.model.specs.Lines.{Line, spaceLines}
 use Rattle.model.specs.Spaces as model
 use Rattle.properties.specs.Tables.{stride, bagsIn}
 use Rattle.properties.specs.Represented.{propertyArities}
@@ -19,12 +20,13 @@ use Rattle.text.specs.Kinds.{kindSays}
 use Rattle.analysis.specs.Own.{ownRules}
 use Rattle.analysis.specs.Sorting.{Sorted, sorted}
 use Rattle.analysis.specs.Initial.{ownConditions}
-use Rattle.analysis.specs.Analysed.{Analyses}
+use Rattle.analysis.specs.Analysed.{Analyses, Hides}
+use Rattle.analysis.specs.Rescued.{rescueOf}
 use Rattle.space_lines.specs.OwnLines.{ownLines, SpaceHeld}
 use Rattle.totals.specs.Totals as totals
 use Rattle.prepared.specs.declared.Prepared.{Prepared}
 use Rattle.prepared.specs.declared.Found.{Found}
-use Rattle.prepared.specs.Prepared.{Given}
+use Rattle.prepared.specs.Prepared.{RoomForMoves, Given}
 
 -- the own properties that were found, and the conditions in the first rows of a table
 abbrev pub ownIn : Found → List ℕ
@@ -66,16 +68,21 @@ pub record SpaceFound (number : ℕ) (p : Prepared) (deletes adds counts : List 
       Analyses (passAt p number deletes adds) (initialAt p number counts) (f .analysed) starts finishes conditions nowStarts nowFinishes
       nowConditions
 
+-- the definition's analysis of the space with this number
+abbrev pub analysisAt : Task → ℕ → Analysis
+analysisAt t number = analyse t (spaceAt t number)
+
 -- What was found is the analysis of the space with this number of a checked task, whose spaces and arities were prepared.
 pub record FoundOf (t : Task) (number : ℕ) (p : Prepared) (f : Found) (conditions : List ℕ) : Type 0 where
   pub checked : checkTask t ≡ accepted tt
   pub known : number < length (model.spaces t)
   pub spaces-are : SpacesOf t (p .spaces)
   pub arities-are : p .arities ≡ padded 60 0 (propertyArities (t .arities))
-  pub own-is : Owns (spaceAt t number .properties) (f .own)
+  pub own-is : Owns (analysisAt t number .space .properties) (f .own)
   pub before : List ℕ
   pub held :
-      SpaceHeld t (spaceAt t number) (f .analysed .kind) (ownIn f) (getD (p .spaces .members) number 0) before conditions (f .analysed .count)
+      SpaceHeld (analysisAt t number) (f .analysed .kind) (ownIn f) (getD (p .spaces .members) number 0) before conditions (f .analysed .count)
+  pub hides : Hides (analysisAt t number .space .properties) (analysisAt t number .hidden) (f .analysed .hidden)
   pub short : length conditions ≤ 3840
 
 -- Some task's.
@@ -83,10 +90,26 @@ pub record SomeFound (number : ℕ) (p : Prepared) (f : Found) (conditions : Lis
   pub task : Task
   pub of : FoundOf task number p f conditions
 
--- the lines of its section
+-- The tables are a task's too.
+pub record FoundIn (t : Task) (number : ℕ) (p : Prepared) (f : Found) (deletes adds counts conditions : List ℕ) : Type 0 where
+  pub preconditions : List ℕ
+  pub given : Given t p preconditions deletes adds counts
+  pub of : FoundOf t number p f conditions
+
+-- What the section of a space that was analysed asks: some task's tables, and room for the analysis of what is left of the space.
+pub record SectionReady (number : ℕ) (p : Prepared) (f : Found) (deletes adds counts starts finishes conditions : List ℕ) : Type 0 where
+  pub task : Task
+  pub found : FoundIn task number p f deletes adds counts conditions
+  pub room : RoomForMoves (p .parameters + p .properties) starts finishes conditions
+
+-- the lines of what was found
 unfoldable pub foundLines : ℕ → Prepared → Found → List ℕ → List Line
 foundLines number p f conditions =
     ownLines number (kindSays (f .analysed .kind)) (ownIn f) (membersAt p number) (p .arities) (conditionsIn f conditions)
+
+-- the lines of its rescue, by the hidden attributes of the space
+unfoldable pub rescueLines : Task → ℕ → List Line
+rescueLines t number = flatMap (spaceLines t number) (rescueOf t (analysisAt t number))
 
 -- a table with its totals entered
 unfoldable pub foundTotals : ℕ → Prepared → Found → List ℕ → List ℕ → List ℕ

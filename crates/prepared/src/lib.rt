@@ -1,6 +1,7 @@
 // A task with its tables filled, and each of its sections as text: those of its spaces, and the closing one behind them.
 use analysis::Analysed;
 use analysis::analyse;
+use analysis::rescue::rescue;
 use card::ArityList;
 use card::SchemaList;
 use card::Task;
@@ -14,19 +15,23 @@ use spaces::Spaces;
 use spaces::own::Own;
 use spaces::own::own_properties;
 use spaces::spaces_of;
+use text::kinds::Kind;
 use totals::enter_totals;
 ghost use mathlib.Core.Path.{_≡_};
 ghost use Prim.Native.Nat.{_≤_};
 ghost use lib.ListN.{length};
 ghost use Rattle.model.specs.Card as model;
 ghost use Rattle.model.specs.Calls.{outputBytes};
+ghost use Rattle.model.specs.Lines.{sectionLines};
 ghost use Rattle.model.specs.Text.{text};
 ghost use Rattle.card.specs.Represents.{aritiesOf, schemasOf, taskOf, Represented};
 ghost use Rattle.properties.specs.Represented.{AritiesRight, SchemasSmall};
 ghost use Rattle.properties.specs.Parameters.{parametersIn, RoomForBags};
 ghost use Rattle.text.specs.Written.{Writes};
+ghost use Rattle.space_lines.specs.OwnLines.{spaceBytes};
 ghost use Rattle.prepared.specs.Prepared.{rowsAtMost, PreparedOf};
-ghost use Rattle.prepared.specs.Found.{SpaceReady, SpaceFound, SomeFound, foundLines, foundTotals};
+ghost use Rattle.prepared.specs.Found.{SpaceReady, SpaceFound, SomeFound, FoundIn, SectionReady};
+ghost use Rattle.prepared.specs.Found.{analysisAt, foundLines, rescueLines, foundTotals};
 
 // What is known of a task beside its tables: how many parameters its schemas have together, how many properties, the arity of each
 // property's predicate, and its spaces.
@@ -156,8 +161,8 @@ pub fn analyse_space(
     Found { own, analysed }
 }
 
-// The section of a space that was analysed.
-pub fn write_space_section(
+// The lines of a space that was analysed.
+fn write_found(
     out: &mut [u8],
     number: usize,
     prepared: Prepared,
@@ -165,7 +170,7 @@ pub fn write_space_section(
     conditions: &[u16],
 ) -> usize
     requires { ⌜ SomeFound number prepared found (now conditions) ⌝ }
-    requires { ⌜ outputBytes ≤ length (now out) ⌝ }
+    requires { ⌜ spaceBytes ≤ length (now out) ⌝ }
     ensures { λ r. ⌜
         Writes (text (foundLines number prepared found (now (conditions .entry)))) (now (out .entry)) (now (out .exit)) r
         ⌝ }
@@ -187,6 +192,111 @@ pub fn write_space_section(
         analysed.count,
         &arities,
     )
+}
+
+// The lines of what is left of a mixed space without its hidden attributes; none if it is not listed. The tables are lent for its analysis.
+fn write_rescue(
+    out: &mut [u8],
+    number: usize,
+    prepared: Prepared,
+    found: Found,
+    deletes: &[u8],
+    adds: &[u8],
+    counts: &[u16],
+    starts: &mut [u8],
+    finishes: &mut [u8],
+    conditions: &mut [u16],
+) -> usize
+    requires { ⌜
+        SectionReady number prepared found (now deletes) (now adds) (now counts) (now starts) (now finishes) (now conditions)
+        ⌝ }
+    requires { ⌜ spaceBytes ≤ length (now out) ⌝ }
+    ensures { λ r. ⌜
+        ((t : model.Task)
+        → FoundIn t number prepared found (now (deletes .entry)) (now (adds .entry)) (now (counts .entry)) (now (conditions .entry))
+        → Writes (text (rescueLines t number)) (now (out .entry)) (now (out .exit)) r)
+        ⌝ }
+{
+    let analysed = found.analysed;
+    let spaces = prepared.spaces;
+    let members = spaces.members[number];
+    let parameters = prepared.parameters;
+    let rescued = rescue(
+        found.own,
+        members,
+        analysed.hidden,
+        parameters,
+        deletes,
+        adds,
+        counts,
+        starts,
+        finishes,
+        conditions,
+    );
+    if !rescued.listed {
+        return 0;
+    }
+    let own = rescued.own;
+    let list = own.properties;
+    let size = own.count;
+    let arities = prepared.arities;
+    write_space(
+        out,
+        number,
+        Kind::Rescued,
+        &list[0..size],
+        rescued.members,
+        conditions,
+        rescued.count,
+        &arities,
+    )
+}
+
+// The section of a space that was analysed: its lines and, behind the `S` line of a mixed space, those of its rescue. The tables of its
+// analysis are lent for that of the rescue.
+pub fn write_space_section(
+    out: &mut [u8],
+    number: usize,
+    prepared: Prepared,
+    found: Found,
+    deletes: &[u8],
+    adds: &[u8],
+    counts: &[u16],
+    starts: &mut [u8],
+    finishes: &mut [u8],
+    conditions: &mut [u16],
+) -> usize
+    requires { ⌜
+        SectionReady number prepared found (now deletes) (now adds) (now counts) (now starts) (now finishes) (now conditions)
+        ⌝ }
+    requires { ⌜ outputBytes ≤ length (now out) ⌝ }
+    ensures { λ r. ⌜
+        ((t : model.Task)
+        → FoundIn t number prepared found (now (deletes .entry)) (now (adds .entry)) (now (counts .entry)) (now (conditions .entry))
+        → Writes (text (sectionLines t number (analysisAt t number))) (now (out .entry)) (now (out .exit)) r)
+        ⌝ }
+{
+    let at = write_found(out, number, prepared, found, conditions);
+    let analysed = found.analysed;
+    let kind = analysed.kind;
+    match kind {
+        Kind::Mixed => {
+            let n = write_rescue(
+                &mut out[at..],
+                number,
+                prepared,
+                found,
+                deletes,
+                adds,
+                counts,
+                starts,
+                finishes,
+                conditions,
+            );
+            at + n
+        }
+        _ => at,
+    }
 }
 
 // The totals of a space that was analysed are entered.

@@ -1,4 +1,3 @@
 pub mod Showing
 pub mod Turns
-pub mod Within
 pub mod Answered

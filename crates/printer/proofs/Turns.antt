@@ -10,7 +10,8 @@ use lib.Seq.{take-suc}
 use Rattle.laws.proofs.Tests.{never}
 use Rattle.model.specs.Card.{Task}
 use Rattle.model.specs.Calls.{output}
-use Rattle.model.specs.Lines.{Line, analysis, closingLines, sections}
+use Rattle.model.specs.Analysis.{analysis}
+use Rattle.model.specs.Lines.{Line, sectionLines, closingLines, sections}
 use Rattle.model.specs.Text.{text}
 use Rattle.model.specs.Transitions.{properties}
 use Rattle.model.proofs.RuleCount.{properties-few}
@@ -20,12 +21,11 @@ use Rattle.text.specs.Written.{Writes}
 use Rattle.closing.proofs.TypedObjects.{spaces-few}
 use Rattle.totals.specs.Totals.{totalsOf}
 use Rattle.totals.proofs.AllTotals.{length-totals}
-use Rattle.prepared.specs.Found.{SpaceReady, SpaceFound, foundLines, foundTotals}
+use Rattle.prepared.specs.Found.{SpaceReady, SpaceFound, FoundIn, analysisAt, foundTotals}
 use Rattle.prepared.specs.Prepared.{RoomForMoves, PreparedOf, Given}
 use Rattle.prepared.specs.declared.Found.{Found}
 use Rattle.prepared.specs.declared.Prepared.{Prepared}
-use Rattle.prepared.proofs.Analysing.{found-of}
-use Rattle.prepared.proofs.Finding.{lines-found}
+use Rattle.prepared.proofs.Analysing.{found-in}
 use Rattle.prepared.proofs.SectionsOf.{section-count, section-of-space, section-closing}
 use Rattle.prepared.proofs.Totalling.{totals-none, totals-with}
 use Rattle.printer.specs.declared.printing.Printing.{Printing}
@@ -37,34 +37,22 @@ unfolding inTurn over output
 one-turn section w = w .buffer
 
 -- the section of a space, written from what was found of it, and the totals, for each task that is prepared so
-module _ {number : ℕ} {p : Prepared} {deletes adds counts starts finishes conditions : List ℕ}
-    (asked : SpaceReady number p deletes adds counts starts finishes conditions) where
-  pub space-printed : {f : Found} {nowStarts nowFinishes nowConditions fixed fixed' out out' : List ℕ} {n : ℕ}
-      → SpaceFound number p deletes adds counts f starts finishes conditions nowStarts nowFinishes nowConditions
-      → length nowConditions ≡ length conditions → fixed' ≡ foundTotals number p f nowConditions fixed
-      → Writes (text (foundLines number p f nowConditions)) out out' n → SpacePrinted number p deletes adds counts fixed fixed' out out'
-  space-printed {f} {nowConditions = nowConditions} {out = out} found kept entered written = record {
-    buffer =
-        λ {t} {preconditions} given.
-        let of = found-of (asked-of given) found kept in
-        one-turn (foundLines number p f nowConditions) written
-        ∙ ap (λ (section : List Line). inTurn (section ∷ []) out) (lines-found of ∙ sym (section-of-space t number (of .known)));
-    totals =
-        λ {t} {preconditions} given before.
-        entered ∙ ap (foundTotals number p f nowConditions) before ∙ totals-with (found-of (asked-of given) found kept);
-  }
-    where
-      asked-of : {t : Task} {preconditions : List ℕ} → Given t p preconditions deletes adds counts
-          → SpaceReady number p deletes adds counts starts finishes conditions
-      asked-of {t} {preconditions} given = record {
-        task = t;
-        preconditions = preconditions;
-        given = given;
-        known = asked .known;
-        starts-long = asked .starts-long;
-        finishes-long = asked .finishes-long;
-        conditions-long = asked .conditions-long;
-      }
+pub space-printed : {number : ℕ} {p : Prepared} {deletes adds counts starts finishes conditions : List ℕ}
+    → SpaceReady number p deletes adds counts starts finishes conditions → {f : Found} {nowStarts nowFinishes nowConditions fixed fixed' out out' : List ℕ}
+    {n : ℕ} → SpaceFound number p deletes adds counts f starts finishes conditions nowStarts nowFinishes nowConditions
+    → length nowConditions ≡ length conditions → fixed' ≡ foundTotals number p f nowConditions fixed
+    → ((t : Task) → FoundIn t number p f deletes adds counts nowConditions → Writes (text (sectionLines t number (analysisAt t number))) out out' n)
+    → SpacePrinted number p deletes adds counts fixed fixed' out out'
+space-printed {number} {p} asked {f} {nowConditions = nowConditions} {out = out} found kept entered written = record {
+  buffer =
+      λ {t} {preconditions} given.
+      let in-task = found-in asked found kept given in
+      one-turn (sectionLines t number (analysisAt t number)) (written t in-task)
+      ∙ ap (λ (section : List Line). inTurn (section ∷ []) out) (sym (section-of-space t number (in-task .of .known)));
+  totals =
+      λ {t} {preconditions} given before.
+      entered ∙ ap (foundTotals number p f nowConditions) before ∙ totals-with (found-in asked found kept given .of);
+}
 
 -- What is known before the section with this number: what the sections so far leave in the buffer, and their totals.
 pub record Before (t : Task) (number : ℕ) (fixed out₀ out : List ℕ) : Type 0 where

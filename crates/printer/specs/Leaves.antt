@@ -6,7 +6,8 @@ use mathlib.Core.List.{List, [], _∷_, foldl}
 use lib.ListN.{length, getD, take}
 use Rattle.model.specs.Answer.{Answer, refused, accepted}
 use Rattle.model.specs.Card.{Task, decode}
-use Rattle.model.specs.Lines.{Line, analysis, sections}
+use Rattle.model.specs.Analysis.{analysis}
+use Rattle.model.specs.Lines.{Line, sections}
 use Rattle.model.specs.Text.{text}
 use Rattle.model.specs.Calls.{output}
 use Rattle.model.specs.Transitions.{properties}

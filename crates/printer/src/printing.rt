@@ -17,7 +17,8 @@ ghost use mathlib.Core.List.{[], _∷_};
 ghost use Prim.Native.Nat.{_≤_};
 ghost use lib.ListN.{length, take};
 ghost use Rattle.model.specs.Calls.{outputBytes};
-ghost use Rattle.model.specs.Lines.{analysis, closingLines, sections};
+ghost use Rattle.model.specs.Analysis.{analysis};
+ghost use Rattle.model.specs.Lines.{closingLines, sections};
 ghost use Rattle.card.specs.Represents.{taskOf, Represented};
 ghost use Rattle.properties.specs.Parameters.{parametersIn, RoomForBags};
 ghost use Rattle.spaces.specs.SpaceTable.{SpacesOf};
@@ -77,7 +78,18 @@ fn print_space(
         conditions,
     );
     enter_space(fixed, number, prepared, found, conditions);
-    let length = write_space_section(out, number, prepared, found, conditions);
+    let length = write_space_section(
+        out,
+        number,
+        prepared,
+        found,
+        deletes,
+        adds,
+        counts,
+        starts,
+        finishes,
+        conditions,
+    );
     io::write_all(STDOUT_FILENO, &out[0..length])
 }
 

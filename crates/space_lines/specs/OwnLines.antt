@@ -9,7 +9,8 @@ use Rattle.laws.specs.Bags.{Bag}
 use Rattle.laws.specs.Lists.{all, distinct}
 use Rattle.masks.specs.Sets.{membersOf}
 use Rattle.model.specs.Card.{Task}
-use Rattle.model.specs.Lines.{Line, space, state, arityOf, analyse}
+use Rattle.model.specs.Analysis.{Analysis}
+use Rattle.model.specs.Lines.{Line, space, state, arityOf}
 use Rattle.model.specs.Spaces as model
 use Rattle.model.specs.Transitions.{properties}
 use Rattle.properties.specs.Tables.{rowsBefore, HasRows}
@@ -30,6 +31,10 @@ conditionLines arities own bags = map state bags ++ invariantLines arities own b
 unfoldable pub ownLines : ℕ → model.Kind → List ℕ → List ℕ → List ℕ → List Bag → List Line
 ownLines number kind own members arities bags = space number kind own members ∷ conditionLines arities own bags
 
+-- the most bytes that the lines of a space take: 383 for S, 23,296 for T, 660 for M, 320 for D, 16,128 for X and E
+abbrev pub spaceBytes : ℕ
+spaceBytes = 40787
+
 -- What a section is written from: distinct own properties with arities, and at most 64 conditions over them in the first rows of a table.
 pub record Listable (own arities table : List ℕ) (count : ℕ) : Type 0 where
   pub rows : HasRows (length own) count table
@@ -47,9 +52,9 @@ pub record ConditionsHeld (conditions : List Bag) (before table : List ℕ) (cou
   pub counted : count ≡ length conditions
   pub table-is : table ≡ rowsBefore conditions before
 
--- A space of a task as the code keeps it: its kind, own properties and members, and its conditions in a table.
-pub record SpaceHeld (t : Task) (s : model.Space) (kind : Kind) (own : List ℕ) (members : ℕ) (before table : List ℕ) (count : ℕ) : Type 0 where
-  pub kind-is : kindSays kind ≡ analyse t s .kind
-  pub own-is : own ≡ s .properties
-  pub members-are : membersOf members ≡ s .members
-  pub conditions-held : ConditionsHeld (analyse t s .conditions) before table count
+-- An analysis as the code keeps it: its kind, the properties and members of its space, and its conditions in a table.
+pub record SpaceHeld (a : Analysis) (kind : Kind) (own : List ℕ) (members : ℕ) (before table : List ℕ) (count : ℕ) : Type 0 where
+  pub kind-is : kindSays kind ≡ a .kind
+  pub own-is : own ≡ a .space .properties
+  pub members-are : membersOf members ≡ a .space .members
+  pub conditions-held : ConditionsHeld (a .conditions) before table count

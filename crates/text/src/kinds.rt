@@ -1,4 +1,4 @@
-// The kinds of spaces, document 01, "Spaces" and "Conditions".
+// The kinds of spaces, document 01, "Spaces" and "Conditions", and document 02, No. 5.
 
 // The kind of a space, one letter of an `S` line.
 pub enum Kind {
@@ -7,4 +7,5 @@ pub enum Kind {
     Property,
     Mixed,
     Wide,
+    Rescued,
 }

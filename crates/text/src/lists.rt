@@ -47,6 +47,7 @@ fn letter_of(kind: Kind) -> u8
         Kind::Property => b'P',
         Kind::Mixed => b'M',
         Kind::Wide => b'W',
+        Kind::Rescued => b'H',
     }
 }
 

@@ -19,7 +19,8 @@ use Rattle.model.specs.Card.{Task}
 use Rattle.model.specs.Writer.{checkTask}
 use Rattle.model.specs.Transitions.{properties}
 use Rattle.model.specs.Spaces.{Space, spaces, static}
-use Rattle.model.specs.Lines.{Analysis, analyse, analysis, countOf, oneNumber, totalsBy}
+use Rattle.model.specs.Analysis.{Analysis, analyse, analysis}
+use Rattle.model.specs.Lines.{countOf, oneNumber, totalsBy}
 use Rattle.model.proofs.RuleCount.{properties-few}
 use Rattle.model.proofs.SpaceFacts.{space-unique, properties-known}
 use Rattle.model.proofs.ListedSpace.{space-of-analysis, analysed}
@@ -134,7 +135,7 @@ module _ (t : Task) where
   totals-to : (n c : ℕ) → n ≤ length (analysis t) → c < 60 → getD (totalsOf (take n (analysis t))) c 0 ≡ fixedOf (take n (analysis t)) c
   totals-to zero c h k = unfold totalsOf fixedOf totalsBy keep flatMap firstAndOne in getD-zeros 60 c
   totals-to (suc n) c h k =
-      let none : Analysis = record { space = record { properties = []; rules = []; members = [] }; kind = static; conditions = [] } in
+      let none : Analysis = record { space = record { properties = []; rules = []; members = [] }; kind = static; conditions = []; hidden = [] } in
       let a = getD (analysis t) n none in
       let some = take n (analysis t) in
       let here : List·Memᴰ a (analysis t) = mem-getD (analysis t) n none h in

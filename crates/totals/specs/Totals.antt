@@ -6,7 +6,8 @@ use mathlib.Core.List.{List, map, foldl}
 use lib.ListN.{length, getD, set, replicate}
 use Rattle.laws.specs.Bags.{Bag}
 use Rattle.laws.specs.Lists.{distinct}
-use Rattle.model.specs.Lines.{Analysis, countOf, oneNumber}
+use Rattle.model.specs.Analysis.{Analysis}
+use Rattle.model.specs.Lines.{countOf, oneNumber}
 use Rattle.properties.specs.Tables.{stride, HasRows}
 use Rattle.closing.specs.Fixed.{firstAndOne}
 

@@ -1,7 +1,8 @@
 -- `write_closing` meets its contract.
 use mathlib.Core.Path.{_∙_}
 use native.Mathlib.Omega.{arith}
-use Rattle.model.specs.Lines.{analysis, closingLines}
+use Rattle.model.specs.Analysis.{analysis}
+use Rattle.model.specs.Lines.{closingLines}
 use Rattle.model.specs.Text.{text}
 use Rattle.model.proofs.RuleCount.{properties-few}
 use Rattle.card.specs.Represents.{taskOf}

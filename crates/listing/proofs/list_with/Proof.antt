@@ -1,10 +1,10 @@
 -- No section past the closing one; that of a space, or the closing one.
 use borrow.Author.Needs.{needs}
-use Rattle.prepared.proofs.Analysing.{found-of}
+use mathlib.Core.Path.{_∙_}
+use Rattle.prepared.proofs.Analysing.{found-in, section-ready}
 use Rattle.prepared.proofs.Lending.{analysable-given}
 use Rattle.prepared.proofs.Totalling.{preconditions-given}
 use Rattle.listing.proofs.Answering.{list-unknown, list-written}
-use Rattle.listing.proofs.Totalling.{found-for}
 use Rattle.listing.proofs.Listing.{tables-given, space-listed, closing-listed}
 use Rattle.listing.proofs.list_with.Statement.{statement}
 use Rattle.listing.proofs.list_with.Tie as tie
@@ -26,11 +26,11 @@ filled-for c = filled (known c .before)
 abbrev asked : tie.After-analyse-space-arg6 → tie.Then2
 asked c = c .before .before .before .before .before .before
 
-abbrev analysed : tie.After-write-space-section-arg2 → tie.After-analyse-space
-analysed c = c .before .before .before .before .before .before .before .before
+abbrev analysed : tie.After-write-space-section-arg7 → tie.After-analyse-space
+analysed c = c .before .before .before .before .before .before .before .before .before .before .before .before .before
 
-abbrev written : tie.After-slice-known16 → tie.After-write-space-section
-written c = c .before .before
+abbrev written : tie.After-slice-known19 → tie.After-write-space-section
+written c = c .before .before .before .before .before .before .before .before
 
 abbrev closes : tie.After-fixed-totals-arg6 → tie.Else2
 closes c = c .before .before .before .before .before .before
@@ -38,20 +38,20 @@ closes c = c .before .before .before .before .before .before
 abbrev totalled : tie.After-write-closing-arg2 → tie.After-fixed-totals
 totalled c = c .before .before .before .before .before .before .before .before .before
 
-abbrev closed : tie.After-slice-known20 → tie.After-write-closing
+abbrev closed : tie.After-slice-known23 → tie.After-write-closing
 closed c = c .before .before
 
 -- and from the end of each: the space analysed or the totals entered, and the tables filled
-abbrev space-found : tie.After-slice-known16 → tie.After-analyse-space
+abbrev space-found : tie.After-slice-known19 → tie.After-analyse-space
 space-found c = analysed (written c .before)
 
-abbrev space-tables : tie.After-slice-known16 → tie.After-prepare
+abbrev space-tables : tie.After-slice-known19 → tie.After-prepare
 space-tables c = filled-for (asked (space-found c .before) .before)
 
-abbrev closing-totals : tie.After-slice-known20 → tie.After-fixed-totals
+abbrev closing-totals : tie.After-slice-known23 → tie.After-fixed-totals
 closing-totals c = totalled (closed c .before)
 
-abbrev closing-tables : tie.After-slice-known20 → tie.After-prepare
+abbrev closing-tables : tie.After-slice-known23 → tie.After-prepare
 closing-tables c = filled-for (closes (closing-totals c .before) .before)
 
 prepare-requires : tie.Need-prepare-requires
@@ -86,7 +86,8 @@ write-space-section-requires c κs =
     let given = tables-given (start tables .pre) (tables .prepare .ensures) (tables .prepare .kept .1) in
     let h = analysable-given given (start tables .pre .1 .1 .1 .1) (asked (analysed c .before) .if2 .taken) in
     let found = analysed c .analyse-space in
-    (record { task = h .task; of = found-of h (found .ensures) (found .kept .1 .1 .1 .1 .1 .1 .1 .0) }, start tables .pre .1 .0)
+    let kept = found .kept .1 .1 .1 .1 .1 in
+    (section-ready h (found .ensures) (kept .1 .1 .0) (kept .0) (kept .1 .0), start tables .pre .1 .0)
 
 same-length-5 : tie.Need-same-length-5
 same-length-5 c = written c .write-space-section .kept .0
@@ -104,13 +105,13 @@ same-length-9 : tie.Need-same-length-9
 same-length-9 c = space-tables c .prepare .kept .1 .1 .1 .1 .0
 
 same-length-10 : tie.Need-same-length-10
-same-length-10 c = space-found c .analyse-space .kept .1 .1 .1 .1 .1 .0
+same-length-10 c = written c .write-space-section .kept .1 .1 .1 .1 .1 .1 .1 .0 ∙ space-found c .analyse-space .kept .1 .1 .1 .1 .1 .0
 
 same-length-11 : tie.Need-same-length-11
-same-length-11 c = space-found c .analyse-space .kept .1 .1 .1 .1 .1 .1 .0
+same-length-11 c = written c .write-space-section .kept .1 .1 .1 .1 .1 .1 .1 .1 .0 ∙ space-found c .analyse-space .kept .1 .1 .1 .1 .1 .1 .0
 
 same-length-12 : tie.Need-same-length-12
-same-length-12 c = space-found c .analyse-space .kept .1 .1 .1 .1 .1 .1 .1 .0
+same-length-12 c = written c .write-space-section .kept .1 .1 .1 .1 .1 .1 .1 .1 .1 .0 ∙ space-found c .analyse-space .kept .1 .1 .1 .1 .1 .1 .1 .0
 
 returns-2 : tie.Need-returns-2
 returns-2 c =
@@ -119,9 +120,9 @@ returns-2 c =
     let tables = space-tables c in
     let given = tables-given (start tables .pre) (tables .prepare .ensures) (tables .prepare .kept .1) in
     let h = analysable-given given (start tables .pre .1 .1 .1 .1) (space .if2 .taken) in
+    let here = found-in h (found .analyse-space .ensures) (found .analyse-space .kept .1 .1 .1 .1 .1 .1 .1 .0) given in
     list-written _ _ _ _ (tables .prepare .ensures .spaces-are) (start tables .pre .1 .0) (known (space .before) .if1 .left) _ _
-    (space-listed (found-for h (found .analyse-space .ensures) (found .analyse-space .kept .1 .1 .1 .1 .1 .1 .1 .0) given)
-    (written c .write-space-section .ensures))
+    (space-listed (here .of) (written c .write-space-section .ensures _ here))
 
 fixed-totals-requires : tie.Need-fixed-totals-requires
 fixed-totals-requires c κs =

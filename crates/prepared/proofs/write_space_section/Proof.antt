@@ -1,65 +1,87 @@
--- The section of what was found.
-use native.Mathlib.Nat.{sub-zero}
-use mathlib.Core.Path.{_≡_}
-use lib.ListN.{length}
+-- The lines of the space and, where it is mixed, those of its rescue into the rest of the buffer.
 use native.Mathlib.Omega.{arith}
 use borrow.Author.Needs.{needs}
-use Rattle.prepared.specs.Found.{foundLines}
-use Rattle.prepared.proofs.Finding.{number-few, few-own, listable-found, room-found}
+use Rattle.prepared.proofs.Finding.{room-for-rescue}
+use Rattle.prepared.proofs.Rescuing.{section-mixed, section-other}
+use Rattle.prepared.proofs.Within.{both-within}
 use Rattle.prepared.proofs.write_space_section.Statement.{statement}
 use Rattle.prepared.proofs.write_space_section.Tie as tie
 
--- the start, from where the own properties are lent
-abbrev entry : tie.After-list2 → tie.Start
-entry c = c .before .before .before .before .before .before .before .before .before
+-- earlier points of the function, each reached from the next: start, the space's own lines written, the kind known to be mixed
+abbrev entry : tie.After-write-found → tie.Start
+entry c = c .before .before .before .before .before .before .before .before .before .before
 
-sub-write-space : tie.Need-sub-write-space
-sub-write-space c = search needs
+abbrev written : tie.After-enum-told → tie.After-write-found
+written c = c .before .before .before .before .before
 
-part-write-space-start : tie.Need-part-write-space-start
-part-write-space-start c = search needs
+abbrev mixed : tie.After-write-rescue-arg4 → tie.After-enum-told
+mixed c = c .before .before .before .before
 
-part-write-space-end : tie.Need-part-write-space-end
-part-write-space-end c =
-    let long : length (entry c .args .found .own .properties) ≡ 60 = search needs in
-    omega (arith, few-own (entry c .pre .0 .of))
+write-found-requires : tie.Need-write-found-requires
+write-found-requires c κs = search needs
 
-mul-write-space : tie.Need-mul-write-space
-mul-write-space c = omega (arith, number-few (entry (c .before) .pre .0 .of))
+enum-told : tie.Need-enum-told
+enum-told c = search needs
 
-element-copy-out-write-space : tie.Need-element-copy-out-write-space
-element-copy-out-write-space c = number-few (entry (c .before) .pre .0 .of)
+sub-write-rescue : tie.Need-sub-write-rescue
+sub-write-rescue c =
+    let s = entry (written c) in
+    room-for-rescue (s .pre .0 .found .of) (c .enum-told .given .1) (s .pre .1) (written c .write-found .ensures) .0
 
-slice-aggregate-write-space : tie.Need-slice-aggregate-write-space
-slice-aggregate-write-space c = search needs
+part-write-rescue-start : tie.Need-part-write-rescue-start
+part-write-rescue-start c = sub-write-rescue c
 
-write-space-requires : tie.Need-write-space-requires
-unfolding foundLines
-write-space-requires c κs =
-    let s = entry (c .before .before .before) in
-    let of = s .pre .0 .of in
-    let table = c .before .before .before .before .before .before .before .before .before .before .shared-slice-known in
-    rw (sub-zero (s .args .found .own .count)) (listable-found of, room-found of (λ i. omega (arith, table .given i)) _ (s .pre .1))
+part-write-rescue-end : tie.Need-part-write-rescue-end
+part-write-rescue-end c = search needs
 
-same-length : tie.Need-same-length
-same-length c = c .before .before .write-space .kept .0
+write-rescue-requires : tie.Need-write-rescue-requires
+write-rescue-requires c κs =
+    let told = mixed c in
+    let s = entry (written told) in
+    (s .pre .0, room-for-rescue (s .pre .0 .found .of) (told .enum-told .given .1) (s .pre .1) (written told .write-found .ensures) .1)
 
 returns : tie.Need-returns
-unfolding foundLines
-returns c =
-    let s = entry (c .before .before .before .before .before .before) in
-    rw (sub-zero (s .args .found .own .count)) at (c .before .before .write-space .ensures)
+returns c t h =
+    let rescued = c .before .before .before .before .before .before .before .before in
+    let told = mixed (rescued .before) in
+    section-mixed (h .of) (told .enum-told .given .1) (written told .write-found .ensures) (rescued .write-rescue .ensures t h)
+
+add-result : tie.Need-add-result
+add-result c =
+    let rescued = c .before .before .before .before .before .before .before .before in
+    let told = mixed (rescued .before) in
+    let s = entry (written told) in
+    omega (
+      arith,
+      both-within (written told .write-found .ensures) (sub-write-rescue told) (rescued .write-rescue .ensures _ (s .pre .0 .found))
+          (rescued .write-rescue .kept .0),
+      written told .write-found .kept .0,
+      s .good .0,
+    )
+
+same-length : tie.Need-same-length
+same-length c = search needs
+
+same-length-2 : tie.Need-same-length-2
+same-length-2 c = search needs
+
+same-length-3 : tie.Need-same-length-3
+same-length-3 c = search needs
+
+same-length-4 : tie.Need-same-length-4
+same-length-4 c = search needs
+
+same-length-5 : tie.Need-same-length-5
+same-length-5 c = search needs
+
+same-length-6 : tie.Need-same-length-6
+same-length-6 c = search needs
+
+returns-2 : tie.Need-returns-2
+returns-2 c t h = section-other (h .of) (c .match .keys2) (c .before .before .before .before .write-found .ensures)
 
 pub write-space-section-spec : {M : Type 1} → statement M
 write-space-section-spec =
     tie.close
-    (tie.spec
-    sub-write-space
-    part-write-space-start
-    part-write-space-end
-    mul-write-space
-    element-copy-out-write-space
-    slice-aggregate-write-space
-    write-space-requires
-    same-length
-    returns)
+    (tie.spec write-found-requires enum-told sub-write-rescue part-write-rescue-start part-write-rescue-end write-rescue-requires add-result
+    same-length same-length-2 same-length-3 same-length-4 returns same-length-5 same-length-6 returns-2)

@@ -6,7 +6,8 @@ use native.Mathlib.Nat.{le-refl}
 use native.Mathlib.Omega.{arith}
 use lib.ListN.{length, getD, take}
 use Rattle.laws.specs.Lists.{sum, upTo}
-use Rattle.model.specs.Lines.{analysis, total, totals}
+use Rattle.model.specs.Analysis.{analysis}
+use Rattle.model.specs.Lines.{total, totals}
 use Rattle.model.specs.Text.{text}
 use Rattle.model.proofs.RuleCount.{properties-few}
 use Rattle.card.specs.declared.ArityList.{ArityList}

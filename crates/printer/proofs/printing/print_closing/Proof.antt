@@ -1,7 +1,7 @@
 -- The closing section is written, and its text is within the buffer.
 use borrow.Author.Needs.{needs}
 use native.Mathlib.Omega.{arith}
-use Rattle.printer.proofs.Within.{written-within}
+use Rattle.prepared.proofs.Within.{written-within}
 use Rattle.printer.proofs.Turns.{one-turn}
 use Rattle.printer.proofs.printing.print_closing.Statement.{statement}
 use Rattle.printer.proofs.printing.print_closing.Tie as tie

@@ -20,6 +20,9 @@ enum-told-4 c = search needs
 enum-told-5 : tie.Need-enum-told-5
 enum-told-5 c = search needs
 
+enum-told-6 : tie.Need-enum-told-6
+enum-told-6 c = search needs
+
 returns : tie.Need-returns
 unfolding kindLetter kindSays
 returns c = rw (c .enum-told .given .1)
@@ -40,7 +43,11 @@ returns-5 : tie.Need-returns-5
 unfolding kindLetter kindSays
 returns-5 c = rw (c .enum-told5 .given .1)
 
+returns-6 : tie.Need-returns-6
+unfolding kindLetter kindSays
+returns-6 c = rw (c .enum-told6 .given .1)
+
 pub letter-of-spec : {M : Type 1} → statement M
 letter-of-spec =
     tie.close
-    (tie.spec enum-told enum-told-2 enum-told-3 enum-told-4 enum-told-5 returns returns-2 returns-3 returns-4 returns-5)
+    (tie.spec enum-told enum-told-2 enum-told-3 enum-told-4 enum-told-5 enum-told-6 returns returns-2 returns-3 returns-4 returns-5 returns-6)
