@@ -7,7 +7,7 @@ use crate::preview::{ChangesBytes, CHANGES_LEN};
 use crate::proved::Calls;
 use crate::random::{write_unchecked, Damaged, Random};
 use crate::strips::{Press, FACT_LEN, STATE_LEN};
-use crate::truth::{check, check_nestings, Listing};
+use crate::truth::{check, check_nestings, check_rescues, Listing};
 use crate::vectors::to_hex;
 use std::fmt;
 
@@ -72,7 +72,13 @@ pub struct Histories<'a> {
     /// The answers of presses, asks and commits; the spaces and the lines, each as often as it was checked.
     pub met: Met,
     pub states: usize,
+    pub histories: usize,
+    /// The histories of cards with a rescued space that has members.
+    pub rescued: usize,
 }
+
+/// One history in so many, at the least, has a rescued space with members.
+const RESCUED: usize = 20;
 
 /// The most calls of one history, and of one that is to fill the state up, which comes once in so many.
 const MOST_CALLS: usize = 40;
@@ -85,7 +91,7 @@ const DAMAGED: Case = ("committed", "damaged");
 
 impl<'a> Histories<'a> {
     pub fn new(calls: &'a dyn Calls, seed: u64) -> Histories<'a> {
-        Histories { calls, random: Random::new(seed), met: Met::default(), states: 0 }
+        Histories { calls, random: Random::new(seed), met: Met::default(), states: 0, histories: 0, rescued: 0 }
     }
 
     /// The opening call on a random card, then presses, asks and commits, accepted and refused ones.
@@ -94,6 +100,7 @@ impl<'a> Histories<'a> {
         let task = match self.random.below(8) {
             _ if filling => self.random.filling_task(),
             0 => self.random.roomy_task(),
+            1 => self.random.hiding_task(),
             _ => self.random.task(),
         };
         let most = if filling { FILLING_CALLS } else { self.random.below(MOST_CALLS + 1) };
@@ -108,6 +115,9 @@ impl<'a> Histories<'a> {
     fn call_and_check(&mut self, task: &Task, card: &[u8], text: &str, most: usize, history: &mut History) -> Result<(), String> {
         let listing = Listing::parse(text).ok_or("what was listed is no listing")?;
         check_nestings(&listing)?;
+        check_rescues(&listing)?;
+        self.histories += 1;
+        self.rescued += listing.spaces.iter().any(|space| space.kind == "H" && !space.members.is_empty()) as usize;
         let opened = self.calls.initial(card, &mut history.state);
         history.count = opened.map_err(|refusal| format!("the opening call answers {refusal}"))?;
         self.check(task, &listing, text, history.facts())?;
@@ -168,11 +178,16 @@ impl<'a> Histories<'a> {
     }
 
     /// What never came up: a press, an ask or a commit that is accepted or refused by 16 to 20, a commit that is refused by 23, one in the
-    /// state that was asked about, in another one, or of something damaged; a kind of space, of line or of nesting.
+    /// state that was asked about, in another one, or of something damaged; a kind of space, of line or of nesting. Or what came up too
+    /// seldom: a rescued space with members.
     pub fn missing(&self) -> Vec<String> {
         let calls = [Call::Press, Call::Preview, Call::Commit];
         let answers = calls.into_iter().flat_map(|call| [0, 16, 17, 18, 19, 20].map(|answer| (call, answer)));
         let answers: Vec<(Call, u8)> = answers.chain([(Call::Commit, 23)]).collect();
-        self.met.missing(&answers, &[&SPACES[..], &LINES, &NESTINGS, &[AS_ASKED, OUTDATED, DAMAGED]].concat())
+        let mut missing = self.met.missing(&answers, &[&SPACES[..], &LINES, &NESTINGS, &[AS_ASKED, OUTDATED, DAMAGED]].concat());
+        if self.rescued * RESCUED < self.histories {
+            missing.push(format!("a rescued space with members in one history of {RESCUED}"));
+        }
+        missing
     }
 }

@@ -15,6 +15,7 @@ pub mod proved;
 pub mod random;
 pub mod reachable;
 pub mod refusal;
+pub mod rescue;
 pub mod settings;
 pub mod strips;
 pub mod tim;

@@ -1,7 +1,9 @@
-//! The listing's text: one section per space, then a closing section (document 01, "Listing"; `E` lines: document 02, request 2).
+//! The listing's text: one section per space, then a closing section (document 01, "Listing"; of document 02 request 2: `E` lines, and
+//! request 5: what a rescue lists).
 
 use crate::card::{decode, Task, OUTPUT_LEN};
 use crate::refusal::*;
+use crate::rescue::{rescue, End};
 use crate::tim::{compare, contains, each, Analysis, Bags, Compared, Extension, Kind, Space};
 
 /// Writes one section from byte 0 of `out` and answers its length. Refuses by 1 to 14, then 21, then 22.
@@ -52,15 +54,30 @@ fn extension(analysis: &Analysis, space: &Space) -> Option<Extension> {
 
 fn space_section(analysis: &Analysis, number: usize, extension: Option<&Extension>, text: &mut Text) {
     let space = &analysis.spaces[number];
-    text.first("S");
-    text.number(number);
-    text.item(match (space.kind, extension) {
+    let kind = match (space.kind, extension) {
         (Kind::Static, _) => "S",
         (Kind::Attribute, _) => "A",
-        (_, Some(Extension::Mixed)) => "M",
+        (_, Some(Extension::Mixed(_))) => "M",
         (_, Some(Extension::Wide)) => "W",
         _ => "P",
-    });
+    };
+    space_line(number, kind, space, text);
+    match extension {
+        Some(Extension::Bags(bags)) => bag_lines(analysis, space, bags, text),
+        Some(Extension::Mixed(mixed)) => {
+            if let End::Listed(left, bags) = rescue(analysis, space, mixed).end {
+                space_line(number, "H", &left, text);
+                bag_lines(analysis, &left, &bags, text);
+            }
+        }
+        _ => {}
+    }
+}
+
+fn space_line(number: usize, kind: &str, space: &Space, text: &mut Text) {
+    text.first("S");
+    text.number(number);
+    text.item(kind);
     text.item(":");
     for &property in &space.properties {
         text.number(property);
@@ -70,14 +87,13 @@ fn space_section(analysis: &Analysis, number: usize, extension: Option<&Extensio
         text.number(object);
     }
     text.end();
-    if let Some(Extension::Bags(bags)) = extension {
-        if !bags.is_empty() {
-            bag_lines(analysis, space, bags, text);
-        }
-    }
 }
 
+/// What stands below the S line of a space that is listed with its bags; nothing where no object is a member.
 fn bag_lines(analysis: &Analysis, space: &Space, bags: &Bags, text: &mut Text) {
+    if bags.is_empty() {
+        return;
+    }
     for bag in bags.iter() {
         text.first("T");
         text.item(":");
@@ -162,8 +178,9 @@ fn fixed_total(analysis: &Analysis, extensions: &[Option<Extension>], predicate:
     let of_predicate = (0..analysis.properties.len()).filter(|&property| analysis.properties[property].predicate == predicate);
     of_predicate.into_iter().find_map(|property| {
         let number = analysis.space_of[property];
-        let Some(Extension::Bags(bags)) = &extensions[number] else { return None };
         let space = &analysis.spaces[number];
+        // Of a mixed space none, whatever its rescue lists.
+        let Some(Extension::Bags(bags)) = &extensions[number] else { return None };
         let place = space.properties.iter().position(|&other| other == property)?;
         let mut counts = bags.iter().map(|bag| bag[place]);
         let count = counts.next()?;

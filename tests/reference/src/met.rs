@@ -2,6 +2,8 @@
 //! so that a run which left something out is told from one that passed.
 
 use crate::crowded::{conditions, start_of_65th, Condition, MOST_CONDITIONS};
+use crate::rescue::{End, Rescue};
+use crate::tim::Space;
 use std::collections::{BTreeMap, BTreeSet};
 use std::fmt;
 
@@ -59,7 +61,7 @@ pub fn every_answer(calls: &[Call]) -> Vec<(Call, u8)> {
 /// A group of cases and the name of one of them.
 pub type Case = (&'static str, &'static str);
 
-pub const SPACES: [Case; 5] = [("space", "S"), ("space", "A"), ("space", "P"), ("space", "M"), ("space", "W")];
+pub const SPACES: [Case; 6] = [("space", "S"), ("space", "A"), ("space", "P"), ("space", "M"), ("space", "W"), ("space", "H")];
 
 pub const LINES: [Case; 9] =
     [("line", "S"), ("line", "T"), ("line", "M"), ("line", "D"), ("line", "X"), ("line", "E"), ("line", "F"), ("line", "C"), ("line", "R")];
@@ -80,6 +82,29 @@ pub const TALLIES: [Case; 2] = [FULL, OVER];
 const FULL: Case = ("tally", "64 conditions from several starts");
 /// The starts come to exactly 65 conditions, and the search that meets the last of them is not that of the first start.
 const OVER: Case = ("tally", "a 65th condition from a later start");
+
+/// How the rescue of a mixed space goes.
+pub const RESCUES: [Case; 10] =
+    [ONE_ROUND, TWO_ROUNDS, THREE_ROUNDS, ONE_SIDED, NO_PROPERTY, WIDE, LATER_ONE_SIDED, LATER_NO_PROPERTY, LATER_WIDE, FEWER_RULES];
+
+const ONE_ROUND: Case = ("rescue", "listed after one round");
+const TWO_ROUNDS: Case = ("rescue", "listed after two rounds");
+const THREE_ROUNDS: Case = ("rescue", "listed after three rounds");
+const MORE_ROUNDS: Case = ("rescue", "listed after more rounds");
+const ONE_SIDED: Case = ("rescue", "given up for a rule with one side");
+const NO_PROPERTY: Case = ("rescue", "given up for want of a property");
+const WIDE: Case = ("rescue", "wide");
+const LATER_ONE_SIDED: Case = ("rescue", "given up for a rule with one side in a later round");
+const LATER_NO_PROPERTY: Case = ("rescue", "given up for want of a property in a later round");
+const LATER_WIDE: Case = ("rescue", "wide in a later round");
+const FEWER_RULES: Case = ("rescue", "listed with fewer rules");
+
+/// The members that a rescue leaves.
+pub const LEFT_MEMBERS: [Case; 3] = [ALL_MEMBERS, FEWER_MEMBERS, NO_MEMBER];
+
+const ALL_MEMBERS: Case = ("members of a rescue", "all");
+const FEWER_MEMBERS: Case = ("members of a rescue", "some");
+const NO_MEMBER: Case = ("members of a rescue", "none");
 
 #[derive(Clone, Debug, Default)]
 pub struct Met {
@@ -121,6 +146,31 @@ impl Met {
         if number == MOST_CONDITIONS + 1 && start_of_65th(starts) > Some(0) {
             self.case(OVER);
         }
+    }
+
+    /// The rescue of a mixed space.
+    pub fn rescue(&mut self, mixed: &Space, Rescue { rounds, end }: &Rescue) {
+        self.case(match (end, rounds) {
+            (End::Listed(..), 1) => ONE_ROUND,
+            (End::Listed(..), 2) => TWO_ROUNDS,
+            (End::Listed(..), 3) => THREE_ROUNDS,
+            (End::Listed(..), _) => MORE_ROUNDS,
+            (End::OneSided, 1) => ONE_SIDED,
+            (End::OneSided, _) => LATER_ONE_SIDED,
+            (End::NoProperty, 1) => NO_PROPERTY,
+            (End::NoProperty, _) => LATER_NO_PROPERTY,
+            (End::Wide, 1) => WIDE,
+            (End::Wide, _) => LATER_WIDE,
+        });
+        let End::Listed(left, _) = end else { return };
+        if left.transitions.len() < mixed.transitions.len() {
+            self.case(FEWER_RULES);
+        }
+        self.case(match left.members {
+            0 => NO_MEMBER,
+            members if members == mixed.members => ALL_MEMBERS,
+            _ => FEWER_MEMBERS,
+        });
     }
 
     pub fn calls(&self) -> usize {

@@ -1,6 +1,7 @@
 //! Seeded random cards, tables, states and presses, and what was asked, sound and damaged.
 
 mod changes;
+mod hidden;
 
 pub use changes::{Damaged, DAMAGED_LISTS, DAMAGED_PRESS, UNUSED};
 

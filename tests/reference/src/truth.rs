@@ -1,5 +1,5 @@
-//! Whether a listing is true of a state (document 01, "True of a state", and the owner's demand 3), and whether its `E` lines, which
-//! say nothing of states, follow from its `T` lines (document 02, request 2).
+//! Whether a listing is true of a state (document 01, "True of a state", and the owner's demand 3; of what a rescue lists too: document
+//! 02, request 5), and whether its `E` lines, which say nothing of states, follow from its `T` lines (document 02, request 2).
 //! It works from the listing's text, parsed back line by line, and from the card; it shares nothing with the analysis.
 
 use crate::card::{Schema, Task};
@@ -8,6 +8,7 @@ use crate::strips::FACT_LEN;
 /// A listing, parsed back from its lines.
 #[derive(Debug, Default)]
 pub struct Listing {
+    /// The spaces by number; after a mixed one that is rescued comes what is left of it, with the same number and kind H.
     pub spaces: Vec<SpaceLines>,
     /// `F` and `C` lines: predicate and number.
     pub totals: Vec<(usize, usize)>,
@@ -16,9 +17,10 @@ pub struct Listing {
     pub types: Vec<(usize, usize, Vec<usize>)>,
 }
 
-/// The section of one space.
+/// An `S` line and the lines that belong to it.
 #[derive(Debug, Default)]
 pub struct SpaceLines {
+    pub number: usize,
     pub kind: String,
     pub properties: Vec<usize>,
     pub members: Vec<usize>,
@@ -34,8 +36,21 @@ pub struct SpaceLines {
     pub nestings: Vec<(usize, usize)>,
 }
 
+impl SpaceLines {
+    /// Whether conditions are listed: P, and H for what is left of a mixed space.
+    fn gives_conditions(&self) -> bool {
+        self.kind == "P" || self.kind == "H"
+    }
+
+    /// The words by which a fault names the space.
+    fn name(&self) -> String {
+        format!("space {}{}", self.number, if self.kind == "H" { ", rescued" } else { "" })
+    }
+}
+
 /// The letters of lines in the order in which they come: those of a space, and those of the closing section.
 const LETTERS: &str = "STMDXEFCR";
+const KINDS: [&str; 6] = ["S", "A", "P", "M", "W", "H"];
 
 impl Listing {
     /// The listing of this text; none if a line is not of its form or comes after a line that it should come before.
@@ -53,12 +68,16 @@ impl Listing {
             let lists: Vec<Vec<usize>> = parts.map(numbers).collect::<Option<_>>()?;
             if letter == "S" {
                 let (number, kind) = head.split_once(' ')?;
-                if number.parse() != Ok(listing.spaces.len()) {
+                let number = number.parse().ok()?;
+                if !KINDS.contains(&kind) || !listing.takes_space(number, kind) {
                     return None;
                 }
                 let [properties, members] = <[Vec<usize>; 2]>::try_from(lists).ok()?;
-                listing.spaces.push(SpaceLines { kind: kind.to_string(), properties, members, ..SpaceLines::default() });
+                listing.spaces.push(SpaceLines { number, kind: kind.to_string(), properties, members, ..SpaceLines::default() });
                 continue;
+            }
+            if "TMDXE".contains(letter) && !listing.spaces.last()?.gives_conditions() {
+                return None;
             }
             let head = numbers(head)?;
             match (letter, head.as_slice(), lists.as_slice()) {
@@ -74,6 +93,16 @@ impl Listing {
             }
         }
         Some(listing)
+    }
+
+    /// Whether an `S` line with this number and kind may come next. One of kind H comes directly after that of a mixed space, with its
+    /// number; any other has the next number.
+    fn takes_space(&self, number: usize, kind: &str) -> bool {
+        match self.spaces.last() {
+            Some(last) if kind == "H" => last.kind == "M" && last.number == number,
+            Some(last) => number == last.number + 1,
+            None => number == 0 && kind != "H",
+        }
     }
 }
 
@@ -122,8 +151,8 @@ pub fn check(task: &Task, listing: &Listing, facts: &[u8]) -> Result<(), String>
     let objects = task.object_count as usize;
     let counts = state.counts(&properties, objects);
 
-    for (number, space) in listing.spaces.iter().enumerate() {
-        check_space(space, &counts, objects).map_err(|fault| format!("space {number}: {fault}"))?;
+    for space in &listing.spaces {
+        check_space(space, &counts, objects).map_err(|fault| format!("{}: {fault}", space.name()))?;
     }
     for &(predicate, total) in &listing.totals {
         if state.facts_of(predicate) != total {
@@ -144,8 +173,24 @@ pub fn check(task: &Task, listing: &Listing, facts: &[u8]) -> Result<(), String>
 /// Checks the `E` lines of each space: they are the pairs of its conditions of which the first is strictly within the second, each once,
 /// ascending. Says what is wrong.
 pub fn check_nestings(listing: &Listing) -> Result<(), String> {
-    for (number, space) in listing.spaces.iter().enumerate() {
-        check_nestings_of(space).map_err(|fault| format!("space {number}: {fault}"))?;
+    for space in &listing.spaces {
+        check_nestings_of(space).map_err(|fault| format!("{}: {fault}", space.name()))?;
+    }
+    Ok(())
+}
+
+/// Checks what is left of each mixed space that is rescued: some of its properties and some of its members, both in their order. Says
+/// what is wrong.
+pub fn check_rescues(listing: &Listing) -> Result<(), String> {
+    let pairs = listing.spaces.iter().zip(listing.spaces.iter().skip(1));
+    for (mixed, left) in pairs.filter(|(_, left)| left.kind == "H") {
+        let some_of = |part: &[usize], whole: &[usize]| part.iter().all(|number| whole.contains(number)) && part.is_sorted();
+        if left.properties.is_empty() || left.properties.len() == mixed.properties.len() || !some_of(&left.properties, &mixed.properties) {
+            return Err(format!("{}: properties {:?} are left of {:?}", left.name(), left.properties, mixed.properties));
+        }
+        if !some_of(&left.members, &mixed.members) {
+            return Err(format!("{}: members {:?} are left of {:?}", left.name(), left.members, mixed.members));
+        }
     }
     Ok(())
 }
@@ -180,7 +225,7 @@ fn check_space(space: &SpaceLines, counts: &[Vec<usize>], objects: usize) -> Res
         if !member && bag.iter().any(|&count| count > 0) {
             return Err(format!("object {object} is outside and has {bag:?}"));
         }
-        if member && space.kind == "P" {
+        if member && space.gives_conditions() {
             if !space.bags.contains(&bag) {
                 return Err(format!("object {object} has {bag:?}, which is not listed"));
             }
@@ -243,6 +288,14 @@ fn check_types(task: &Task, listing: &Listing, state: &State, number: usize, sch
 
 /// The binding with an atom's parameters bound to a fact's objects, if that leaves the objects different.
 fn bind(binding: &[Option<usize>], parameters: &[u8], objects: &[usize]) -> Option<Vec<Option<usize>>> {
+    // Most facts of a large state do not fit what is bound already, and are not worth a copy.
+    let fits = |(&parameter, object): (&u8, &usize)| match &binding[parameter as usize] {
+        Some(bound) => bound == object,
+        None => !binding.contains(&Some(*object)),
+    };
+    if !parameters.iter().zip(objects).all(fits) {
+        return None;
+    }
     let mut binding = binding.to_vec();
     for (&parameter, &object) in parameters.iter().zip(objects) {
         let taken = binding.contains(&Some(object));

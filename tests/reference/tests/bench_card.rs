@@ -10,10 +10,9 @@ fn text(card: &[u8]) -> String {
 
 /// The lines of the section of one space.
 fn space(card: &[u8], number: usize) -> Vec<String> {
-    let text = text(card);
-    let from = text.lines().skip_while(|line| !line.starts_with(&format!("S {number} ")));
-    let rest = from.enumerate().take_while(|(index, line)| *index == 0 || !"SFCR".contains(&line[..1]));
-    rest.map(|(_, line)| line.to_string()).collect()
+    let (text, own) = (text(card), format!("S {number} "));
+    let from = text.lines().skip_while(|line| !line.starts_with(&own));
+    from.take_while(|line| line.starts_with(&own) || !"SFCR".contains(&line[..1])).map(String::from).collect()
 }
 
 #[test]
@@ -70,9 +69,9 @@ fn k4_lists_an_absorbed_add() {
 }
 
 #[test]
-fn k5_is_mixed() {
+fn k5_is_mixed_and_rescued() {
     let card = from_hex("03 01 01 01 01 02 0E 01 01 00 01 01 00 02 00 00 02 00 0E 01 00 00 01 00 00 02 01 00 02 00 00 01 01 00");
-    assert_eq!(space(&card, 0), ["S 0 M : 0 1 2 : 0"]);
+    assert_eq!(space(&card, 0), ["S 0 M : 0 1 2 : 0", "S 0 H : 0 1 : 0", "T : 0 1", "T : 1 0", "D 0", "D 1", "X 0 1"]);
 }
 
 /// p/2, q/2; the rule takes p(X,Y) and adds q(X,Y); p(0,1) to p(0,last).

@@ -23,6 +23,8 @@ enum Fault {
     TurnsNestingsRound,
     SortsNestingsByOuter,
     IsWideAt64,
+    LeavesOutTheRescue,
+    RescuesAsP,
     WrongClosing,
     RefusesShortBufferFirst,
     AnswersAnothersRefusal,
@@ -49,7 +51,7 @@ enum Fault {
     CommitLeavesTheTail,
 }
 
-const FAULTS: [Fault; 35] = [
+const FAULTS: [Fault; 37] = [
     Fault::AcceptsTrailingBytes,
     Fault::RewritesOneByte,
     Fault::WritesPastTheCard,
@@ -61,6 +63,8 @@ const FAULTS: [Fault; 35] = [
     Fault::TurnsNestingsRound,
     Fault::SortsNestingsByOuter,
     Fault::IsWideAt64,
+    Fault::LeavesOutTheRescue,
+    Fault::RescuesAsP,
     Fault::WrongClosing,
     Fault::RefusesShortBufferFirst,
     Fault::AnswersAnothersRefusal,
@@ -239,6 +243,7 @@ impl Calls for Faulty {
                 out[..end].copy_from_slice(wide.as_bytes());
                 return Ok(end);
             }
+            Fault::LeavesOutTheRescue => return Ok(text.find(&format!("S {number} H ")).unwrap_or(length)),
             _ => {}
         }
         let place = match self.0 {
@@ -250,6 +255,9 @@ impl Calls for Faulty {
         };
         if let Some(place) = place {
             out[place] ^= 1;
+        }
+        if let (Fault::RescuesAsP, Some(place)) = (self.0, text.find(" H : ")) {
+            out[place + 1] = b'P';
         }
         Ok(length)
     }
@@ -297,15 +305,15 @@ fn equal_implementations_pass_and_every_case_comes_up() {
     assert_eq!(missing_of_previews(&previews.met), [""; 0]);
 }
 
-/// A record with nothing in it misses everything: 15, 16, 16 and 17 answers, 5 kinds of spaces, 9 of lines, 5 of nestings, 2 of
-/// tallies and 6 of buffers and numbers.
+/// A record with nothing in it misses everything: 15, 16, 16 and 17 answers, 6 kinds of spaces, 9 of lines, 5 of nestings, 2 of
+/// tallies, 10 of rescues with 3 of their members, and 6 of buffers and numbers.
 #[test]
 fn what_never_came_up_is_missing() {
     let mut met = Met::default();
-    assert_eq!(missing_of_cards(&met).len(), 15 + 16 + 16 + 17 + 5 + 9 + 5 + 2 + 6);
+    assert_eq!(missing_of_cards(&met).len(), 15 + 16 + 16 + 17 + 6 + 9 + 5 + 2 + 10 + 3 + 6);
     met.answer(Call::Check, Err(3));
     met.lines("S 0 P : 0 : 1\n");
-    assert_eq!(missing_of_cards(&met).len(), 15 + 16 + 16 + 17 + 5 + 9 + 5 + 2 + 6 - 3);
+    assert_eq!(missing_of_cards(&met).len(), 15 + 16 + 16 + 17 + 6 + 9 + 5 + 2 + 10 + 3 + 6 - 3);
     // Of previews 21 and 22 answers, 7 parts of 15 and 3 of 17, 9 kinds of lists, 4 of buffers and full states, 4 of something outdated,
     // and damage: 6 parts of the press, 16 of the lists, the unused places, and 19 and 20 of damaged lists.
     assert_eq!(missing_of_previews(&met).len(), 21 + 22 + 7 + 3 + 9 + 4 + 4 + 6 + 16 + 1 + 2);

@@ -105,5 +105,5 @@ fn stored_listings_nest_their_conditions() {
             lines += space.nestings.len();
         }
     }
-    assert_eq!((spaces, lines), (307, 20_836), "spaces with E lines, and E lines");
+    assert_eq!((spaces, lines), (305, 16_771), "spaces with E lines, and E lines");
 }

@@ -1,4 +1,4 @@
-//! The pages say what the program says: K1 and K4 as docs/CARD.md writes them, and each line that docs/EXAMPLES.md and docs/DOMAINS.md
+//! The pages say what the program says: K1, K4 and K5 as docs/CARD.md writes them, and each line that docs/EXAMPLES.md and docs/DOMAINS.md
 //! quote.
 
 use reference::examples::card;
@@ -69,6 +69,13 @@ fn k1_is_listed_line_by_line() {
 fn k4_is_listed_line_by_line() {
     let k4 = "predicates a/1 b/1\nobjects o\nschema s x\npre a(x)\ndel a(x)\nadd b(x)\nfacts a(o) b(o)\n";
     assert_eq!(explained("## Conditions within others: K4"), text(&card(k4).unwrap()));
+}
+
+#[test]
+fn k5_is_listed_line_by_line() {
+    let schemas = "schema up x\npre off(x)\ndel off(x)\nadd on(x) touched(x)\nschema down x\npre on(x)\ndel on(x)\nadd off(x) touched(x)\n";
+    let k5 = format!("predicates on/1 off/1 touched/1\nobjects o\n{schemas}facts off(o)\n");
+    assert_eq!(explained("## A mixed space rescued: K5"), text(&card(&k5).unwrap()));
 }
 
 /// The stored listings of the examples by name, as lines.

@@ -2,9 +2,11 @@
 
 use reference::card::OUTPUT_LEN;
 use reference::histories::Histories;
+use reference::met::{Met, LEFT_MEMBERS, RESCUES};
 use reference::preview::Changes;
 use reference::proved::Reference;
 use reference::random::{trimmed, write_unchecked, Damaged, Random, UNUSED};
+use reference::rescue::rescues;
 use reference::strips::{FACT_LEN, MAX_STATE_FACTS, STATE_LEN};
 use reference::truth::Listing;
 use reference::vectors::to_hex;
@@ -28,6 +30,24 @@ fn random_cards_have_every_kind_of_space() {
     for kind in ["S", "A", "P", "M", "W"] {
         assert!(kinds.get(kind).is_some_and(|&number| number >= 50), "{kinds:?}");
     }
+}
+
+/// Cards that hide attributes are accepted, and most have a mixed space; their rescues go every way.
+#[test]
+fn hidden_attributes_are_rescued_in_every_way() {
+    let mut random = Random::new(SEED);
+    let (mut met, mut mixed) = (Met::default(), 0);
+    for _ in 0..1_000 {
+        let task = random.hiding_task();
+        let card = write_unchecked(&task);
+        assert_eq!(decode(&card), Ok(trimmed(&task)), "{}", to_hex(&card));
+        let rescues = rescues(&task);
+        mixed += !rescues.is_empty() as usize;
+        rescues.iter().for_each(|(space, rescue)| met.rescue(space, rescue));
+    }
+    println!("{mixed} cards with a mixed space\n{met}");
+    assert!(mixed >= 700, "{mixed}");
+    assert_eq!(met.missing(&[], &[&RESCUES[..], &LEFT_MEMBERS].concat()), [""; 0]);
 }
 
 #[test]

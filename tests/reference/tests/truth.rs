@@ -5,7 +5,7 @@ use reference::open::Given;
 use reference::preview::{Changes, ChangesBytes};
 use reference::proved::{Calls, Found, Reference};
 use reference::strips::{facts_in, FACT_LEN, STATE_LEN};
-use reference::truth::{check, check_nestings, Listing};
+use reference::truth::{check, check_nestings, check_rescues, Listing};
 use reference::vectors::{from_hex, K1};
 use reference::{decode, initial, listing, press};
 
@@ -22,6 +22,7 @@ fn verdict(card: &[u8], facts: &[u8], from: &str, to: &str) -> Result<(), String
     assert!(text.contains(from), "{from} is listed");
     let listing = Listing::parse(&text.replacen(from, to, 1)).ok_or("no listing")?;
     check_nestings(&listing)?;
+    check_rescues(&listing)?;
     check(&decode(card).unwrap(), &listing, facts)
 }
 
@@ -83,6 +84,48 @@ fn false_nestings_are_found() {
         ("E 2 1\n", "E 2 1\nE 2 1\n", "E 2 1 is not above the line before"),
     ] {
         assert_eq!(verdict(&card, &facts, from, to), Err(format!("space 0: {fault}")), "{from} as {to}");
+    }
+}
+
+/// K5 with a second object, which opens touched; and its state after schema 0 on object 0, which is on and touched then.
+fn switched_on() -> (Vec<u8>, Vec<u8>) {
+    let card = from_hex("03 01 01 01 02 02 0E 01 01 00 01 01 00 02 00 00 02 00 0E 01 00 00 01 00 00 02 01 00 02 00 00 02 01 00 02 01");
+    (card, from_hex("0000ffff 0200ffff 0201ffff"))
+}
+
+#[test]
+fn false_lines_of_a_rescue_are_found() {
+    let (card, facts) = switched_on();
+    assert_eq!(verdict(&card, &facts, "", ""), Ok(()));
+    for (from, to, fault) in [
+        ("S 0 H : 0 1 : 0\n", "S 0 H : 0 1 :\n", "object 0 is outside and has [1, 0]"),
+        ("S 0 H : 0 1 : 0\n", "S 0 H : 0 1 : 0 1\n", "object 1 has [0, 0], which is not listed"),
+        ("S 0 H : 0 1 : 0\n", "S 0 H : 0 2 : 0\n", "object 0 has [1, 1], which is not listed"),
+        ("T : 1 0\n", "T : 2 0\n", "object 0 has [1, 0], which is not listed"),
+        ("D 1\nX 0 1\n", "", "object 0 has [1, 0], which contains no D"),
+        ("S 0 H : 0 1 : 0\n", "S 0 H : 0 1 2 : 0\n", "properties [0, 1, 2] are left of [0, 1, 2]"),
+        ("S 0 H : 0 1 : 0\n", "S 0 H : : 0\n", "properties [] are left of [0, 1, 2]"),
+        ("S 0 M : 0 1 2 : 0 1\n", "S 0 M : 0 1 2 : 1\n", "members [0] are left of [1]"),
+    ] {
+        assert_eq!(verdict(&card, &facts, from, to), Err(format!("space 0, rescued: {fault}")), "{from} as {to}");
+    }
+}
+
+/// What a rescue lists comes directly after the line of its mixed space and has its number; a mixed space has no other lines.
+#[test]
+fn a_rescue_out_of_its_place_is_found() {
+    let (card, facts) = switched_on();
+    for (from, to) in [
+        ("S 0 M : 0 1 2 : 0 1\nS 0 H : 0 1 : 0\n", "S 0 H : 0 1 : 0\nS 0 M : 0 1 2 : 0 1\n"),
+        ("S 0 M : 0 1 2 : 0 1\n", ""),
+        ("S 0 M ", "S 0 W "),
+        ("S 0 M ", "S 0 B "),
+        ("S 0 H ", "S 1 H "),
+        ("S 0 H ", "S 0 P "),
+        ("S 0 H : 0 1 : 0\n", ""),
+        ("R 0 0 : 0 1\n", "S 0 H : 0 1 : 0\nR 0 0 : 0 1\n"),
+    ] {
+        assert_eq!(verdict(&card, &facts, from, to), Err("no listing".to_string()), "{from} as {to}");
     }
 }
 
@@ -189,6 +232,7 @@ fn turned_round(line: &str) -> String {
 fn false_lines_are_found_in_histories() {
     let changed = [
         ("S", without_last as fn(&str) -> String),
+        ("S", |line| if line.contains(" H : ") { without_last(line) } else { format!("{line}\n") }),
         ("T", other_number),
         ("M", other_number),
         ("D", |_| String::new()),

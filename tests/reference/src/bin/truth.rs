@@ -4,7 +4,7 @@
 //!     truth [SEED [HISTORIES]]      or TRUTH_SEED, TRUTH_HISTORIES in the environment
 //!
 //! Ends at the first false line with the card, its listing and the calls, and with status 1. A run of 5,000 histories or more
-//! fails too if a kind of space, of line or of answer never came up.
+//! fails too if a kind of space, of line or of answer never came up, or if less than one history in twenty has a rescued space with members.
 
 use reference::histories::Histories;
 use reference::proved::Proved;
@@ -26,6 +26,7 @@ fn main() -> ExitCode {
         }
     }
 
+    println!("{} histories of cards with a rescued space that has members", histories.rescued);
     println!("{} states; spaces and lines, once for each state that they were checked against\n{}", histories.states, histories.met);
     let missing = histories.missing();
     missing.iter().for_each(|what| println!("never met: {what}"));
