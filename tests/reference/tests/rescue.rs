@@ -189,8 +189,8 @@ fn no_total_comes_of_a_rescue() {
 /// The sections after it keep their numbers.
 #[test]
 fn a_rescue_is_in_the_section_of_its_space() {
-    let lamp = ("x", "dark(x)", "lit(x)");
-    let both = description("on/1 off/1 touched/1 dark/1 lit/1", "o", &[SWITCH[0], lamp, SWITCH[1]], "off(o) dark(o)");
+    let lighting = ("x", "dark(x)", "lit(x)");
+    let both = description("on/1 off/1 touched/1 dark/1 lit/1", "o", &[SWITCH[0], lighting, SWITCH[1]], "off(o) dark(o)");
     let text = text(&card(&both).unwrap());
     let spaces: Vec<&str> = text.lines().filter(|line| line.starts_with('S')).collect();
     assert_eq!(spaces, ["S 0 M : 0 1 2 : 0", "S 0 H : 0 1 : 0", "S 1 P : 3 4 : 0"]);
