@@ -26,7 +26,7 @@ extern "C" {
 
 /* The version of this header. CHANGELOG.md says what each version changed; a change of an answer or of the card raises it. */
 #define STAKESTALK_VERSION_MAJOR 0
-#define STAKESTALK_VERSION_MINOR 4
+#define STAKESTALK_VERSION_MINOR 3
 #define STAKESTALK_VERSION_PATCH 0
 #define STAKESTALK_VERSION (STAKESTALK_VERSION_MAJOR * 10000 + STAKESTALK_VERSION_MINOR * 100 + STAKESTALK_VERSION_PATCH)
 
@@ -51,7 +51,7 @@ extern "C" {
 #define STAKESTALK_STACK_PREVIEW 28672
 #define STAKESTALK_STACK_COMMIT 28672
 #define STAKESTALK_STACK_REWRITE 28672
-#define STAKESTALK_STACK_SECTION 139264
+#define STAKESTALK_STACK_SECTION 135168
 #define STAKESTALK_STACK STAKESTALK_STACK_SECTION
 
 /* The refusals, by number. An answer is minus one of these. */

@@ -11,7 +11,6 @@ pub mod Places
 pub mod Tabled
 pub mod HiddenPlaces
 pub mod Tasks
-pub mod Labelling
 pub mod Extending
 pub mod Analysing
 pub mod Leaving

@@ -20,9 +20,9 @@ rewritten out (accepted t) = encode t out
 unfoldable pub rewrites : List ℕ → List ℕ → Call
 rewrites card out = rewritten out (decode card)
 
--- the version of the C interface, 0.4.0, with two decimal digits each for minor and patch
+-- the version of the C interface, 0.3.0, with two decimal digits each for minor and patch
 unfoldable pub version_number : ℕ
-version_number = 0 * 10000 + 4 * 100 + 0
+version_number = 0 * 10000 + 3 * 100 + 0
 
 -- a value that is answered is no larger than an output buffer that is asked for
 pub record Small (answer : Answer ℕ) : Type 0 where

@@ -23,8 +23,8 @@ use reader::decode;
 use strips::{Applied, apply, initial};
 use writer::{Writing, encode};
 
-// The version of these calls, 0.4.0, as include/stakestalk.h has it: two decimal digits each for minor and patch.
-const VERSION: i32 = 400;
+// The version of these calls, 0.3.0, as include/stakestalk.h has it: two decimal digits each for minor and patch.
+const VERSION: i32 = 300;
 
 // The bytes of changes, and where in them the number of rows that go and of rows that come stands.
 const CHANGES_BYTES: usize = 74;

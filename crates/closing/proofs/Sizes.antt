@@ -12,7 +12,7 @@ use borrow.Author.Tests.{ltb-true, ltb-false}
 use Rattle.laws.specs.Lists.{all, keep, sum, up_to}
 use Rattle.laws.specs.Bags.{support}
 use Rattle.laws.proofs.Tests.{by_test}
-use Rattle.laws.proofs.Lists.{keep_at, up_to_at, length_up_to, place_of_lem}
+use Rattle.laws.proofs.Lists.{keep_at, up_to_at, length_up_to, place_of}
 use Rattle.laws.proofs.Counting.{count_most}
 use Rattle.laws.proofs.Walks.{keep_few}
 use Rattle.model.specs.Card.{Task, Schema}
@@ -143,7 +143,7 @@ module _ (t : Task) (right : Checked t) where
   module _ (fixed : List ℕ) (table : fixed ≡ fixed_table t) (narrow : length (properties t) ≤ 60) (small : (i : ℕ) → get_or fixed i 0 < 4294967296) where
     entries_small : (start size n : ℕ) → Memᴰ n (take size (drop start fixed)) → n < 4294967296
     entries_small start size n m =
-        let place = place_of_lem (take size (drop start fixed)) n 0 m in
+        let place = place_of (take size (drop start fixed)) n 0 m in
         let i : ℕ = place.0 in
         let inside : i < size = omega (arith, place.1, length-take size (drop start fixed)) in
         subst (λ (x : ℕ). x < 4294967296) (sym (get_or-take size (drop start fixed) i 0 inside ∙ get_or-drop start fixed i 0) ∙ place.2) (small (start + i))

@@ -13,7 +13,7 @@ use Rattle.laws.specs.Bags.{Bag, support}
 use Rattle.laws.proofs.Tests.{by_test}
 use Rattle.laws.proofs.Bags.{support_at_lem}
 use Rattle.laws.proofs.Folds.{fold_ext}
-use Rattle.laws.proofs.Lists.{keep_at, up_to_at, place_of_lem, mem_get_d}
+use Rattle.laws.proofs.Lists.{keep_at, up_to_at, place_of, mem_get_d}
 use Rattle.laws.proofs.Mapped.{get_d_map, any_map, any_ext, all_ext, map_ext}
 use Rattle.masks.specs.Sets.{mask_of, members_of, common_of, all_below}
 use Rattle.masks.proofs.Kept.{all_kept}
@@ -104,7 +104,7 @@ module _ (t : Task) (sp : code.Spaces) (of : SpacesOf t sp) (narrow : length (pr
   mask_of_label : (l : ℕ) → Memᴰ l (labels t) → get_or masks l 0 ≡ mask_of (keep (λ o. belongs t o l) (up_to t.objects))
   unfolding spaces_with space_with
   mask_of_label l m =
-      let place = place_of_lem (labels t) l 0 m in
+      let place = place_of (labels t) l 0 m in
       let k : ℕ = place.0 in
       let at : get_or sp.lowest k 0 ≡ l = lowest_are k place.1 ∙ place.2 in
       ap (λ (x : ℕ). get_or masks x 0) (sym at)

@@ -8,8 +8,6 @@ pub mod Remaining
 pub mod Choosing
 pub mod Containing
 pub mod Turning
-pub mod Steps
-pub mod Tracing
 pub mod Searching
 pub mod Repeats
 pub mod Judging
@@ -19,7 +17,5 @@ pub mod Arriving
 pub mod Expanding
 pub mod Trying
 pub mod Exploring
-pub mod Indexing
 pub mod Copying
-pub mod Origins
 pub mod Extending

@@ -5,6 +5,5 @@ pub mod Mixed
 pub mod Choosing
 pub mod Expanding
 pub mod Searching
-pub mod Sources
 pub mod Extended
 pub mod Repeats

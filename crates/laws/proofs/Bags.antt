@@ -4,18 +4,17 @@ use native.Mathlib.Nat.{suc_inj, suc-ne-zero, le_refl}
 use native.Mathlib.Omega.{arith}
 use mathlib.Core.Path.{◌≡◌, refl, sym, ap, ◌∙◌, subst}
 use mathlib.Core.Bool.{Bool, true, false, cond, not}
-use mathlib.Core.Logic.{◌⊎◌, inl, inr}
+use mathlib.Core.List.{List, [], ◌∷◌, zip_with, Memᴰ}
 use mathlib.Core.List.Memᴰ
-use mathlib.Core.List.{List, [], ◌∷◌, ◌++◌, zip_with, Memᴰ}
 use lib.Dec.{leb, eqb, ltb}
 use lib.ListN.{length, get_or, length-map, get_or-eq_default}
 use lib.Seq.{ext_get_or}
 use borrow.Author.Tests.{eqb-true, eqb-false, eq-eqb, ne_eqb, leb-true, le-leb, ltb-true, ltb-false, lt-ltb}
 use Rattle.laws.specs.Lists.{any, all, up_to, sum, same}
-use Rattle.laws.specs.Bags.{Bag, plus, less, meet, contains, is_empty, single, support, restrict, listed, place_of}
+use Rattle.laws.specs.Bags.{Bag, plus, less, meet, contains, is_empty, single, support, restrict, listed}
 use Rattle.laws.proofs.Tests.{never, and_left, and_right, and_intro, by_test, same_test, cond_true, cond_false}
 use Rattle.laws.proofs.Mapped.{get_d_map}
-use Rattle.laws.proofs.Lists.{all_at, all_intro, any_at, any_intro, keep_at, keep_intro, mem_get_d, place_of_lem, length_up_to, up_to_at, up_to_intro}
+use Rattle.laws.proofs.Lists.{all_at, all_intro, any_at, any_intro, keep_at, keep_intro, mem_get_d, place_of, length_up_to, up_to_at, up_to_intro}
 use Rattle.laws.proofs.Lists.{get_d_up_to, same_eq, same_refl}
 
 -- ---- an operation that goes property by property
@@ -203,41 +202,6 @@ listed_intro bags b k = any_intro (same b) bags b k (same_refl b)
 pub listed_not : (bags : List Bag) (b : Bag) → listed bags b ≡ false → Memᴰ b bags → ⊥
 listed_not bags b e k = never (sym (listed_intro bags b k) ∙ e)
 
--- ---- the place of a bag on a list
-
--- its bag is there
-pub place_there : (bags : List Bag) (b : Bag) → place_of bags b < length bags → get_or bags (place_of bags b) [] ≡ b
-unfolding place_of
-place_there [] b h = absurd (omega arith)
-place_there (x ∷ bags) b h = go (same b x) refl h (place_there bags b)
-  where
-    go : (t : Bool) → same b x ≡ t → cond t 0 (suc (place_of bags b)) < suc (length bags)
-        → (place_of bags b < length bags → get_or bags (place_of bags b) [] ≡ b) → get_or (x ∷ bags) (cond t 0 (suc (place_of bags b))) [] ≡ b
-    go true e l later = sym (same_eq b x e)
-    go false e l later = later (omega arith)
-
--- a bag on the first part of a list has its place in it, and one that is not on it behind it
-pub place_front : (bags more : List Bag) (b : Bag) → Memᴰ b bags → place_of (bags ++ more) b < length bags
-unfolding place_of
-place_front [] more b k = absurd (Memᴰ.not-nil k)
-place_front (x ∷ bags) more b k = go (same b x) refl (place_front bags more b) (Memᴰ.cases_cons k)
-  where
-    go : (t : Bool) → same b x ≡ t → (Memᴰ b bags → place_of (bags ++ more) b < length bags) → (b ≡ x) ⊎ Memᴰ b bags
-        → cond t 0 (suc (place_of (bags ++ more) b)) < suc (length bags)
-    go true e later j = omega arith
-    go false e later (inl p) = never (sym (same_refl b) ∙ ap (same b) p ∙ e)
-    go false e later (inr j) = suc-le-suc (later j)
-
-pub place_behind : (bags more : List Bag) (b : Bag) → (Memᴰ b bags → ⊥) → length bags ≤ place_of (bags ++ more) b
-unfolding place_of
-place_behind [] more b d = zero-le
-place_behind (x ∷ bags) more b d = go (same b x) refl (place_behind bags more b (λ k. d (Memᴰ.tail k)))
-  where
-    go : (t : Bool) → same b x ≡ t → length bags ≤ place_of (bags ++ more) b
-        → suc (length bags) ≤ cond t 0 (suc (place_of (bags ++ more) b))
-    go true e later = absurd (d (Memᴰ.head (same_eq b x e)))
-    go false e later = suc-le-suc later
-
 -- ---- an empty bag, a bag of one occurrence, the properties of a bag
 
 -- an empty bag is one whose counts are all 0
@@ -251,7 +215,7 @@ is_empty_at b e i =
 pub is_empty_intro : (b : Bag) → ((i : ℕ) → i < length b → get_or b i 0 ≡ 0) → is_empty b ≡ true
 unfolding is_empty
 is_empty_intro b h =
-    all_intro (eqb 0) b (λ x k. let r = place_of_lem b x 0 k in eq-eqb 0 x (sym (sym r.2 ∙ h r.0 r.1)))
+    all_intro (eqb 0) b (λ x k. let r = place_of b x 0 k in eq-eqb 0 x (sym (sym r.2 ∙ h r.0 r.1)))
 
 -- to take an empty bag away changes nothing
 pub less_empty : (n : ℕ) (b e : Bag) → length b ≡ n → length e ≡ n → is_empty e ≡ true → less b e ≡ b

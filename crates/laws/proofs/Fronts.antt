@@ -4,17 +4,13 @@ use native.Mathlib.Nat.{zero-add, not-suc-le-zero, le_of_suc-le-suc, le_refl}
 use native.Mathlib.Omega.{arith}
 use mathlib.Core.Path.{◌≡◌, refl, sym, ap, ◌∙◌, subst}
 use mathlib.Core.Bool.{Bool, true, false, cond}
-use mathlib.Core.Logic.{⊎_elim}
-use mathlib.Core.List.Memᴰ
-use mathlib.Core.List.{List, [], ◌∷◌, ◌++◌, map, flat_map, Memᴰ}
+use mathlib.Core.List.{List, [], ◌∷◌, ◌++◌, map}
 use lib.Dec.{ltb, eqb}
 use lib.ListN.{length, get_or, take, set, length-set}
 use lib.Seq.{take-suc, get_or-set_same, get_or-set_other}
 use borrow.Author.Tests.{ltb-true, ltb-false, eqb-true, eqb-false}
-use Rattle.laws.specs.Lists.{any, from, up_to, sum, keep}
-use Rattle.laws.proofs.Tests.{never, by_test}
-use Rattle.laws.proofs.Lists.{any_at, any_none, keep_at, keep_intro}
-use Rattle.laws.proofs.Mapped.{keep_none}
+use Rattle.laws.specs.Lists.{from, up_to, sum, keep}
+use Rattle.laws.proofs.Tests.{by_test}
 
 -- one more number in sequence
 pub from_next : (start n : ℕ) → from start (suc n) ≡ from start n ++ ((start + n) ∷ [])
@@ -134,63 +130,3 @@ module _ {A : Type 0} (test : A → Bool) where
           → cond b (x ∷ keep test (xs ++ ys)) (keep test (xs ++ ys)) ≡ cond b (x ∷ keep test xs) (keep test xs) ++ keep test ys
       go true e = ap (λ (l : List A). x ∷ l) e
       go false e = e
-
-  -- where one passes, they begin with one
-  pub keep_first : (xs : List A) → any test xs ≡ true
-      → (x : A) × (rest : List A) × Memᴰ x xs × (test x ≡ true) × (keep test xs ≡ x ∷ rest)
-  keep_first xs e = let r = any_at test xs e in go (keep test xs) refl (keep_intro test xs r.0 r.1 r.2)
-    where
-      go : (kept : List A) {y : A} → keep test xs ≡ kept → Memᴰ y kept
-          → (x : A) × (rest : List A) × Memᴰ x xs × (test x ≡ true) × (keep test xs ≡ x ∷ rest)
-      go [] p m = absurd (Memᴰ.not-nil m)
-      go (x ∷ rest) p m =
-          let k = keep_at test xs x (subst (Memᴰ x) (sym p) (Memᴰ.head refl)) in (x, rest, k.0, k.1, p)
-
--- The first element that passes a test, in lists one after the other: in which list it is, and that none passes in the lists before.
-pub record FirstIn {A B : Type 0} (test : B → Bool) (f : A → List B) (xs : List A) (d : A) : Type 0 where
-  pub place : ℕ
-  pub there : place < length xs
-  pub found : B
-  pub found_in : Memᴰ found (f (get_or xs place d))
-  pub passes : test found ≡ true
-  pub first : take 1 (keep test (flat_map f xs)) ≡ found ∷ []
-  pub none_before : (y : B) → Memᴰ y (flat_map f (take place xs)) → test y ≡ false
-
-pub first_in : {A B : Type 0} (test : B → Bool) (f : A → List B) (xs : List A) (d : A) (y : B) → Memᴰ y (flat_map f xs) → test y ≡ true
-    → FirstIn test f xs d
-unfolding flat_map
-first_in test f [] d y m e = absurd (Memᴰ.not-nil m)
-first_in {A} {B} test f (x ∷ xs) d y m e = by_test (any test (f x)) here (λ q. later q (first_in test f xs d y (behind_all q) e))
-  where
-    behind_all : any test (f x) ≡ false → Memᴰ y (flat_map f xs)
-    behind_all q = ⊎_elim (λ k. never (sym e ∙ any_none test (f x) q y k)) (λ k. k) (Memᴰ.append_cases (f x) m)
-
-    here : any test (f x) ≡ true → FirstIn test f (x ∷ xs) d
-    here p =
-        let (z, rest, k, passes, kept) = keep_first test (f x) p in
-        record {
-          place = 0;
-          there = suc-le-suc zero-le;
-          found = z;
-          found_in = k;
-          passes = passes;
-          first =
-              ap (take 1) (keep_parts test (f x) (flat_map f xs))
-              ∙ ap (λ (l : List B). take 1 (l ++ keep test (flat_map f xs))) kept;
-          none_before = λ w j. absurd (Memᴰ.not-nil j);
-        }
-
-    later : any test (f x) ≡ false → FirstIn test f xs d → FirstIn test f (x ∷ xs) d
-    later q r =
-        record {
-          place = suc r.place;
-          there = suc-le-suc r.there;
-          found = r.found;
-          found_in = r.found_in;
-          passes = r.passes;
-          first =
-              ap (take 1) (keep_parts test (f x) (flat_map f xs))
-              ∙ ap (λ (l : List B). take 1 (l ++ keep test (flat_map f xs))) (keep_none test (f x) (any_none test (f x) q))
-              ∙ r.first;
-          none_before = λ w j. ⊎_elim (any_none test (f x) q w) (r.none_before w) (Memᴰ.append_cases (f x) j);
-        }

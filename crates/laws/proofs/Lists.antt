@@ -135,11 +135,11 @@ module _ {A : Type 0} where
   mem_get_d (x ∷ xs) zero d h = Memᴰ.head refl
   mem_get_d (x ∷ xs) (suc i) d h = Memᴰ.tail (mem_get_d xs i d (le_of_suc-le-suc h))
 
-  pub place_of_lem : (xs : List A) (x d : A) → Memᴰ x xs → (i : ℕ) × (i < length xs) × (get_or xs i d ≡ x)
-  place_of_lem [] x d m = absurd (Memᴰ.not-nil m)
-  place_of_lem (y ∷ ys) x d m =
+  pub place_of : (xs : List A) (x d : A) → Memᴰ x xs → (i : ℕ) × (i < length xs) × (get_or xs i d ≡ x)
+  place_of [] x d m = absurd (Memᴰ.not-nil m)
+  place_of (y ∷ ys) x d m =
       ⊎_elim (λ p. (0, suc-le-suc zero-le, sym p))
-      (λ k. let r = place_of_lem ys x d k in (suc r.0, suc-le-suc r.1, r.2))
+      (λ k. let r = place_of ys x d k in (suc r.0, suc-le-suc r.1, r.2))
       (Memᴰ.cases_cons m)
 
   -- a member of a front part is a member

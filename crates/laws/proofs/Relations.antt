@@ -54,14 +54,3 @@ module _ {A B : Type 0} where
       ⊎_elim (λ p. (y, Memᴰ.head refl, subst (λ (w : A). R w y) (sym p) e.0))
       (λ j. let r = each_has R xs ys e.1 x j in (r.0, Memᴰ.tail r.1, r.2))
       (Memᴰ.cases_cons k)
-
-  -- and each of the second list has one of the first
-  pub each_from : (R : A → B → Type 0) (xs : List A) (ys : List B) → Each R xs ys → (y : B) → Memᴰ y ys
-      → (x : A) × Memᴰ x xs × R x y
-  each_from R [] [] e y k = absurd (Memᴰ.not-nil k)
-  each_from R [] (z ∷ ys) e y k = absurd e
-  each_from R (x ∷ xs) [] e y k = absurd e
-  each_from R (x ∷ xs) (z ∷ ys) e y k =
-      ⊎_elim (λ p. (x, Memᴰ.head refl, subst (R x) (sym p) e.0))
-      (λ j. let r = each_from R xs ys e.1 y j in (r.0, Memᴰ.tail r.1, r.2))
-      (Memᴰ.cases_cons k)

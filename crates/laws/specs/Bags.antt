@@ -1,5 +1,5 @@
 -- Bags. A bag over a list of properties is the list of their counts, in the same order; operations go property by property.
-use Rattle.std.specs.Prelude.{ℕ, suc, ◌+◌, ◌-◌, min, Bool, true, false, cond, ◌&&◌, ◌||◌, List, [], ◌∷◌, map, leb, eqb, ltb, length, get_or}
+use Rattle.std.specs.Prelude.{ℕ, ◌+◌, ◌-◌, min, Bool, true, false, cond, ◌&&◌, ◌||◌, List, [], ◌∷◌, map, leb, eqb, ltb, length, get_or}
 use Rattle.laws.specs.Lists.{all, same, keep, up_to, any}
 
 abbrev pub Bag : Type 0
@@ -98,14 +98,8 @@ restrict properties xs = map (λ c. get_or xs c 0) properties
 unfoldable pub listed : List Bag → Bag → Bool
 listed bags xs = any (same xs) bags
 
--- the place at which a bag first stands on a list, or the list's length where it is not on it
-unfoldable pub place_of : List Bag → Bag → ℕ
-place_of [] xs = 0
-place_of (b ∷ bags) xs = let later = place_of bags xs in cond (same xs b) 0 (suc later)
-
 -- opens every definition of this module, for what is proved by computation
 unfoldable pub bags_open : Unit {0}
 unfolding
     plus less meet contains comparison compare is_equal is_within is_around strictly_contains strictly_within covers is_empty single support restrict listed
-    place_of
 bags_open = tt

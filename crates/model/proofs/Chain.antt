@@ -19,15 +19,15 @@ use Rattle.model.specs.Extension.{Move}
 use Rattle.model.proofs.Choices.{results_intro}
 use Rattle.model.proofs.OwnLists.{Closed}
 
--- the exchange rule of property i in a schema: it is removed and added
-abbrev pub exchange : ℕ → ℕ → ℕ → Move
-exchange schema n i = record { schema = schema; start = single n i; finish = single n i }
+-- the exchange rule of property i: it is removed and added
+abbrev pub exchange : ℕ → ℕ → Move
+exchange n i = record { start = single n i; finish = single n i }
 
 -- the rest rule of a parameter: its deletes and adds, less what they have in common
-abbrev pub rest : ℕ → Bag → Bag → Move
-rest schema d a = record { schema = schema; start = less d (meet d a); finish = less a (meet d a) }
+abbrev pub rest : Bag → Bag → Move
+rest d a = record { start = less d (meet d a); finish = less a (meet d a) }
 
-module _ (moves : List Move) (bags : List Bag) (closed : Closed moves bags) (schema n : ℕ) where
+module _ (moves : List Move) (bags : List Bag) (closed : Closed moves bags) (n : ℕ) where
   -- one step by a rule, its result known by its counts
   step : (b : Bag) (m : Move) (s r : Bag) → Memᴰ b bags → Memᴰ m moves
       → length b ≡ n → length m.start ≡ n → length m.finish ≡ n → length s ≡ n → length r ≡ n
@@ -52,20 +52,20 @@ module _ (moves : List Move) (bags : List Bag) (closed : Closed moves bags) (sch
       (absorbed i (subst (λ (x : ℕ). i < x) lm h))))))
 
   -- an exchange whose add is absorbed takes one occurrence, where there are two
-  exchange_step : (b : Bag) (c : ℕ) → Memᴰ b bags → Memᴰ (exchange schema n c) moves → length b ≡ n
+  exchange_step : (b : Bag) (c : ℕ) → Memᴰ b bags → Memᴰ (exchange n c) moves → length b ≡ n
       → 2 ≤ get_or b c 0 → Memᴰ (less b (single n c)) bags
   exchange_step b c k j lb two =
       let one = single n c in
       let l1 = length_single n c in
       let twice = single_by_place (λ i o. o + o ≤ get_or b i 0) n c two (λ i. zero-le) in
-      step b (exchange schema n c) one (less b one) k j lb l1 l1 l1 (length_less n b one lb l1)
+      step b (exchange n c) one (less b one) k j lb l1 l1 l1 (length_less n b one lb l1)
       (λ i h. let t = twice i h in omega arith)
       (λ i h. let t = twice i h in omega arith)
       (λ i h. let g = get_d_less b one (lb ∙ sym l1) i in omega arith)
 
   -- exchanges with absorbed adds take away any bag e, one occurrence after the other, where e is below b at each of its properties
   exchange_steps : (fuel : ℕ) (b e : Bag) → sum e < fuel → length b ≡ n → length e ≡ n → Memᴰ b bags
-      → ((i : ℕ) → i < n → 0 < get_or e i 0 → Memᴰ (exchange schema n i) moves × (get_or e i 0 < get_or b i 0))
+      → ((i : ℕ) → i < n → 0 < get_or e i 0 → Memᴰ (exchange n i) moves × (get_or e i 0 < get_or b i 0))
       → Memᴰ (less b e) bags
   exchange_steps zero b e h lb le k j = absurd (not-suc-le-zero h)
   exchange_steps (suc fuel) b e h lb le k j =
@@ -126,16 +126,16 @@ charge b d a s x rd ra c e h k common less_d less_a by_c by_e =
     }
 
 -- document 01's press on a bag: with deletes d and adds a, of which s are absorbed, a closed list leads from b to b - d + a - s
-pub chain : (moves : List Move) (bags : List Bag) → Closed moves bags → (schema n : ℕ) (b d a s : Bag)
+pub chain : (moves : List Move) (bags : List Bag) → Closed moves bags → (n : ℕ) (b d a s : Bag)
     → length b ≡ n → length d ≡ n → length a ≡ n → length s ≡ n
     → Memᴰ b bags → contains b d ≡ true → contains (meet a (less b d)) s ≡ true
-    → ((i : ℕ) → i < n → 0 < get_or (meet d a) i 0 → Memᴰ (exchange schema n i) moves)
-    → Memᴰ (rest schema d a) moves ⊎ ((is_empty (less d (meet d a)) ≡ true) × (is_empty (less a (meet d a)) ≡ true))
+    → ((i : ℕ) → i < n → 0 < get_or (meet d a) i 0 → Memᴰ (exchange n i) moves)
+    → Memᴰ (rest d a) moves ⊎ ((is_empty (less d (meet d a)) ≡ true) × (is_empty (less a (meet d a)) ≡ true))
     → Memᴰ (less (plus (less b d) a) s) bags
-chain moves bags closed schema n b d a s lb ld la ls k fits absorbed exchanges remains =
+chain moves bags closed n b d a s lb ld la ls k fits absorbed exchanges remains =
     ⊎_elim
     (λ j.
-    step moves bags closed schema n (less b e) (rest schema d a) c (less (plus (less b d) a) s) exchanged j lbe lrd lra lc lr
+    step moves bags closed n (less b e) (rest d a) c (less (plus (less b d) a) s) exchanged j lbe lrd lra lc lr
     (λ i h. let t = at i in let g = less_e i in omega arith)
     (λ i h. let t = at i in let g = less_e i in le-min t.by_rest (omega arith))
     (λ i h. let t = at i in let g = less_e i in result i ∙ omega arith))
@@ -207,5 +207,5 @@ chain moves bags closed schema n b d a s lb ld la ls k fits absorbed exchanges r
 
     exchanged : Memᴰ (less b e) bags
     exchanged =
-        exchange_steps moves bags closed schema n (suc (sum e)) b e (le_refl (suc (sum e))) lb le k
+        exchange_steps moves bags closed n (suc (sum e)) b e (le_refl (suc (sum e))) lb le k
         (λ i h p. let t = at i in (exchanges i h (omega arith), omega arith))

@@ -1,7 +1,7 @@
 -- Document 01, "Spaces": "All start and finish properties of one rule share a space; spaces are the smallest such grouping,
 -- numbered by lowest property." A grouping gives each property the label of its group, which is the group's lowest property.
-use Prim.Native.Nat.{ℕ, zero, suc, ◌+◌, ◌≤◌, ◌<◌, min}
-use native.Mathlib.Nat.{le_refl, le_trans, zero-add}
+use Prim.Native.Nat.{ℕ, ◌≤◌, ◌<◌, min}
+use native.Mathlib.Nat.{le_refl, le_trans}
 use native.Mathlib.Omega.{arith}
 use mathlib.Core.Path.{◌≡◌, refl, sym, ap, ◌∙◌, subst}
 use mathlib.Core.Bool.{Bool, true, false, cond, ◌||◌}
@@ -14,14 +14,13 @@ use borrow.Author.Tests.{eqb-true, eq-eqb}
 use Rattle.laws.specs.Lists.{up_to}
 use Rattle.laws.specs.Bags.{Bag, plus, less, meet, is_empty, single, support}
 use Rattle.laws.proofs.Tests.{or_cases, or_left, or_right, cond_true, cond_false, by_test}
-use Rattle.laws.proofs.Lists.{length_up_to, get_d_up_to, up_to_at, up_to_intro, flat_map_at, flat_map_intro}
+use Rattle.laws.proofs.Lists.{length_up_to, get_d_up_to, flat_map_at}
 use Rattle.laws.proofs.Folds.{foldl_keeps, foldl_reaches}
 use Rattle.laws.proofs.Mapped.{get_d_map}
 use Rattle.laws.proofs.Closure.{min_cases}
 use Rattle.laws.proofs.Bags.{length_plus, length_less, length_meet, length_single, support_at_lem}
-use Rattle.model.specs.Card.{Atom, Schema, Task}
-use Rattle.model.specs.Strips.{schema_at}
-use Rattle.model.specs.Transitions.{Property, Transition, properties, bag_of, exchanges, remaining, rules_of, parameter_rules, schema_rules, transitions}
+use Rattle.model.specs.Card.{Atom, Task}
+use Rattle.model.specs.Transitions.{Property, Transition, properties, bag_of, exchanges, remaining, rules_of, parameter_rules, transitions}
 use Rattle.model.specs.Spaces.{moved, unite, unite_all, grouping}
 
 -- the label of a property's group
@@ -268,9 +267,9 @@ pub record Sized (n : ℕ) (r : Transition) : Type 0 where
   pub start : length r.start ≡ n
   pub finish : length r.finish ≡ n
 
-pub exchanges_sized : (n : ℕ) (p x : Bag) (r : Transition) → Memᴰ r (exchanges n p x) → Sized (length p) r
+pub exchanges_sized : (p x : Bag) (r : Transition) → Memᴰ r (exchanges p x) → Sized (length p) r
 unfolding exchanges
-exchanges_sized n p x r m =
+exchanges_sized p x r m =
     let q = Memᴰ.of_map _ (support x) m in
     subst (Sized (length p)) q.2
     (record {
@@ -279,15 +278,15 @@ exchanges_sized n p x r m =
       finish = length_single (length p) q.0;
     })
 
-pub remaining_sized : (n : ℕ) (p start finish : Bag) → length start ≡ length p → length finish ≡ length p
-    → (r : Transition) → Memᴰ r (remaining n p start finish) → Sized (length p) r
+pub remaining_sized : (p start finish : Bag) → length start ≡ length p → length finish ≡ length p
+    → (r : Transition) → Memᴰ r (remaining p start finish) → Sized (length p) r
 unfolding remaining
-remaining_sized n p start finish es ef r = go (is_empty start)
+remaining_sized p start finish es ef r = go (is_empty start)
   where
     go : (b : Bool)
         → Memᴰ r
-        (cond b (map (λ c. record { schema = n; enablers = less p start; start = start; finish = single (length p) c }) (support finish))
-        (record { schema = n; enablers = less p start; start = start; finish = finish } ∷ []))
+        (cond b (map (λ c. record { enablers = less p start; start = start; finish = single (length p) c }) (support finish))
+        (record { enablers = less p start; start = start; finish = finish } ∷ []))
         → Sized (length p) r
     go true m =
         let q = Memᴰ.of_map _ (support finish) m in
@@ -297,101 +296,32 @@ remaining_sized n p start finish es ef r = go (is_empty start)
         subst (Sized (length p)) (sym (Memᴰ.eq_of_singleton m))
         (record { enablers = length_less (length p) p start refl es; start = es; finish = ef })
 
-pub rules_of_sized : (n : ℕ) (p d a : Bag) → length d ≡ length p → length a ≡ length p
-    → (r : Transition) → Memᴰ r (rules_of n p d a) → Sized (length p) r
+pub rules_of_sized : (p d a : Bag) → length d ≡ length p → length a ≡ length p
+    → (r : Transition) → Memᴰ r (rules_of p d a) → Sized (length p) r
 unfolding rules_of
-rules_of_sized n p d a ed ea r m =
+rules_of_sized p d a ed ea r m =
     let common : length (meet d a) ≡ length p = length_meet (length p) d a ed ea in
-    ⊎_elim (exchanges_sized n p (meet d a) r)
-    (remaining_sized n p (less d (meet d a)) (less a (meet d a))
+    ⊎_elim (exchanges_sized p (meet d a) r)
+    (remaining_sized p (less d (meet d a)) (less a (meet d a))
     (length_less (length p) d (meet d a) ed common) (length_less (length p) a (meet d a) ea common) r)
-    (Memᴰ.append_cases (exchanges n p (meet d a)) m)
-
--- and every rule has the number of its schema
-rules_of_schema : (n : ℕ) (p d a : Bag) (r : Transition) → Memᴰ r (rules_of n p d a) → r.schema ≡ n
-unfolding rules_of exchanges remaining
-rules_of_schema n p d a r m =
-    let x = meet d a in
-    ⊎_elim (λ k. let q = Memᴰ.of_map _ (support x) k in ap (λ (r : Transition). r.schema) (sym q.2)) (go (is_empty (less d x)) (less d x) (less a x))
-    (Memᴰ.append_cases (exchanges n p x) m)
-  where
-    go : (b : Bool) (start finish : Bag)
-        → Memᴰ r
-        (cond b (map (λ c. record { schema = n; enablers = less p start; start = start; finish = single (length p) c }) (support finish))
-        (record { schema = n; enablers = less p start; start = start; finish = finish } ∷ []))
-        → r.schema ≡ n
-    go true start finish k = let q = Memᴰ.of_map _ (support finish) k in ap (λ (r : Transition). r.schema) (sym q.2)
-    go false start finish k = ap (λ (r : Transition). r.schema) (Memᴰ.eq_of_singleton k)
-
-pub parameter_rule_schema : (t : Task) (n : ℕ) (s : Schema) (k : ℕ) (r : Transition) → Memᴰ r (parameter_rules t n s k) → r.schema ≡ n
-unfolding parameter_rules
-parameter_rule_schema t n s k r m =
-    let bag : List Atom → Bag = λ atoms. bag_of (properties t) atoms k in rules_of_schema n (bag s.preconditions) (bag s.deletes) (bag s.adds) r m
+    (Memᴰ.append_cases (exchanges p (meet d a)) m)
 
 pub length_bag_of : (cs : List Property) (atoms : List Atom) (x : ℕ) → length (bag_of cs atoms x) ≡ length cs
 unfolding bag_of
 length_bag_of cs atoms x = length-map cs _
 
--- a rule of the schemas from number n on is one of a parameter of one of them
-pub schema_rule_at : (t : Task) (n : ℕ) (schemas : List Schema) (none : Schema) (r : Transition) → Memᴰ r (schema_rules t n schemas)
-    → (i : ℕ) × (k : ℕ) × (i < length schemas) × (k < (get_or schemas i none).parameters)
-    × Memᴰ r (parameter_rules t (n + i) (get_or schemas i none) k)
-unfolding schema_rules
-schema_rule_at t n [] none r m = absurd (Memᴰ.not-nil m)
-schema_rule_at t n (s ∷ schemas) none r m =
-    ⊎_elim
-    (λ here.
-    let p = flat_map_at (parameter_rules t n s) (up_to s.parameters) r here in
-    let first : n ≡ n + 0 = omega arith in (
-      0,
-      p.0,
-      omega arith,
-      up_to_at s.parameters p.0 p.1,
-      subst (λ (m : ℕ). Memᴰ r (parameter_rules t m s p.0)) first p.2,
-    ))
-    (λ later.
-    let (i, k, l, h, at) = schema_rule_at t (suc n) schemas none r later in
-    let next : suc n + i ≡ n + suc i = omega arith in
-    (suc i, k, omega arith, h, subst (λ (m : ℕ). Memᴰ r (parameter_rules t m (get_or schemas i none) k)) next at))
-    (Memᴰ.append_cases (flat_map (parameter_rules t n s) (up_to s.parameters)) m)
-
--- and a rule of a parameter of one of them is one of theirs
-pub schema_rule_intro : (t : Task) (n : ℕ) (schemas : List Schema) (none : Schema) (r : Transition) (i k : ℕ) → i < length schemas
-    → k < (get_or schemas i none).parameters → Memᴰ r (parameter_rules t (n + i) (get_or schemas i none) k)
-    → Memᴰ r (schema_rules t n schemas)
-unfolding schema_rules
-schema_rule_intro t n [] none r i k l h m = absurd (omega arith)
-schema_rule_intro t n (s ∷ schemas) none r zero k l h m =
-    let first : n + 0 ≡ n = omega arith in
-    Memᴰ.append_left (schema_rules t (suc n) schemas)
-    (flat_map_intro (parameter_rules t n s) (up_to s.parameters) k r (up_to_intro s.parameters k h)
-    (subst (λ (m : ℕ). Memᴰ r (parameter_rules t m s k)) first m))
-schema_rule_intro t n (s ∷ schemas) none r (suc i) k l h m =
-    Memᴰ.append_right (flat_map (parameter_rules t n s) (up_to s.parameters))
-    (let next : n + suc i ≡ suc n + i = omega arith in
-    schema_rule_intro t (suc n) schemas none r i k (omega arith) h
-    (subst (λ (m : ℕ). Memᴰ r (parameter_rules t m (get_or schemas i none) k)) next m))
-
--- a rule of a task is one of a parameter of one of its schemas, under that schema's number
-pub task_rule_at : (t : Task) (r : Transition) → Memᴰ r (transitions t)
-    → (i : ℕ) × (k : ℕ) × (i < length t.schemas) × (k < (schema_at t i).parameters) × Memᴰ r (parameter_rules t i (schema_at t i) k)
-unfolding transitions schema_at
-task_rule_at t r m =
-    let none : Schema = record { parameters = 0; preconditions = []; deletes = []; adds = [] } in
-    let (i, k, l, h, at) = schema_rule_at t 0 t.schemas none r m in
-    (i, k, l, h, subst (λ (n : ℕ). Memᴰ r (parameter_rules t n (get_or t.schemas i none) k)) (zero-add i) at)
-
 -- every bag of a rule is over all properties
 pub transitions_sized : (t : Task) (r : Transition) → Memᴰ r (transitions t) → Sized (length (properties t)) r
-unfolding parameter_rules
+unfolding transitions parameter_rules
 transitions_sized t r m =
-    let (i, k, l, h, at) = task_rule_at t r m in
-    let s = schema_at t i in
-    let bag : List Atom → Bag = λ atoms. bag_of (properties t) atoms k in
-    let size : (atoms : List Atom) → length (bag atoms) ≡ length (properties t) = λ atoms. length_bag_of (properties t) atoms k in
+    let q = flat_map_at (λ s. flat_map (parameter_rules t s) (up_to s.parameters)) t.schemas r m in
+    let s = q.0 in
+    let k = flat_map_at (parameter_rules t s) (up_to s.parameters) r q.2 in
+    let bag : List Atom → Bag = λ atoms. bag_of (properties t) atoms k.0 in
+    let size : (atoms : List Atom) → length (bag atoms) ≡ length (properties t) = λ atoms. length_bag_of (properties t) atoms k.0 in
     subst (λ (n : ℕ). Sized n r) (size s.preconditions)
-    (rules_of_sized i (bag s.preconditions) (bag s.deletes) (bag s.adds)
-    (size s.deletes ∙ sym (size s.preconditions)) (size s.adds ∙ sym (size s.preconditions)) r at)
+    (rules_of_sized (bag s.preconditions) (bag s.deletes) (bag s.adds)
+    (size s.deletes ∙ sym (size s.preconditions)) (size s.adds ∙ sym (size s.preconditions)) r k.2)
 
 -- the start and finish properties of a rule are properties of the task
 pub moved_known : (t : Task) (r : Transition) → Memᴰ r (transitions t) → (c : ℕ) → Memᴰ c (moved r) → c < length (properties t)

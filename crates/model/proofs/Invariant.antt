@@ -13,7 +13,7 @@ use borrow.Author.Tests.{leb-true, ltb-true, ltb-false}
 use Rattle.laws.specs.Lists.{all, any, count, up_to, member, stands_at}
 use Rattle.laws.specs.Bags.{Bag, plus, less, meet, contains, is_empty, support, restrict}
 use Rattle.laws.proofs.Tests.{never, by_test}
-use Rattle.laws.proofs.Lists.{all_at, any_at, any_none, count_none, member_at, member_intro, mem_get_d, place_of_lem, length_up_to}
+use Rattle.laws.proofs.Lists.{all_at, any_at, any_none, count_none, member_at, member_intro, mem_get_d, place_of, length_up_to}
 use Rattle.laws.proofs.Sums.{count_members, stands_at_member}
 use Rattle.laws.proofs.Counting.{count_most}
 use Rattle.laws.proofs.Mapped.{get_d_map}
@@ -45,7 +45,7 @@ use Rattle.model.proofs.OwnLists.{own_list_at}
 use Rattle.model.proofs.Chain.{chain, exchange, rest}
 use Rattle.model.proofs.Effect.{Effect, effect_on_parameter, effect_elsewhere, effect_on_predicate}
 use Rattle.model.proofs.ParameterRules.{length_bag_of, length_common, length_start, length_finish, moved_start, moved_finish, needed, deleted}
-use Rattle.model.proofs.ParameterRules.{added, common, exchange_rule, rest_rule, increasing_rule, number_of, exchange_there, rest_there, increasing_there}
+use Rattle.model.proofs.ParameterRules.{added, common, exchange_rule, rest_rule, increasing_rule, exchange_there, rest_there, increasing_there}
 
 -- an object's condition is on the own list of its own initial condition
 pub record OnOwnList (t : Task) (u : Space) (s : State) (o : ℕ) : Type 0 where
@@ -66,7 +66,7 @@ pub record Invariant (t : Task) (s : State) : Type 0 where
 -- ---- the initial state
 
 -- a member's initial condition is among the initial conditions of its space, of which there are at most 64
-pub initial_place : (t : Task) (u : Space) (o : ℕ) → member o u.members ≡ true
+initial_place : (t : Task) (u : Space) (o : ℕ) → member o u.members ≡ true
     → Memᴰ (condition t u.properties t.facts o) (initial_conditions t u)
 unfolding initial_conditions
 initial_place t u o m =
@@ -120,7 +120,7 @@ invariant_initially t ok =
     record {
       on_own_list =
           λ u x o k.
-          let r = place_of_lem (initial_conditions t u) (condition t u.properties t.facts o) [] (initial_place t u o k) in
+          let r = place_of (initial_conditions t u) (condition t u.properties t.facts o) [] (initial_place t u o k) in
           let own =
           own_list_at (moves_of u) (initial_conditions t u) (initial_few x.part (checked t ok).few_objects) x.ended r.0 r.1 in
           record {
@@ -151,7 +151,7 @@ pub none_outside : (t : Task) (s : State) → Invariant t s → (u : Space) → 
     → member o u.members ≡ false → (c : ℕ) → member c u.properties ≡ true → amount t s o c ≡ 0
 unfolding condition
 none_outside t s inv u x o out c k =
-    let r = place_of_lem u.properties c 0 (member_at c u.properties k) in
+    let r = place_of u.properties c 0 (member_at c u.properties k) in
     let empty = is_empty_at (condition t u.properties s o) (inv.outside u x o out) r.0 in
     ap (λ (d : ℕ). amount t s o d) (sym r.2) ∙ sym (get_d_restrict u.properties (bag_of (properties t) s o) r.0 r.1) ∙ empty
 
@@ -200,44 +200,41 @@ module _ (t : Task) (s : State) (ok : check_task t ≡ accepted tt) (inv : Invar
 
   -- ---- the rules of the parameter that move a property of the space are rules of the space
 
-  abbrev number : ℕ
-  number = number_of named
-
   -- its exchange rule of a property that it both deletes and adds
-  own_exchange : (c : ℕ) → member c u.properties ≡ true → 0 < get_or (common t schema k) c 0 → Memᴰ (exchange_rule t schema k number c) u.rules
+  own_exchange : (c : ℕ) → member c u.properties ≡ true → 0 < get_or (common t schema k) c 0 → Memᴰ (exchange_rule t schema k c) u.rules
   own_exchange c h x =
       let inside = known_properties part c h in
       let size = length_bag_of t schema.preconditions k in
       let once = single_here (length (needed t schema k)) c (omega arith) in
       let sized = length_single (length (needed t schema k)) c ∙ size in
-      own_rule part (exchange_rule t schema k number c) (exchange_there t schema k named below c inside x) c
-      (moved_start (length (properties t)) (exchange_rule t schema k number c) sized sized c inside (omega arith))
+      own_rule part (exchange_rule t schema k c) (exchange_there t schema k named below c inside x) c
+      (moved_start (length (properties t)) (exchange_rule t schema k c) sized sized c inside (omega arith))
       h
 
   -- its rest rule, which moves what it deletes and does not add, and what it adds and does not delete
   moved_by_start : (c : ℕ) → member c u.properties ≡ true → 0 < get_or (less (deleted t schema k) (common t schema k)) c 0
-      → Memᴰ c (moved (rest_rule t schema k number))
+      → Memᴰ c (moved (rest_rule t schema k))
   moved_by_start c h x =
-      moved_start (length (properties t)) (rest_rule t schema k number) (length_start t schema k) (length_finish t schema k) c (known_properties part c h) x
+      moved_start (length (properties t)) (rest_rule t schema k) (length_start t schema k) (length_finish t schema k) c (known_properties part c h) x
 
   moved_by_finish : (c : ℕ) → member c u.properties ≡ true → 0 < get_or (less (added t schema k) (common t schema k)) c 0
-      → Memᴰ c (moved (rest_rule t schema k number))
+      → Memᴰ c (moved (rest_rule t schema k))
   moved_by_finish c h x =
-      moved_finish (length (properties t)) (rest_rule t schema k number) (length_start t schema k) (length_finish t schema k) c (known_properties part c h) x
+      moved_finish (length (properties t)) (rest_rule t schema k) (length_start t schema k) (length_finish t schema k) c (known_properties part c h) x
 
-  own_rest : is_empty (less (deleted t schema k) (common t schema k)) ≡ false → (c : ℕ) → Memᴰ c (moved (rest_rule t schema k number))
-      → member c u.properties ≡ true → Memᴰ (rest_rule t schema k number) u.rules
-  own_rest e c j h = own_rule part (rest_rule t schema k number) (rest_there t schema k named below e) c j h
+  own_rest : is_empty (less (deleted t schema k) (common t schema k)) ≡ false → (c : ℕ) → Memᴰ c (moved (rest_rule t schema k))
+      → member c u.properties ≡ true → Memᴰ (rest_rule t schema k) u.rules
+  own_rest e c j h = own_rule part (rest_rule t schema k) (rest_there t schema k named below e) c j h
 
   -- its increasing rule of a property, where it deletes no more than it adds
   own_increasing : is_empty (less (deleted t schema k) (common t schema k)) ≡ true → (c : ℕ) → member c u.properties ≡ true
-      → 0 < get_or (less (added t schema k) (common t schema k)) c 0 → Memᴰ (increasing_rule t schema k number c) u.rules
+      → 0 < get_or (less (added t schema k) (common t schema k)) c 0 → Memᴰ (increasing_rule t schema k c) u.rules
   own_increasing e c h gained =
       let inside = known_properties part c h in
       let size = length_bag_of t schema.preconditions k in
       let once = single_here (length (needed t schema k)) c (omega arith) in
-      own_rule part (increasing_rule t schema k number c) (increasing_there t schema k named below e c inside gained) c
-      (moved_finish (length (properties t)) (increasing_rule t schema k number c) (length_start t schema k)
+      own_rule part (increasing_rule t schema k c) (increasing_there t schema k named below e c inside gained) c
+      (moved_finish (length (properties t)) (increasing_rule t schema k c) (length_start t schema k)
       (length_single (length (needed t schema k)) c ∙ size)
       c inside (omega arith))
       h
@@ -252,13 +249,13 @@ module _ (t : Task) (s : State) (ok : check_task t ≡ accepted tt) (inv : Invar
       (λ e.
       never
       (sym
-      (enclosed.admits_members (increasing_rule t schema k number c) (own_increasing e c h gained) e o known_object
+      (enclosed.admits_members (increasing_rule t schema k c) (own_increasing e c h gained) e o known_object
       (λ d enabler v mv hd. member_by_property t s inv v mv o d hd (enabled e d enabler)))
       ∙ out))
       (λ e.
       let r =
       restrict_one u.properties (less (deleted t schema k) (common t schema k))
-      (enclosed.starts_inside (rest_rule t schema k number) (own_rest e c (moved_by_finish c h gained) h) e) in
+      (enclosed.starts_inside (rest_rule t schema k) (own_rest e c (moved_by_finish c h gained) h) e) in
       let nothing = none_outside t s inv u enclosed o out r.0 (member_intro r.0 u.properties r.1) in
       let there_before = at r.0 in
       omega arith)
@@ -321,18 +318,18 @@ module _ (t : Task) (s : State) (ok : check_task t ≡ accepted tt) (inv : Invar
   -- what the parameter both deletes and adds gives an exchange of the space
   exchange_move : (i : ℕ) → i < length u.properties
       → 0 < get_or (meet (restrict u.properties (deleted t schema k)) (restrict u.properties (added t schema k))) i 0
-      → Memᴰ (exchange number (length u.properties) i) (moves_of u)
+      → Memᴰ (exchange (length u.properties) i) (moves_of u)
   exchange_move i h x =
       let c = get_or u.properties i 0 in
       let size = length_bag_of t schema.preconditions k in
       let positive : 0 < get_or (common t schema k) c 0 =
       subst (λ (n : ℕ). 0 < n) (get_d_restrict u.properties (common t schema k) i h)
       (subst (λ (b : Bag). 0 < get_or b i 0) (sym over_common) x) in
-      subst (λ (b : Bag). Memᴰ (record { schema = number; start = b; finish = b }) (moves_of u))
+      subst (λ (b : Bag). Memᴰ (record { start = b; finish = b }) (moves_of u))
       (restrict_single u.properties (length (needed t schema k)) i h
       (λ d j. subst (λ (n : ℕ). d < n) (sym size) (known_properties part d (member_intro d u.properties j)))
       (distinct_places u.properties (distinct_properties part)))
-      (own_move u (exchange_rule t schema k number c) (own_exchange c (place_member i h) positive))
+      (own_move u (exchange_rule t schema k c) (own_exchange c (place_member i h) positive))
 
   -- a bag has nothing over the space's properties if it has none of them
   nothing_over : (b : Bag) → ((c : ℕ) → member c u.properties ≡ true → 0 < get_or b c 0 → ⊥)
@@ -352,7 +349,7 @@ module _ (t : Task) (s : State) (ok : check_task t ≡ accepted tt) (inv : Invar
   no_increase two e c h gained =
       never
       (sym (restrict_is_empty u.properties (less (deleted t schema k) (common t schema k)) e)
-      ∙ (two.sides _ (own_move u (increasing_rule t schema k number c) (own_increasing e c h gained))).0)
+      ∙ (two.sides _ (own_move u (increasing_rule t schema k c) (own_increasing e c h gained))).0)
 
   -- the rest of the parameter's deletes and adds, over the space's properties
   abbrev own_deleted : Bag
@@ -363,7 +360,7 @@ module _ (t : Task) (s : State) (ok : check_task t ≡ accepted tt) (inv : Invar
 
   -- it is a move of the space, or has none of its properties
   rest_move : TwoSided u
-      → Memᴰ (rest number own_deleted own_added) (moves_of u)
+      → Memᴰ (rest own_deleted own_added) (moves_of u)
       ⊎ ((is_empty (less own_deleted (meet own_deleted own_added)) ≡ true)
       × (is_empty (less own_added (meet own_deleted own_added)) ≡ true))
   rest_move two =
@@ -375,19 +372,19 @@ module _ (t : Task) (s : State) (ok : check_task t ≡ accepted tt) (inv : Invar
             (nothing_over (less (added t schema k) (common t schema k)) (no_increase two e)),
       ))
       (λ e.
-      by_test (any (λ c. member c u.properties) (moved (rest_rule t schema k number)))
+      by_test (any (λ c. member c u.properties) (moved (rest_rule t schema k)))
       (λ some.
-      let r = any_at (λ c. member c u.properties) (moved (rest_rule t schema k number)) some in
+      let r = any_at (λ c. member c u.properties) (moved (rest_rule t schema k)) some in
       inl
-      (subst (λ (b : Bag). Memᴰ (record { schema = number; start = less own_deleted (meet own_deleted own_added); finish = b }) (moves_of u)) over_finish
+      (subst (λ (b : Bag). Memᴰ (record { start = less own_deleted (meet own_deleted own_added); finish = b }) (moves_of u)) over_finish
       (subst
       (λ (b : Bag).
-      Memᴰ (record { schema = number; start = b; finish = restrict u.properties (less (added t schema k) (common t schema k)) }) (moves_of u))
+      Memᴰ (record { start = b; finish = restrict u.properties (less (added t schema k) (common t schema k)) }) (moves_of u))
       over_start
-      (own_move u (rest_rule t schema k number) (own_rest e r.0 r.1 r.2)))))
+      (own_move u (rest_rule t schema k) (own_rest e r.0 r.1 r.2)))))
       (λ none.
-      let never_moved : (c : ℕ) → Memᴰ c (moved (rest_rule t schema k number)) → member c u.properties ≡ false =
-      any_none (λ c. member c u.properties) (moved (rest_rule t schema k number)) none in
+      let never_moved : (c : ℕ) → Memᴰ c (moved (rest_rule t schema k)) → member c u.properties ≡ false =
+      any_none (λ c. member c u.properties) (moved (rest_rule t schema k)) none in
       inr (
         subst (λ (b : Bag). is_empty b ≡ true) over_start
             (nothing_over (less (deleted t schema k) (common t schema k))
@@ -426,7 +423,7 @@ module _ (t : Task) (s : State) (ok : check_task t ≡ accepted tt) (inv : Invar
       (restrict_meet ps (added t schema k) (less was (deleted t schema k)) (la ∙ sym left) ∙ ap (meet own_added) over_left)
       (restrict_contains ps (meet (added t schema k) (less was (deleted t schema k))) effect.absorbed effect.absorbed_within) in
       subst (λ (b : Bag). Memᴰ b (get_or (extension_of t u).lists own.place [])) (sym becomes)
-      (chain (moves_of u) (get_or (extension_of t u).lists own.place []) list.closed number (length ps)
+      (chain (moves_of u) (get_or (extension_of t u).lists own.place []) list.closed (length ps)
       (restrict ps was) own_deleted own_added (restrict ps effect.absorbed)
       (length_restrict ps was) (length_restrict ps (deleted t schema k)) (length_restrict ps (added t schema k))
       (length_restrict ps effect.absorbed)
@@ -446,7 +443,7 @@ record Parameter (t : Task) (a : Action) (o : ℕ) : Type 0 where
 
 parameter_of_lem : (t : Task) (a : Action) (o : ℕ) → member o a.objects ≡ true → Parameter t a o
 parameter_of_lem t a o h =
-    let r = place_of_lem a.objects o 0 (member_at o a.objects h) in
+    let r = place_of a.objects o 0 (member_at o a.objects h) in
     record { number = r.0; number_known = r.1; object_is = r.2 }
 
 schema_named : (t : Task) (n : ℕ) → n < length t.schemas → Memᴰ (schema_at t n) t.schemas

@@ -23,7 +23,6 @@ pub mod RuleCount
 pub mod Choices
 pub mod JoinedLists
 pub mod OwnLists
-pub mod Steps
 pub mod TallyCounts
 pub mod Chain
 pub mod ListedSpace
@@ -33,7 +32,6 @@ pub mod Sections
 pub mod Totals
 pub mod ParameterRules
 pub mod Invariant
-pub mod Sources
 pub mod ListingHolds
 pub mod TextLines
 pub mod SectionCalls

@@ -7,7 +7,7 @@ use mathlib.Core.Logic.{◌⊎◌, inl, inr, ⊎_elim}
 use mathlib.Core.List.Memᴰ
 use mathlib.Core.List.{List, [], ◌∷◌, ◌++◌, flat_map, Memᴰ}
 use mathlib.Core.List.{append-nil}
-use lib.ListN.{length, length-map}
+use lib.ListN.{length}
 use Rattle.laws.specs.Bags.{Bag}
 use Rattle.laws.proofs.Tests.{never, by_test, cond_true, cond_false}
 use Rattle.model.specs.Card.{Task}
@@ -18,8 +18,8 @@ use Rattle.model.specs.Rescue.{without_hidden, narrowed, lost, rescued_as, rescu
 use Rattle.model.specs.Truth.{gives_conditions}
 use Rattle.model.proofs.Parts.{Part, TwoSided, Enclosed, space_part, property_two_sided, narrowed_part, left_two_sided}
 use Rattle.model.proofs.Parts.{space_enclosed, two_sided_enclosed}
-use Rattle.model.proofs.ListedSpace.{extension_of, source_in, sources_of, listed_as_property, each_has_source}
-use Rattle.model.proofs.ListedSpace.{conditions_listed, gives_as_property, mixed_without_conditions, of_each_space}
+use Rattle.model.proofs.ListedSpace.{extension_of, listed_as_property, conditions_listed, gives_as_property, mixed_without_conditions}
+use Rattle.model.proofs.ListedSpace.{of_each_space}
 
 -- A part whose extension ended neither way, so that its own lists are complete; its rules have both sides.
 pub record Extended (t : Task) (u : Space) : Type 0 where
@@ -31,7 +31,6 @@ pub record Extended (t : Task) (u : Space) : Type 0 where
 pub record ListsOwn (t : Task) (a : Analysis) : Type 0 where
   pub extended : Extended t a.space
   pub conditions_are : a.conditions ≡ joined (extension_of t a.space).lists
-  pub sources_are : a.sources ≡ sources_of t a.space (joined (extension_of t a.space).lists)
 
 -- a space listed as P is such a part
 pub property_extended : (t : Task) (u : Space) → Memᴰ u (spaces t) → (analyse t u).kind ≡ property → Extended t u
@@ -56,14 +55,12 @@ left_found : {t : Task} {left : Space} {again : List Analysis} → Part t left �
     → (o : Outcome) → (extension_of t left).outcome ≡ o → Found t (rescued_as (kind_for o) (analyse_property_space t left) again)
 unfolding kind_for rescued_as analyse_property_space conditions_for
 left_found {t} {left} p two later Outcome.neither e =
-    let a = analyse_property_space t left in
-    one (record { space = left; kind = rescued; conditions = a.conditions; sources = a.sources; hidden = [] }) refl
+    one (record { space = left; kind = rescued; conditions = (analyse_property_space t left).conditions; hidden = [] }) refl
     record {
       kind_is = refl;
       lists_own = record {
         extended = record { part = p; two_sided = two; ended = e };
         conditions_are = ap (λ (o : Outcome). conditions_for o (extension_of t left).lists) e;
-        sources_are = ap (λ (o : Outcome). sources_of t left (conditions_for o (extension_of t left).lists)) e;
       };
     }
 left_found p two later (Outcome.mixed places) e = later
@@ -143,25 +140,12 @@ pub lists_own : {t : Task} {a : Analysis} → InListing t a → gives_conditions
 lists_own {t} {a} (of_task m) e =
     let own =
     of_each_space t
-    (λ u x.
-    gives_conditions x.kind ≡ true
-    → Extended t u × (x.conditions ≡ joined (extension_of t u).lists) × (x.sources ≡ sources_of t u (joined (extension_of t u).lists)))
+    (λ u x. gives_conditions x.kind ≡ true → Extended t u × (x.conditions ≡ joined (extension_of t u).lists))
     (λ u k gives.
-    let kind = gives_as_property t u gives in
-    let l = listed_as_property t u kind in
-    (property_extended t u k kind, l.conditions_are, l.sources_are))
+    let kind = gives_as_property t u gives in (property_extended t u k kind, (listed_as_property t u kind).conditions_are))
     a m e in
-    record { extended = own.0; conditions_are = own.1; sources_are = own.2 }
+    record { extended = own.0; conditions_are = own.1 }
 lists_own (of_rescue r) e = r.lists_own
-
--- of whatever kind, each of its conditions has a source
-pub as_many_sources : {t : Task} {a : Analysis} → InListing t a → length a.sources ≡ length a.conditions
-as_many_sources {t} {a} (of_task m) = of_each_space t (λ u x. length x.sources ≡ length x.conditions) (λ u k. each_has_source t u) a m
-as_many_sources {t} {a} (of_rescue r) =
-    let own = r.lists_own in
-    ap length own.sources_are
-    ∙ length-map (joined (extension_of t a.space).lists) (source_in t a.space)
-    ∙ sym (ap length own.conditions_are)
 
 -- and it gives them where there is one
 pub with_condition : {t : Task} {a : Analysis} → InListing t a → (b : Bag) → Memᴰ b a.conditions → gives_conditions a.kind ≡ true
@@ -172,9 +156,9 @@ with_condition (of_rescue r) b k = ap gives_conditions r.kind_is
 
 -- ---- what a section has lines of: a space of the task and what is left of it
 
-module _ (t : Task) (a : Analysis) (m : Memᴰ a (analysis t)) where
-  pub section_listing : (b : Analysis) → Memᴰ b (a ∷ rescues t a) → InListing t b
-  section_listing b k = ⊎_elim (λ e. of_task (subst (λ (x : Analysis). Memᴰ x (analysis t)) (sym e) m)) later (Memᴰ.cases_cons k)
+module _ (t : Task) (a : Analysis) (m : Memᴰ a (analysis t)) (b : Analysis) (k : Memᴰ b (a ∷ rescues t a)) where
+  pub section_listing : InListing t b
+  section_listing = ⊎_elim (λ e. of_task (subst (λ (x : Analysis). Memᴰ x (analysis t)) (sym e) m)) later (Memᴰ.cases_cons k)
     where
       later : Memᴰ b (rescues t a) → InListing t b
       later j =
@@ -183,46 +167,25 @@ module _ (t : Task) (a : Analysis) (m : Memᴰ a (analysis t)) where
           of_rescue (subst (Rescued t) (sym (Memᴰ.eq_of_singleton (subst (Memᴰ b) into.rescues_are j))) into.left_rescued))
           (rescued_or_not t a m)
 
-  -- Only one of them may give conditions, and all that are given are its own.
-  record OneGives : Type 0 where
-    one : Analysis
-    only : (b : Analysis) → Memᴰ b (a ∷ rescues t a) → gives_conditions b.kind ≡ true → b ≡ one
-    all : flat_map (λ (x : Analysis). x.conditions) (a ∷ rescues t a) ≡ one.conditions
-
-  one_gives : OneGives
+  -- at most one of them gives conditions, so that all that are given are its own
+  pub section_conditions : gives_conditions b.kind ≡ true → flat_map (λ (x : Analysis). x.conditions) (a ∷ rescues t a) ≡ b.conditions
   unfolding flat_map gives_conditions
-  one_gives = ⊎_elim alone with_rescue (rescued_or_not t a m)
+  section_conditions gives = ⊎_elim alone with_rescue (rescued_or_not t a m)
     where
-      alone : rescues t a ≡ [] → OneGives
+      alone : rescues t a ≡ [] → a.conditions ++ flat_map (λ (x : Analysis). x.conditions) (rescues t a) ≡ b.conditions
       alone none =
-          record {
-            one = a;
-            only = λ b k gives. Memᴰ.eq_of_singleton (subst (λ (rest : List Analysis). Memᴰ b (a ∷ rest)) none k);
-            all =
-                ap (λ (rest : List Analysis). a.conditions ++ flat_map (λ (x : Analysis). x.conditions) rest) none
-                ∙ append-nil a.conditions;
-          }
+          let same : b ≡ a = Memᴰ.eq_of_singleton (subst (λ (rest : List Analysis). Memᴰ b (a ∷ rest)) none k) in
+          ap (λ (rest : List Analysis). a.conditions ++ flat_map (λ (x : Analysis). x.conditions) rest) none
+          ∙ append-nil a.conditions
+          ∙ ap (λ (x : Analysis). x.conditions) (sym same)
 
-      with_rescue : RescuedInto t a → OneGives
+      with_rescue : RescuedInto t a → a.conditions ++ flat_map (λ (x : Analysis). x.conditions) (rescues t a) ≡ b.conditions
       with_rescue into =
-          record {
-            one = into.left;
-            only =
-                λ b k gives.
-                let not_mixed : b ≡ a → b ≡ into.left =
-                λ e. never (sym gives ∙ ap (λ (x : Analysis). gives_conditions x.kind) e ∙ ap gives_conditions into.was_mixed) in
-                ⊎_elim not_mixed (λ j. Memᴰ.eq_of_singleton (subst (Memᴰ b) into.rescues_are j)) (Memᴰ.cases_cons k);
-            all =
-                ap (λ (bags : List Bag). bags ++ flat_map (λ (x : Analysis). x.conditions) (rescues t a)) into.no_conditions
-                ∙ ap (λ (rest : List Analysis). flat_map (λ (x : Analysis). x.conditions) rest) into.rescues_are
-                ∙ append-nil into.left.conditions;
-          }
-
-  -- so where one gives conditions, all that are given are its own, and no other gives any
-  pub section_conditions : (b : Analysis) → Memᴰ b (a ∷ rescues t a) → gives_conditions b.kind ≡ true
-      → flat_map (λ (x : Analysis). x.conditions) (a ∷ rescues t a) ≡ b.conditions
-  section_conditions b k gives = one_gives.all ∙ ap (λ (x : Analysis). x.conditions) (sym (one_gives.only b k gives))
-
-  pub section_one : (b c : Analysis) → Memᴰ b (a ∷ rescues t a) → Memᴰ c (a ∷ rescues t a) → gives_conditions b.kind ≡ true
-      → gives_conditions c.kind ≡ true → b ≡ c
-  section_one b c k j p q = one_gives.only b k p ∙ sym (one_gives.only c j q)
+          let not_mixed : b ≡ a → b ≡ into.left =
+          λ e. never (sym gives ∙ ap (λ (x : Analysis). gives_conditions x.kind) e ∙ ap gives_conditions into.was_mixed) in
+          let same : b ≡ into.left =
+          ⊎_elim not_mixed (λ j. Memᴰ.eq_of_singleton (subst (Memᴰ b) into.rescues_are j)) (Memᴰ.cases_cons k) in
+          ap (λ (bags : List Bag). bags ++ flat_map (λ (x : Analysis). x.conditions) (rescues t a)) into.no_conditions
+          ∙ ap (λ (rest : List Analysis). flat_map (λ (x : Analysis). x.conditions) rest) into.rescues_are
+          ∙ append-nil into.left.conditions
+          ∙ ap (λ (x : Analysis). x.conditions) (sym same)

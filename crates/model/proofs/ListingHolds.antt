@@ -17,7 +17,7 @@ use borrow.Author.Tests.{eqb-true, ltb-true}
 use Rattle.laws.specs.Lists.{any, all, up_to, member}
 use Rattle.laws.specs.Bags.{Bag, contains, strictly_contains, covers, support}
 use Rattle.laws.proofs.Tests.{by_test, and_intro, not-true, to_not_true}
-use Rattle.laws.proofs.Lists.{all_at, all_intro, any_intro, any_none, keep_intro, member_intro, mem_get_d, place_of_lem, up_to_intro}
+use Rattle.laws.proofs.Lists.{all_at, all_intro, any_intro, any_none, keep_intro, member_intro, mem_get_d, place_of, up_to_intro}
 use Rattle.laws.proofs.Bags.{contains_at, support_at_lem}
 use Rattle.laws.proofs.Comparisons.{covers_contains, least_below}
 use Rattle.model.specs.Answer.{accepted}
@@ -26,9 +26,9 @@ use Rattle.model.specs.Writer.{check_task}
 use Rattle.model.specs.Strips.{State, Action, schema_at}
 use Rattle.model.specs.Transitions.{properties, bag_of}
 use Rattle.model.specs.Spaces.{Kind, condition, spaces, has_member}
-use Rattle.model.specs.Analysis.{Source, opening, Analysis}
+use Rattle.model.specs.Analysis.{Analysis}
 use Rattle.model.specs.Lines.{Line, space, state, limit, membership, exclusion, total, ceiling, count_of, largest}
-use Rattle.model.specs.Lines.{minimal, excluded, property_number, one_number, of_predicate, space_lines}
+use Rattle.model.specs.Lines.{minimal, excluded, property_number, one_number, of_predicate}
 use Rattle.model.specs.Calls.{Standing, initial, history, state_of}
 use Rattle.model.specs.Truth.{◌isOn◌, ◌isSectionOf◌, gives_conditions, states_of, count_in, Allowed, Holds}
 use Rattle.model.proofs.Valid.{Valid}
@@ -37,13 +37,12 @@ use Rattle.model.proofs.History.{Events, presses, event_induction}
 use Rattle.model.proofs.RoundTrip.{decode_checks}
 use Rattle.model.proofs.Parts.{known_members, distinct_members}
 use Rattle.model.proofs.ListedSpace.{extension_of}
-use Rattle.model.proofs.ListedParts.{InListing, of_task, as_many_sources, listing_enclosed, lists_own, with_condition}
+use Rattle.model.proofs.ListedParts.{InListing, of_task, listing_enclosed, lists_own, with_condition}
 use Rattle.model.proofs.JoinedLists.{joined_has}
 use Rattle.model.proofs.OwnLists.{own_lists_length}
 use Rattle.model.proofs.SpaceFacts.{space_of}
 use Rattle.model.proofs.Sections.{OnSpace, on_space, on_limit, on_exclusion, on_nesting, total_from_property, on_ceiling, on_types, types_on, typed}
 use Rattle.model.proofs.Sections.{state_on, membership_on}
-use Rattle.model.proofs.Sources.{sources_true, openings_true, openings_listed}
 use Rattle.model.proofs.Totals.{total_by_members, count_of_condition}
 use Rattle.model.proofs.Effect.{effect_on_parameter}
 use Rattle.model.proofs.ParameterRules.{length_bag_of}
@@ -110,16 +109,9 @@ module _ (t : Task) (ok : check_task t ≡ accepted tt) (s : State) (valid : Val
         (member_condition found.of found.of_listed.in_listing of_kind o (subst (λ (x : List ℕ). member o x ≡ true) found.members_are k))
 
     -- T: the condition of a member is listed
-    state_is_listed : (source : Source) × (state source (condition t ps s o) is_on lines)
+    state_is_listed : state (condition t ps s o) is_on lines
     state_is_listed =
-        let a = found.of in
-        let (i, l, is) = place_of_lem a.conditions (condition t ps s o) [] condition_there in
-        let source = get_or a.sources i opening in
-        let as_many = as_many_sources found.of_listed.in_listing in (
-          source,
-          found.of_listed.has_line (state source (condition t ps s o))
-              (subst (λ (b : Bag). state source b is_on space_lines t n a) is (state_on t n a i (omega arith) l)),
-        )
+        found.of_listed.has_line (state (condition t ps s o)) (state_on t n found.of (condition t ps s o) condition_there)
 
     -- D: below a member's condition there is a least one
     membership_holds : (i : ℕ) × (membership i is_on lines) × (contains (condition t ps s o) (get_or (states_of lines) i []) ≡ true)
@@ -127,7 +119,7 @@ module _ (t : Task) (ok : check_task t ≡ accepted tt) (s : State) (valid : Val
     membership_holds =
         let bags = found.of.conditions in
         let least = least_below bags (condition t ps s o) condition_there in
-        let at = place_of_lem bags least.0 [] least.1 in (
+        let at = place_of bags least.0 [] least.1 in (
           at.0,
           found.of_listed.has_line (membership at.0)
               (membership_on t n found.of at.0
@@ -237,9 +229,6 @@ module _ (t : Task) (ok : check_task t ≡ accepted tt) (s : State) (valid : Val
         membership_true = membership_holds;
         exclusion_true = λ lines n kind ps ms o i j section on gives k x. exclusion_holds lines n kind ps ms o section on gives k i j x;
         nesting_true = on_nesting t;
-        source_true = sources_true t ok;
-        opening_true = openings_true t ok;
-        opening_listed = openings_listed t ok;
         total_true = total_holds;
         ceiling_true = ceiling_holds;
         types_true =

@@ -55,7 +55,7 @@ nested_nesting bags i j n =
 -- the numbers of an E line
 unfoldable pub numbers_of : Line → List ℕ
 numbers_of (space n kind properties members) = []
-numbers_of (state source counts) = []
+numbers_of (state counts) = []
 numbers_of (limit c most) = []
 numbers_of (membership i) = []
 numbers_of (exclusion i j) = []

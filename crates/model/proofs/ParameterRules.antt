@@ -1,20 +1,19 @@
 -- The rules that a parameter of a schema gives: its exchanges, and the remaining rule or the increasing ones.
-use Prim.Native.Nat.{ℕ, ◌+◌, ◌<◌}
-use native.Mathlib.Nat.{zero-add}
+use Prim.Native.Nat.{ℕ, ◌<◌}
 use native.Mathlib.Omega.{arith}
 use mathlib.Core.Path.{◌≡◌, refl, sym, ◌∙◌, subst}
 use mathlib.Core.Bool.{true, false}
 use mathlib.Core.List.Memᴰ
 use mathlib.Core.List.{List, [], ◌∷◌, map, Memᴰ}
 use lib.ListN.{length, get_or, length-map}
+use Rattle.laws.specs.Lists.{up_to}
 use Rattle.laws.specs.Bags.{Bag, plus, less, meet, is_empty, single, support}
 use Rattle.laws.proofs.Tests.{cond_true, cond_false}
-use Rattle.laws.proofs.Lists.{place_of_lem}
+use Rattle.laws.proofs.Lists.{flat_map_intro, up_to_intro}
 use Rattle.laws.proofs.Bags.{length_plus, length_less, length_meet, get_d_plus, support_intro}
 use Rattle.model.specs.Card.{Atom, Task, Schema}
 use Rattle.model.specs.Transitions.{Transition, properties, bag_of, exchanges, remaining, rules_of, parameter_rules, transitions}
 use Rattle.model.specs.Spaces.{moved}
-use Rattle.model.proofs.Grouping.{schema_rule_intro}
 
 -- a bag of atoms is over all properties
 pub length_bag_of : (t : Task) (atoms : List Atom) (x : ℕ) → length (bag_of (properties t) atoms x) ≡ length (properties t)
@@ -37,13 +36,6 @@ moved_finish n r ls lf c h k =
     let l = length_plus n r.start r.finish ls lf in
     let g = get_d_plus r.start r.finish (ls ∙ sym lf) c in
     support_intro (plus r.start r.finish) c (omega arith) (omega arith)
-
-abbrev none : Schema
-none = record { parameters = 0; preconditions = []; deletes = []; adds = [] }
-
--- the number of a schema among those of a task
-unfoldable pub number_of : {schemas : List Schema} {s : Schema} → Memᴰ s schemas → ℕ
-number_of {schemas} {s} named = (place_of_lem schemas s none named).0
 
 -- P, D and A of a parameter, and X, what D and A have in common
 module _ (t : Task) (s : Schema) (k : ℕ) where
@@ -69,29 +61,26 @@ module _ (t : Task) (s : Schema) (k : ℕ) where
   pub length_finish : length (less added common) ≡ length (properties t)
   length_finish = length_less (length (properties t)) added common (length_bag_of t s.adds k) length_common
 
-  -- the rules, with the number of a schema
-  abbrev pub exchange_rule : ℕ → ℕ → Transition
-  exchange_rule n c =
+  -- the rules
+  abbrev pub exchange_rule : ℕ → Transition
+  exchange_rule c =
       record {
-        schema = n;
         enablers = less needed (single (length needed) c);
         start = single (length needed) c;
         finish = single (length needed) c;
       }
 
-  abbrev pub rest_rule : ℕ → Transition
-  rest_rule n =
+  abbrev pub rest_rule : Transition
+  rest_rule =
       record {
-        schema = n;
         enablers = less needed (less deleted common);
         start = less deleted common;
         finish = less added common;
       }
 
-  abbrev pub increasing_rule : ℕ → ℕ → Transition
-  increasing_rule n c =
+  abbrev pub increasing_rule : ℕ → Transition
+  increasing_rule c =
       record {
-        schema = n;
         enablers = less needed (less deleted common);
         start = less deleted common;
         finish = single (length needed) c;
@@ -99,45 +88,40 @@ module _ (t : Task) (s : Schema) (k : ℕ) where
 
   module _ (named : Memᴰ s t.schemas) (below : k < s.parameters) where
     -- a rule of the parameter is a rule of the task
-    of_task : (r : Transition) → Memᴰ r (parameter_rules t (number_of named) s k) → Memᴰ r (transitions t)
-    unfolding transitions number_of
+    of_task : (r : Transition) → Memᴰ r (parameter_rules t s k) → Memᴰ r (transitions t)
+    unfolding transitions
     of_task r m =
-        let (i, l, is) = place_of_lem t.schemas s none named in
-        let from_first : i ≡ 0 + i = sym (zero-add i) in
-        schema_rule_intro t 0 t.schemas none r i k l (subst (λ (x : Schema). k < x.parameters) (sym is) below)
-        (subst (λ (n : ℕ). Memᴰ r (parameter_rules t n (get_or t.schemas i none) k)) from_first
-        (subst (λ (x : Schema). Memᴰ r (parameter_rules t i x k)) (sym is) m))
+        flat_map_intro _ t.schemas s r named (flat_map_intro (parameter_rules t s) (up_to s.parameters) k r (up_to_intro s.parameters k below) m)
 
-    pub exchange_there : (c : ℕ) → c < length (properties t) → 0 < get_or common c 0 → Memᴰ (exchange_rule (number_of named) c) (transitions t)
+    pub exchange_there : (c : ℕ) → c < length (properties t) → 0 < get_or common c 0 → Memᴰ (exchange_rule c) (transitions t)
     unfolding parameter_rules rules_of exchanges
     exchange_there c h x =
-        of_task (exchange_rule (number_of named) c)
-        (Memᴰ.append_left (remaining (number_of named) needed (less deleted common) (less added common))
+        of_task (exchange_rule c)
+        (Memᴰ.append_left (remaining needed (less deleted common) (less added common))
         (Memᴰ.map
         (λ c.
         record {
-          schema = number_of named;
           enablers = less needed (single (length needed) c);
           start = single (length needed) c;
           finish = single (length needed) c;
         })
         (support_intro common c (subst (λ (n : ℕ). c < n) (sym length_common) h) x)))
 
-    pub rest_there : is_empty (less deleted common) ≡ false → Memᴰ (rest_rule (number_of named)) (transitions t)
+    pub rest_there : is_empty (less deleted common) ≡ false → Memᴰ rest_rule (transitions t)
     unfolding parameter_rules rules_of remaining
     rest_there e =
-        of_task (rest_rule (number_of named))
-        (Memᴰ.append_right (exchanges (number_of named) needed common)
-        (subst (λ (rules : List Transition). Memᴰ (rest_rule (number_of named)) rules)
-        (sym (cond_false (is_empty (less deleted common)) _ (rest_rule (number_of named) ∷ []) e))
+        of_task rest_rule
+        (Memᴰ.append_right (exchanges needed common)
+        (subst (λ (rules : List Transition). Memᴰ rest_rule rules)
+        (sym (cond_false (is_empty (less deleted common)) _ (rest_rule ∷ []) e))
         (Memᴰ.head refl)))
 
     pub increasing_there : is_empty (less deleted common) ≡ true → (c : ℕ) → c < length (properties t)
-        → 0 < get_or (less added common) c 0 → Memᴰ (increasing_rule (number_of named) c) (transitions t)
+        → 0 < get_or (less added common) c 0 → Memᴰ (increasing_rule c) (transitions t)
     unfolding parameter_rules rules_of remaining
     increasing_there e c h x =
-        of_task (increasing_rule (number_of named) c)
-        (Memᴰ.append_right (exchanges (number_of named) needed common)
-        (subst (λ (rules : List Transition). Memᴰ (increasing_rule (number_of named) c) rules)
-        (sym (cond_true (is_empty (less deleted common)) (map (increasing_rule (number_of named)) (support (less added common))) _ e))
-        (Memᴰ.map (increasing_rule (number_of named)) (support_intro (less added common) c (subst (λ (n : ℕ). c < n) (sym length_finish) h) x))))
+        of_task (increasing_rule c)
+        (Memᴰ.append_right (exchanges needed common)
+        (subst (λ (rules : List Transition). Memᴰ (increasing_rule c) rules)
+        (sym (cond_true (is_empty (less deleted common)) (map increasing_rule (support (less added common))) _ e))
+        (Memᴰ.map increasing_rule (support_intro (less added common) c (subst (λ (n : ℕ). c < n) (sym length_finish) h) x))))

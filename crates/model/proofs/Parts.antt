@@ -48,13 +48,11 @@ own_rule {t} {u} p r k c j h =
     subst (Memᴰ r) (sym p.rules_are)
     (keep_intro (moves u.properties) (transitions t) r k (any_intro (λ d. member d u.properties) (moved r) c j h))
 
--- a rule of schema n over a space's properties, and the move that a rule of the space is
-abbrev pub move_of : Space → ℕ → Transition → Move
-move_of u n r = record { schema = n; start = restrict u.properties r.start; finish = restrict u.properties r.finish }
-
-pub own_move : (u : Space) (r : Transition) → Memᴰ r u.rules → Memᴰ (move_of u r.schema r) (moves_of u)
+-- the move that a rule of a space is over the space's properties
+pub own_move : (u : Space) (r : Transition) → Memᴰ r u.rules
+    → Memᴰ (record { start = restrict u.properties r.start; finish = restrict u.properties r.finish }) (moves_of u)
 unfolding moves_of
-own_move u r k = Memᴰ.map (λ r. move_of u r.schema r) k
+own_move u r k = Memᴰ.map (λ r. record { start = restrict u.properties r.start; finish = restrict u.properties r.finish }) k
 
 -- properties are the task's and distinct, and members are objects of the task and distinct
 module _ {t : Task} {u : Space} (p : Part t u) where
@@ -116,7 +114,7 @@ property_two_sided t u m kind = record { sides = of_rules }
   where
     of_rules : (v : Move) → Memᴰ v (moves_of u) → (is_empty v.start ≡ false) × (is_empty v.finish ≡ false)
     of_rules v k =
-        let p = Memᴰ.of_map (λ r. move_of u r.schema r) u.rules k in
+        let p = Memᴰ.of_map (λ r. record { start = restrict u.properties r.start; finish = restrict u.properties r.finish }) u.rules k in
         let whole = property_rules u.rules kind p.0 p.1 in
         subst (λ (x : Move). (is_empty x.start ≡ false) × (is_empty x.finish ≡ false)) p.2
         (start_inside t u m p.0 p.1 whole.0, finish_inside t u m p.0 p.1 whole.1)

@@ -19,7 +19,7 @@ use borrow.Author.Tests.{ltb-false}
 use Rattle.laws.specs.Lists.{any, keep, up_to, member}
 use Rattle.laws.specs.Bags.{Bag, is_empty, strictly_contains, listed, restrict}
 use Rattle.laws.proofs.Tests.{never, or_false_left, not-true, to_not_false, by_test}
-use Rattle.laws.proofs.Lists.{any_at, any_none, keep_at, keep_intro, up_to_at, up_to_intro, mem_get_d, place_of_lem, member_intro, member_not}
+use Rattle.laws.proofs.Lists.{any_at, any_none, keep_at, keep_intro, up_to_at, up_to_intro, mem_get_d, place_of, member_intro, member_not}
 use Rattle.laws.proofs.Bags.{contains_length, contains_at, bag_ext, length_restrict}
 use Rattle.laws.proofs.Comparisons.{strictly_at}
 use Rattle.model.specs.Card.{Task}
@@ -156,7 +156,7 @@ moves_of_sized : (s : Space) (m : Move) → Memᴰ m (moves_of s)
 unfolding moves_of
 moves_of_sized s m k =
     let ps = s.properties in
-    let (r, there, is) = Memᴰ.of_map (λ r. record { schema = r.schema; start = restrict ps r.start; finish = restrict ps r.finish }) s.rules k in
+    let (r, there, is) = Memᴰ.of_map (λ r. record { start = restrict ps r.start; finish = restrict ps r.finish }) s.rules k in
     subst (λ (x : Move). (length x.start ≡ length ps) × (length x.finish ≡ length ps)) is
     (length_restrict ps r.start, length_restrict ps r.finish)
 
@@ -233,8 +233,8 @@ again_if_mixed rescued a h = refl
 rounds_enough : (t : Task) (some more : ℕ) (s : Space) (hidden : List ℕ) → Hides hidden s.properties
     → length s.properties ≤ some → length s.properties ≤ more → rescue t more s hidden ≡ rescue t some s hidden
 unfolding rescue narrowed
-rounds_enough t zero more s hidden (c, there, own) h k = absurd (omega (arith, h, (place_of_lem s.properties c 0 own).1))
-rounds_enough t (suc some) zero s hidden (c, there, own) h k = absurd (omega (arith, k, (place_of_lem s.properties c 0 own).1))
+rounds_enough t zero more s hidden (c, there, own) h k = absurd (omega (arith, h, (place_of s.properties c 0 own).1))
+rounds_enough t (suc some) zero s hidden (c, there, own) h k = absurd (omega (arith, k, (place_of s.properties c 0 own).1))
 rounds_enough t (suc some) (suc more) s hidden one h k =
     let left = left_of t s hidden in
     let a = analyse_property_space t left in

@@ -1,6 +1,5 @@
 -- The lines of a section: which lines stand in the section of a space, and which in the closing section.
-use Prim.Native.Nat.{ℕ, zero, suc, ◌+◌, ◌<◌}
-use native.Mathlib.Omega.{arith}
+use Prim.Native.Nat.{ℕ, suc, ◌+◌, ◌<◌}
 use native.Mathlib.Nat.{zero-add}
 use mathlib.Core.Path.{◌≡◌, refl, sym, ap, ◌∙◌, subst}
 use mathlib.Core.Bool.{true, false}
@@ -20,21 +19,21 @@ use Rattle.model.specs.Strips.{schema_at}
 use Rattle.model.specs.Transitions
 use Rattle.model.specs.Transitions.{bag_of}
 use Rattle.model.specs.Spaces.{Space, Kind, property, has_member, spaces}
-use Rattle.model.specs.Analysis.{Source, opening, Analysis, analysis}
+use Rattle.model.specs.Analysis.{Analysis, analysis}
 use Rattle.model.specs.Rescue.{rescues}
 use Rattle.model.specs.Lines.{Line, space, state, limit, membership, exclusion, nesting, total, ceiling, types, count_of}
-use Rattle.model.specs.Lines.{largest, arity_of, limits, minimal, excluded, exclusions, surrounding, nestings, states, space_lines, section_lines}
+use Rattle.model.specs.Lines.{largest, arity_of, limits, minimal, excluded, exclusions, surrounding, nestings, space_lines, section_lines}
 use Rattle.model.specs.Lines.{space_sections, totals, of_predicate, ceilings, types_of, type_lines, closing_lines, sections}
 use Rattle.model.specs.Truth.{◌isOn◌, ◌isSectionOf◌, gives_conditions, states_of}
 use Rattle.model.proofs.ListedSpace.{spaces_of_analysis}
-use Rattle.model.proofs.ListedParts.{InListing, as_many_sources, with_condition, section_listing, section_conditions, section_one}
+use Rattle.model.proofs.ListedParts.{InListing, with_condition, section_listing, section_conditions}
 use Rattle.model.proofs.ClosingLines.{TotalLine, total_of_property, Capped, types_line, types_present, ClosingLine, is_total, is_ceiling, is_types}
 use Rattle.model.proofs.ClosingLines.{closing_line}
 
 -- a line of the section of a space
 data SpaceLine (t : Task) (n : ℕ) (a : Analysis) (line : Line) : Type 0 where
   is_space : line ≡ space n a.kind a.space.properties a.space.members → SpaceLine t n a line
-  is_state : Memᴰ line (states a.sources a.conditions) → SpaceLine t n a line
+  is_state : (b : Bag) → Memᴰ b a.conditions → line ≡ state b → SpaceLine t n a line
   is_limit : Memᴰ line (limits t a.space.properties a.conditions) → SpaceLine t n a line
   is_membership : (i : ℕ) → Memᴰ i (minimal a.conditions) → line ≡ membership i → SpaceLine t n a line
   is_exclusion : Memᴰ line (exclusions a.conditions (minimal a.conditions)) → SpaceLine t n a line
@@ -52,41 +51,21 @@ space_line t n a line m =
     ⊎_elim
     (λ first.
     ⊎_elim
-    is_state
+    (λ states. let r = Memᴰ.of_map state a.conditions states in is_state r.0 r.1 (sym r.2))
     is_limit
-    (Memᴰ.append_cases (states a.sources a.conditions) first))
+    (Memᴰ.append_cases (map state a.conditions) first))
     (λ last. let r = Memᴰ.of_map membership (minimal a.conditions) last in is_membership r.0 r.1 (sym r.2))
-    (Memᴰ.append_cases (states a.sources a.conditions ++ limits t a.space.properties a.conditions) front))
+    (Memᴰ.append_cases (map state a.conditions ++ limits t a.space.properties a.conditions) front))
     is_exclusion
     (Memᴰ.append_cases
-    (states a.sources a.conditions ++ limits t a.space.properties a.conditions ++ map membership (minimal a.conditions))
+    (map state a.conditions ++ limits t a.space.properties a.conditions ++ map membership (minimal a.conditions))
     rest))
     is_nesting
     (Memᴰ.append_cases
-    (states a.sources a.conditions ++ limits t a.space.properties a.conditions ++ map membership (minimal a.conditions)
+    (map state a.conditions ++ limits t a.space.properties a.conditions ++ map membership (minimal a.conditions)
     ++ exclusions a.conditions (minimal a.conditions))
     whole))
     (Memᴰ.cases_cons m)
-
--- a T line gives a condition with its source
-pub state_line : (sources : List Source) (bags : List Bag) (line : Line) → Memᴰ line (states sources bags)
-    → (i : ℕ) × (i < length sources) × (i < length bags) × (line ≡ state (get_or sources i opening) (get_or bags i []))
-unfolding states
-state_line [] bags line m = absurd (Memᴰ.not-nil m)
-state_line (s ∷ sources) [] line m = absurd (Memᴰ.not-nil m)
-state_line (s ∷ sources) (b ∷ bags) line m =
-    ⊎_elim (λ e. (0, omega arith, omega arith, e))
-    (λ k. let (i, l, h, e) = state_line sources bags line k in (suc i, omega arith, omega arith, e))
-    (Memᴰ.cases_cons m)
-
--- and so each condition has one
-pub state_there : (sources : List Source) (bags : List Bag) (i : ℕ) → i < length sources → i < length bags
-    → Memᴰ (state (get_or sources i opening) (get_or bags i [])) (states sources bags)
-unfolding states
-state_there [] bags i l h = absurd (omega arith)
-state_there (s ∷ sources) [] i l h = absurd (omega arith)
-state_there (s ∷ sources) (b ∷ bags) zero l h = Memᴰ.head refl
-state_there (s ∷ sources) (b ∷ bags) (suc i) l h = Memᴰ.tail (state_there sources bags i (omega arith) (omega arith))
 
 -- an M line gives a property of the space and the largest of its counts
 pub limit_line : (t : Task) (properties : List ℕ) (bags : List Bag) (line : Line) → Memᴰ line (limits t properties bags)
@@ -132,52 +111,13 @@ nesting_line bags line m =
     let k = keep_at (λ j. strictly_within (get_or bags r.0 []) (get_or bags j [])) (up_to (length bags)) s.0 s.1 in
     (r.0, s.0, up_to_at (length bags) r.0 r.1, up_to_at (length bags) s.0 k.0, k.1, sym s.2)
 
--- ---- letters
-
--- lines of different letters are different
-letter : Line → ℕ
-letter (space n kind properties members) = 0
-letter (state source counts) = 1
-letter (limit c most) = 2
-letter (membership i) = 3
-letter (exclusion i j) = 4
-letter (nesting i j) = 5
-letter (total p n) = 6
-letter (ceiling p n) = 7
-letter (types n k objects) = 8
-
-clash : {A : Type 0} (x y : Line) → x ≡ y → eqb (letter x) (letter y) ≡ false → A
-clash x y e f = never (sym (eq-eqb (letter x) (letter y) (ap letter e)) ∙ f)
-
-state_only : {A : Type 0} (sources : List Source) (bags : List Bag) (line : Line) → Memᴰ line (states sources bags)
-    → eqb (letter line) 1 ≡ false → A
-unfolding letter
-state_only sources bags line m e =
-    let r = state_line sources bags line m in clash line (state (get_or sources r.0 opening) (get_or bags r.0 [])) r.3 e
-
-limit_only : {A : Type 0} (t : Task) (properties : List ℕ) (bags : List Bag) (line : Line)
-    → Memᴰ line (limits t properties bags) → eqb (letter line) 2 ≡ false → A
-unfolding letter
-limit_only t properties bags line m e =
-    let r = limit_line t properties bags line m in clash line (limit r.0 _) r.2 e
-
-exclusion_only : {A : Type 0} (bags : List Bag) (indices : List ℕ) (line : Line) → Memᴰ line (exclusions bags indices)
-    → eqb (letter line) 4 ≡ false → A
-unfolding letter
-exclusion_only bags indices line m e =
-    let r = exclusion_line bags indices line m in clash line (exclusion r.0 r.1) r.3 e
-
-nesting_only : {A : Type 0} (bags : List Bag) (line : Line) → Memᴰ line (nestings bags) → eqb (letter line) 5 ≡ false → A
-unfolding letter
-nesting_only bags line m e = let r = nesting_line bags line m in clash line (nesting r.0 r.1) r.5 e
-
 -- ---- the conditions that lines give
 
 states_append : (xs ys : List Line) → states_of (xs ++ ys) ≡ states_of xs ++ states_of ys
 unfolding states_of
 states_append [] ys = refl
 states_append (space n kind properties members ∷ xs) ys = states_append xs ys
-states_append (state source counts ∷ xs) ys = ap {B = List Bag} (λ l. counts ∷ l) (states_append xs ys)
+states_append (state counts ∷ xs) ys = ap {B = List Bag} (λ l. counts ∷ l) (states_append xs ys)
 states_append (limit c most ∷ xs) ys = states_append xs ys
 states_append (membership i ∷ xs) ys = states_append xs ys
 states_append (exclusion i j ∷ xs) ys = states_append xs ys
@@ -186,13 +126,10 @@ states_append (total p n ∷ xs) ys = states_append xs ys
 states_append (ceiling p n ∷ xs) ys = states_append xs ys
 states_append (types n k objects ∷ xs) ys = states_append xs ys
 
--- the T lines of conditions with a source each
-states_of_states : (sources : List Source) (bags : List Bag) → length sources ≡ length bags → states_of (states sources bags) ≡ bags
-unfolding states_of states
-states_of_states [] [] e = refl
-states_of_states [] (b ∷ bags) e = absurd (omega arith)
-states_of_states (s ∷ sources) [] e = absurd (omega arith)
-states_of_states (s ∷ sources) (b ∷ bags) e = ap {B = List Bag} (λ l. b ∷ l) (states_of_states sources bags (omega arith))
+states_of_states : (bags : List Bag) → states_of (map state bags) ≡ bags
+unfolding states_of
+states_of_states [] = refl
+states_of_states (b ∷ bags) = ap {B = List Bag} (λ l. b ∷ l) (states_of_states bags)
 
 -- a list of lines of another letter gives no conditions
 no_states : (f : ℕ → Line) → ((i : ℕ) (lines : List Line) → states_of (f i ∷ lines) ≡ states_of lines) → (ns : List ℕ)
@@ -229,61 +166,35 @@ no_nesting_states bags = go (up_to (length bags))
         ∙ go indices
 
 -- the conditions that the lines of a space give are its T lines
-states_of_space : (t : Task) (n : ℕ) (a : Analysis) → length a.sources ≡ length a.conditions → states_of (space_lines t n a) ≡ a.conditions
+states_of_space : (t : Task) (n : ℕ) (a : Analysis) → states_of (space_lines t n a) ≡ a.conditions
 unfolding space_lines states_of
-states_of_space t n a as_many =
+states_of_space t n a =
     let bags = a.conditions in
-    let each = states a.sources bags in
     let most = limits t a.space.properties bags in
     let pairs = exclusions bags (minimal bags) in
-    states_append (each ++ most ++ map membership (minimal bags) ++ pairs) (nestings bags)
-    ∙ ap (λ (l : List Bag). l ++ states_of (nestings bags)) (states_append (each ++ most ++ map membership (minimal bags)) pairs)
-    ∙ ap (λ (l : List Bag). l ++ states_of pairs ++ states_of (nestings bags)) (states_append (each ++ most) (map membership (minimal bags)))
-    ∙ ap (λ (l : List Bag). l ++ states_of (map membership (minimal bags)) ++ states_of pairs ++ states_of (nestings bags)) (states_append each most)
-    ∙ simp (
-      states_of_states a.sources bags as_many,
-      no_limit_states,
-      no_states membership (λ i lines. refl),
-      no_exclusion_states,
-      no_nesting_states,
-      append-nil,
-    )
+    states_append (map state bags ++ most ++ map membership (minimal bags) ++ pairs) (nestings bags)
+    ∙ ap (λ (l : List Bag). l ++ states_of (nestings bags)) (states_append (map state bags ++ most ++ map membership (minimal bags)) pairs)
+    ∙ ap (λ (l : List Bag). l ++ states_of pairs ++ states_of (nestings bags)) (states_append (map state bags ++ most) (map membership (minimal bags)))
+    ∙ ap (λ (l : List Bag). l ++ states_of (map membership (minimal bags)) ++ states_of pairs ++ states_of (nestings bags))
+    (states_append (map state bags) most)
+    ∙ simp (states_of_states, no_limit_states, no_states membership (λ i lines. refl), no_exclusion_states, no_nesting_states, append-nil)
 
 states_of_all : (t : Task) (n : ℕ) (analyses : List Analysis)
-    → ((a : Analysis) → Memᴰ a analyses → length a.sources ≡ length a.conditions)
     → states_of (flat_map (space_lines t n) analyses) ≡ flat_map (λ (a : Analysis). a.conditions) analyses
 unfolding flat_map states_of
-states_of_all t n [] as_many = refl
-states_of_all t n (a ∷ analyses) as_many =
+states_of_all t n [] = refl
+states_of_all t n (a ∷ analyses) =
     states_append (space_lines t n a) (flat_map (space_lines t n) analyses)
-    ∙ ap (λ (bags : List Bag). bags ++ states_of (flat_map (space_lines t n) analyses)) (states_of_space t n a (as_many a (Memᴰ.head refl)))
-    ∙ ap (λ (bags : List Bag). a.conditions ++ bags) (states_of_all t n analyses (λ b k. as_many b (Memᴰ.tail k)))
+    ∙ ap (λ (bags : List Bag). bags ++ states_of (flat_map (space_lines t n) analyses)) (states_of_space t n a)
+    ∙ ap (λ (bags : List Bag). a.conditions ++ bags) (states_of_all t n analyses)
 
 -- ---- sections
 
--- The lines of an analysis are in a section, under the number of its space; and if its kind gives conditions, it gives those of the section,
--- and the section's T lines are its own.
+-- The lines of an analysis are in a section, under the number of its space; and if its kind gives conditions, it gives those of the section.
 pub record ListedIn (t : Task) (lines : List Line) (n : ℕ) (a : Analysis) : Type 0 where
   pub in_listing : InListing t a
   pub has_line : (line : Line) → line is_on space_lines t n a → line is_on lines
   pub states_are : gives_conditions a.kind ≡ true → states_of lines ≡ a.conditions
-  pub own_states :
-      gives_conditions a.kind ≡ true → (source : Source) (b : Bag) → state source b is_on lines
-      → state source b is_on states a.sources a.conditions
-
--- a T line among the lines of an analysis
-state_of_space : (t : Task) (n : ℕ) (a : Analysis) (source : Source) (b : Bag) → state source b is_on space_lines t n a
-    → state source b is_on states a.sources a.conditions
-unfolding letter
-state_of_space t n a source b m = found (space_line t n a (state source b) m)
-  where
-    found : SpaceLine t n a (state source b) → state source b is_on states a.sources a.conditions
-    found (is_space p) = clash (state source b) (space _ _ _ _) p refl
-    found (is_state k) = k
-    found (is_limit k) = limit_only t _ _ (state source b) k refl
-    found (is_membership x k p) = clash (state source b) (membership x) p refl
-    found (is_exclusion k) = exclusion_only _ _ (state source b) k refl
-    found (is_nesting k) = nesting_only _ (state source b) k refl
 
 -- so are those of a space of the task and of what is left of it
 listed_in : (t : Task) (n : ℕ) (a : Analysis) → Memᴰ a (analysis t) → (b : Analysis) → Memᴰ b (a ∷ rescues t a)
@@ -293,15 +204,7 @@ listed_in t n a m b k =
     record {
       in_listing = section_listing t a m b k;
       has_line = λ line on. flat_map_intro (space_lines t n) (a ∷ rescues t a) b line k on;
-      states_are = λ gives.
-          states_of_all t n (a ∷ rescues t a) (λ x j. as_many_sources (section_listing t a m x j)) ∙ section_conditions t a m b k gives;
-      own_states =
-          λ gives source c on.
-          let (x, j, i) = flat_map_at (space_lines t n) (a ∷ rescues t a) (state source c) on in
-          let own = state_of_space t n x source c i in
-          let (at, l, h, is) = state_line x.sources x.conditions (state source c) own in
-          let x_gives = with_condition (section_listing t a m x j) (get_or x.conditions at []) (mem_get_d x.conditions at [] h) in
-          subst (λ (y : Analysis). state source c is_on states y.sources y.conditions) (section_one t a m x b j k x_gives gives) own;
+      states_are = λ gives. states_of_all t n (a ∷ rescues t a) ∙ section_conditions t a m b k gives;
     }
 
 -- an analysis with a condition gives the conditions of its section
@@ -330,6 +233,37 @@ section_of_lem t lines m =
     (λ k. closing (Memᴰ.eq_of_singleton k))
     (Memᴰ.append_cases (space_sections t 0 (analysis t)) m)
 
+-- lines of different letters are different
+letter : Line → ℕ
+letter (space n kind properties members) = 0
+letter (state counts) = 1
+letter (limit c most) = 2
+letter (membership i) = 3
+letter (exclusion i j) = 4
+letter (nesting i j) = 5
+letter (total p n) = 6
+letter (ceiling p n) = 7
+letter (types n k objects) = 8
+
+clash : {A : Type 0} (x y : Line) → x ≡ y → eqb (letter x) (letter y) ≡ false → A
+clash x y e f = never (sym (eq-eqb (letter x) (letter y) (ap letter e)) ∙ f)
+
+limit_only : {A : Type 0} (t : Task) (properties : List ℕ) (bags : List Bag) (line : Line)
+    → Memᴰ line (limits t properties bags) → eqb (letter line) 2 ≡ false → A
+unfolding letter
+limit_only t properties bags line m e =
+    let r = limit_line t properties bags line m in clash line (limit r.0 _) r.2 e
+
+exclusion_only : {A : Type 0} (bags : List Bag) (indices : List ℕ) (line : Line) → Memᴰ line (exclusions bags indices)
+    → eqb (letter line) 4 ≡ false → A
+unfolding letter
+exclusion_only bags indices line m e =
+    let r = exclusion_line bags indices line m in clash line (exclusion r.0 r.1) r.3 e
+
+nesting_only : {A : Type 0} (bags : List Bag) (line : Line) → Memᴰ line (nestings bags) → eqb (letter line) 5 ≡ false → A
+unfolding letter
+nesting_only bags line m e = let r = nesting_line bags line m in clash line (nesting r.0 r.1) r.5 e
+
 blank : Schema
 blank = record { parameters = 0; preconditions = []; deletes = []; adds = [] }
 
@@ -342,8 +276,7 @@ types_only t line m e = clash line (types _ _ _) (types_line t (spaces t) 0 t.sc
 space_letter : (t : Task) (n : ℕ) (a : Analysis) (line : Line) → SpaceLine t n a line → leb (letter line) 5 ≡ true
 unfolding letter
 space_letter t n a line (is_space e) = ap (λ (l : Line). leb (letter l) 5) e
-space_letter t n a line (is_state m) =
-    ap (λ (l : Line). leb (letter l) 5) (state_line a.sources a.conditions line m).3
+space_letter t n a line (is_state b m e) = ap (λ (l : Line). leb (letter l) 5) e
 space_letter t n a line (is_limit m) =
     ap (λ (l : Line). leb (letter l) 5) (limit_line t a.space.properties a.conditions line m).2
 space_letter t n a line (is_membership i m e) = ap (λ (l : Line). leb (letter l) 5) e
@@ -417,7 +350,7 @@ on_space t lines n kind properties members s m = go (of_a_space t lines (space n
           properties_are = cc;
           members_are = cc;
         }
-    found i a l (is_state k) = state_only _ _ (space n kind properties members) k refl
+    found i a l (is_state b k p) = clash (space n kind properties members) (state b) p refl
     found i a l (is_limit k) = limit_only t _ _ (space n kind properties members) k refl
     found i a l (is_membership j k p) = clash (space n kind properties members) (membership j) p refl
     found i a l (is_exclusion k) = exclusion_only _ _ (space n kind properties members) k refl
@@ -440,7 +373,7 @@ on_limit t lines c most s m = go (of_a_space t lines (limit c most) s m refl)
   where
     found : (i : ℕ) (a : Analysis) → InListing t a → SpaceLine t i a (limit c most) → OnLimit t c most
     found i a l (is_space p) = clash (limit c most) (space _ _ _ _) p refl
-    found i a l (is_state k) = state_only _ _ (limit c most) k refl
+    found i a l (is_state b k p) = clash (limit c most) (state b) p refl
     found i a l (is_limit k) =
         let r = limit_line t a.space.properties a.conditions (limit c most) k in
         let same_property : c ≡ r.0 = cc in
@@ -480,7 +413,7 @@ on_exclusion t lines i j s m = go (of_a_space t lines (exclusion i j) s m refl)
     found : (n : ℕ) (a : Analysis) → SpaceLine t n a (exclusion i j)
         → (excluded a.conditions i j ≡ true) × ((b : Bag) × Memᴰ b a.conditions)
     found n a (is_space p) = clash (exclusion i j) (space _ _ _ _) p refl
-    found n a (is_state k) = state_only _ _ (exclusion i j) k refl
+    found n a (is_state b k p) = clash (exclusion i j) (state b) p refl
     found n a (is_limit k) = limit_only t _ _ (exclusion i j) k refl
     found n a (is_membership x k p) = clash (exclusion i j) (membership x) p refl
     found n a (is_exclusion k) =
@@ -577,16 +510,14 @@ types_on t n k hn hk = (
       (types_present t (spaces t) 0 t.schemas blank n k hn hk))),
 )
 
--- a condition with its source has a T line
-pub state_on : (t : Task) (n : ℕ) (a : Analysis) (i : ℕ) → i < length a.sources → i < length a.conditions
-    → state (get_or a.sources i opening) (get_or a.conditions i []) is_on space_lines t n a
+pub state_on : (t : Task) (n : ℕ) (a : Analysis) (b : Bag) → Memᴰ b a.conditions → state b is_on space_lines t n a
 unfolding space_lines
-state_on t n a i l h =
+state_on t n a b m =
     Memᴰ.tail
     (Memᴰ.append_left (nestings a.conditions)
     (Memᴰ.append_left (exclusions a.conditions (minimal a.conditions))
     (Memᴰ.append_left (map membership (minimal a.conditions))
-    (Memᴰ.append_left (limits t a.space.properties a.conditions) (state_there a.sources a.conditions i l h)))))
+    (Memᴰ.append_left (limits t a.space.properties a.conditions) (Memᴰ.map state m)))))
 
 pub membership_on : (t : Task) (n : ℕ) (a : Analysis) (i : ℕ) → Memᴰ i (minimal a.conditions)
     → membership i is_on space_lines t n a
@@ -595,7 +526,7 @@ membership_on t n a i m =
     Memᴰ.tail
     (Memᴰ.append_left (nestings a.conditions)
     (Memᴰ.append_left (exclusions a.conditions (minimal a.conditions))
-    (Memᴰ.append_right (states a.sources a.conditions ++ limits t a.space.properties a.conditions) (Memᴰ.map membership m))))
+    (Memᴰ.append_right (map state a.conditions ++ limits t a.space.properties a.conditions) (Memᴰ.map membership m))))
 
 -- an E line in a section: two of its conditions, the first strictly within the second
 pub on_nesting : (t : Task) (lines : List Line) (i j : ℕ) → lines is_section_of t → nesting i j is_on lines
@@ -609,7 +540,7 @@ on_nesting t lines i j s m = go (of_a_space t lines (nesting i j) s m refl)
 
     found : (n : ℕ) (a : Analysis) → SpaceLine t n a (nesting i j) → Nested a.conditions
     found n a (is_space p) = clash (nesting i j) (space _ _ _ _) p refl
-    found n a (is_state k) = state_only _ _ (nesting i j) k refl
+    found n a (is_state b k p) = clash (nesting i j) (state b) p refl
     found n a (is_limit k) = limit_only t _ _ (nesting i j) k refl
     found n a (is_membership x k p) = clash (nesting i j) (membership x) p refl
     found n a (is_exclusion k) = exclusion_only _ _ (nesting i j) k refl

@@ -17,9 +17,8 @@ use Rattle.laws.proofs.Tests.{never, and_left, and_right, and_intro, to_not_fals
 use Rattle.laws.proofs.Lists.{same_eq}
 use Rattle.laws.proofs.Reading.{all_append, all_weaken}
 use Rattle.model.specs.Spaces.{Kind, static, attribute, property, mixed, wide, rescued}
-use Rattle.model.specs.Analysis.{Source, opening, led}
 use Rattle.model.specs.Lines.{Line, space, state, limit, membership, exclusion, nesting, total, ceiling, types}
-use Rattle.model.specs.Text.{digits_within, decimal, kind_letter, colon, source_items, items, spaced, line_text, text}
+use Rattle.model.specs.Text.{digits_within, decimal, kind_letter, colon, items, spaced, line_text, text}
 
 -- ---- numbers
 
@@ -174,18 +173,13 @@ colon_plain : plain colon
 unfolding all
 colon_plain = refl
 
-source_plain : (s : Source) {rest : List (List ℕ)} → Plain rest → Plain (source_items s ++ rest)
-unfolding source_items all
-source_plain opening p = also refl p
-source_plain (led index schema) p = also (decimal_plain index) (also (decimal_plain schema) p)
-
 items_lettered : (l : Line) → Lettered (items l)
 unfolding items all
 items_lettered (space n kind properties members) =
     lettered refl
     (also (decimal_plain n)
     (also (kind_plain kind) (also colon_plain (numbers_plain properties (also colon_plain (last_plain members))))))
-items_lettered (state source counts) = lettered refl (source_plain source (also colon_plain (last_plain counts)))
+items_lettered (state counts) = lettered refl (also colon_plain (last_plain counts))
 items_lettered (limit c most) = lettered refl (also (decimal_plain c) (also (decimal_plain most) none))
 items_lettered (membership i) = lettered refl (also (decimal_plain i) none)
 items_lettered (exclusion i j) = lettered refl (also (decimal_plain i) (also (decimal_plain j) none))
@@ -233,26 +227,11 @@ after_again (n ∷ ns) rest = rw (no_colon n) (after_again ns rest)
 number_at : ℕ → List (List ℕ) → ℕ
 number_at place xs = number_of (get_or xs place [])
 
--- where a condition comes from, by the items in front of the colon
-source_from : List (List ℕ) → Source
-source_from xs = cond (eqb (length xs) 1) opening (led (number_at 0 xs) (number_at 1 xs))
-
-source_again : (s : Source) (rest : List (List ℕ)) → source_from (before_colon (source_items s ++ (colon ∷ rest))) ≡ s
-unfolding source_from before_colon source_items number_at same
-source_again opening rest = refl
-source_again (led index schema) rest =
-    ap source_from (before_again (index ∷ schema ∷ []) rest) ∙ (λ i. led (number_again index i) (number_again schema i))
-
-after_source : (s : Source) (rest : List (List ℕ)) → after_colon (source_items s ++ (colon ∷ rest)) ≡ rest
-unfolding after_colon source_items same
-after_source opening rest = refl
-after_source (led index schema) rest = after_again (index ∷ schema ∷ []) rest
-
 line_by : ℕ → List (List ℕ) → Line
 line_by letter xs =
     cond (eqb letter 83)
     (space (number_at 1 xs) (kind_from (get_or (get_or xs 2 []) 0 0)) (map number_of (before_colon (drop 4 xs))) (map number_of (after_colon (drop 4 xs))))
-    (cond (eqb letter 84) (state (source_from (before_colon (drop 1 xs))) (map number_of (after_colon (drop 1 xs))))
+    (cond (eqb letter 84) (state (map number_of (drop 2 xs)))
     (cond (eqb letter 77) (limit (number_at 1 xs) (number_at 2 xs))
     (cond (eqb letter 68) (membership (number_at 1 xs))
     (cond (eqb letter 88) (exclusion (number_at 1 xs) (number_at 2 xs))
@@ -271,8 +250,7 @@ line_again (space n kind properties members) =
     λ i. space (number_again n i) (kind_again kind i)
     ((ap (map number_of) (before_again properties (map decimal members)) ∙ numbers_again properties) i)
     ((ap (map number_of) (after_again properties (map decimal members)) ∙ numbers_again members) i)
-line_again (state source counts) =
-    λ i. state (source_again source (map decimal counts) i) ((ap (map number_of) (after_source source (map decimal counts)) ∙ numbers_again counts) i)
+line_again (state counts) = ap state (numbers_again counts)
 line_again (limit c most) = λ i. limit (number_again c i) (number_again most i)
 line_again (membership index) = ap membership (number_again index)
 line_again (exclusion one other) = λ i. exclusion (number_again one i) (number_again other i)

@@ -1,6 +1,6 @@
--- What demand 3 says can be false: for each of its clauses (specs/Truth.antt) but `TypesListed`, `NestingsTrue`, `SourcesTrue`, `OpeningsTrue`
--- and `OpeningsListed`, which ask nothing of the facts, a set of facts over K1's task of which that clause is not so, and for those that ask
--- something of H spaces a set of facts over K5's task. A clause that asked for less would let its set of facts pass.
+-- What demand 3 says can be false: for each of its clauses (specs/Truth.antt) but `TypesListed` and `NestingsTrue`, which ask nothing of the
+-- facts, a set of facts over K1's task of which that clause is not so, and for those that ask something of H spaces a set of facts over
+-- K5's task. A clause that asked for less would let its set of facts pass.
 use Prim.Native.Nat.{ℕ, ◌≤◌}
 use native.Mathlib.Omega.{arith}
 use mathlib.Core.Path.{◌≡◌, refl, sym}
@@ -69,14 +69,14 @@ unlisted l = any is_empty (states_of (l ∷ []))
 states_tell : Untrue bench StatesListed []
 unfolding opened line unlisted Untrue
 states_tell h =
-    let (source, there) = h (section bench 0) 0 property (0 ∷ 1 ∷ []) (0 ∷ 1 ∷ []) 0 (listed bench 0 refl) (on bench 0 0 refl) refl refl in
-    never (sym (any_intro unlisted (section bench 0) (state source (0 ∷ 0 ∷ [])) there refl))
+    let there = h (section bench 0) 0 property (0 ∷ 1 ∷ []) (0 ∷ 1 ∷ []) 0 (listed bench 0 refl) (on bench 0 0 refl) refl refl in
+    never (sym (any_intro unlisted (section bench 0) (state (0 ∷ 0 ∷ [])) there refl))
 
 rescued_states_tell : Untrue switch StatesListed []
 unfolding opened line unlisted Untrue
 rescued_states_tell h =
-    let (source, there) = h (section switch 0) 0 rescued (0 ∷ 1 ∷ []) (0 ∷ []) 0 (listed switch 0 refl) (on switch 0 1 refl) refl refl in
-    never (sym (any_intro unlisted (section switch 0) (state source (0 ∷ 0 ∷ [])) there refl))
+    let there = h (section switch 0) 0 rescued (0 ∷ 1 ∷ []) (0 ∷ []) 0 (listed switch 0 refl) (on switch 0 1 refl) refl refl in
+    never (sym (any_intro unlisted (section switch 0) (state (0 ∷ 0 ∷ [])) there refl))
 
 -- idle(3), and 3 is outside that space
 outside_tells : Untrue bench NoneOutside (fact 0 (3 ∷ []) ∷ [])
@@ -95,7 +95,7 @@ limits_tell h = let few : 2 ≤ 1 = h (section bench 1) 2 1 0 (listed bench 1 re
 contained : List Line → Line → Bool
 contained lines (membership i) = contains (0 ∷ 0 ∷ []) (get_or (states_of lines) i [])
 contained lines (space n kind properties members) = false
-contained lines (state source counts) = false
+contained lines (state counts) = false
 contained lines (limit c most) = false
 contained lines (exclusion i j) = false
 contained lines (nesting i j) = false

@@ -30,7 +30,7 @@ use Rattle.model.specs.Vectors.{in_state_order, nothing_comes, both_asked, malfo
 use Rattle.model.specs.Vectors.{still_so, coming_differs, going_differs, filler_differs, order_differs, row_repeated, rows_missing}
 use Rattle.model.specs.Vectors.{checks_first, room_first, committed_and_asked}
 use Rattle.model.specs.Vectors.{rescued_switch, member_left_out, no_total_rescued, first_contained, own_list_alone, rescued_twice}
-use Rattle.model.specs.Vectors.{rule_emptied, start_emptied, finish_emptied, no_property_left, no_member_left, rescue_wide, second_start}
+use Rattle.model.specs.Vectors.{rule_emptied, start_emptied, finish_emptied, no_property_left, no_member_left, rescue_wide}
 
 -- opens every definition, for what is proved by computation
 unfoldable pub definitions_open : Unit {0}
@@ -295,10 +295,6 @@ rescue_wide_holds : Holds rescue_wide
 unfolding definitions_open
 rescue_wide_holds = refl
 
-second_start_holds : Holds second_start
-unfolding definitions_open
-second_start_holds = refl
-
 -- each entry of a list holds
 infixr 5 ◌and◌
 data AllHold : List Entry → Type 0 where
@@ -378,7 +374,6 @@ every_entry =
     and no_property_left_holds
     and no_member_left_holds
     and rescue_wide_holds
-    and second_start_holds
     and none
 
 -- every entry of the table holds

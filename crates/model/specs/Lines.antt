@@ -1,5 +1,4 @@
--- Document 01, "Listing": the lines of each section; and document 02, No. 2: the E lines, No. 5: the lines of a rescued space, and
--- No. 6: where a condition comes from.
+-- Document 01, "Listing": the lines of each section; and document 02, No. 2: the E lines, and No. 5: the lines of a rescued space.
 use Rattle.std.specs.Prelude.{ℕ, suc, ◌+◌, ◌*◌, max, Bool, cond, not, ◌&&◌, leb, eqb, length, get_or, take}
 use mathlib.Core.List.{List, [], ◌∷◌, ◌++◌, map, flat_map}
 use Rattle.laws.specs.Lists.{any, all, keep, count, up_to, sum, member}
@@ -8,13 +7,13 @@ use Rattle.model.specs.Card.{Atom, Schema, Task}
 use Rattle.model.specs.Transitions
 use Rattle.model.specs.Transitions.{bag_of}
 use Rattle.model.specs.Spaces.{Space, Kind, has_member}
-use Rattle.model.specs.Analysis.{Source, Analysis, analysis}
+use Rattle.model.specs.Analysis.{Analysis, analysis}
 use Rattle.model.specs.Rescue.{rescues}
 
 -- A line of the listing; its letter in document 01 stands behind it.
 pub data Line : Type 0 where
   space : ℕ → Kind → List ℕ → List ℕ → Line  -- S: number, kind, properties, members
-  state : Source → Bag → Line  -- T: where one condition comes from, its counts by property
+  state : Bag → Line  -- T: counts of one condition by property
   limit : ℕ → ℕ → Line  -- M: property, most
   membership : ℕ → Line  -- D: index of a condition
   exclusion : ℕ → ℕ → Line  -- X: two D indices
@@ -67,17 +66,11 @@ surrounding bags i = keep (λ j. strictly_within (get_or bags i []) (get_or bags
 unfoldable pub nestings : List Bag → List Line
 nestings bags = flat_map (λ i. map (nesting i) (surrounding bags i)) (up_to (length bags))
 
--- T: each condition with its source
-unfoldable pub states : List Source → List Bag → List Line
-states [] bags = []
-states (s ∷ sources) [] = []
-states (s ∷ sources) (b ∷ bags) = state s b ∷ states sources bags
-
 -- the lines of a space: S and, for P and H, all T, all M, all D, all X, all E
 unfoldable pub space_lines : Task → ℕ → Analysis → List Line
 space_lines t n a =
     space n a.kind a.space.properties a.space.members
-    ∷ (states a.sources a.conditions ++ limits t a.space.properties a.conditions
+    ∷ (map state a.conditions ++ limits t a.space.properties a.conditions
     ++ map membership (minimal a.conditions) ++ exclusions a.conditions (minimal a.conditions)
     ++ nestings a.conditions)
 
@@ -146,6 +139,6 @@ sections t = let analyses = analysis t in space_sections t 0 analyses ++ (closin
 -- opens every definition of this module, for what is proved by computation
 unfoldable pub lines_open : Unit {0}
 unfolding
-    count_of largest arity_of limits minimal excluded exclusions surrounding nestings states space_lines section_lines space_sections property_number
+    count_of largest arity_of limits minimal excluded exclusions surrounding nestings space_lines section_lines space_sections property_number
     one_number totals_by totals of_predicate ceilings types_of type_lines closing_lines sections
 lines_open = tt

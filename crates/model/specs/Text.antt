@@ -2,7 +2,6 @@
 use Rattle.std.specs.Prelude.{ℕ, zero, suc, ◌+◌, ◌/◌, ◌%◌, cond, ltb}
 use mathlib.Core.List.{List, [], ◌∷◌, ◌++◌, map, flat_map}
 use Rattle.model.specs.Spaces.{Kind, static, attribute, property, mixed, wide, rescued}
-use Rattle.model.specs.Analysis.{Source, opening, led}
 use Rattle.model.specs.Lines.{Line, space, state, limit, membership, exclusion, nesting, total, ceiling, types}
 
 -- at most so many decimal digits of a number
@@ -27,16 +26,11 @@ kind_letter rescued = 72
 abbrev pub colon : List ℕ
 colon = 58 ∷ []
 
--- where a condition comes from: a hyphen where a member opens with it, or an index and a schema
-unfoldable pub source_items : Source → List (List ℕ)
-source_items opening = (45 ∷ []) ∷ []
-source_items (led index schema) = decimal index ∷ decimal schema ∷ []
-
 -- the items of a line
 unfoldable pub items : Line → List (List ℕ)
 items (space n kind properties members) =
     (83 ∷ []) ∷ decimal n ∷ (kind_letter kind ∷ []) ∷ colon ∷ (map decimal properties ++ (colon ∷ map decimal members))
-items (state source counts) = (84 ∷ []) ∷ (source_items source ++ (colon ∷ map decimal counts))
+items (state counts) = (84 ∷ []) ∷ colon ∷ map decimal counts
 items (limit c most) = (77 ∷ []) ∷ decimal c ∷ decimal most ∷ []
 items (membership index) = (68 ∷ []) ∷ decimal index ∷ []
 items (exclusion i j) = (88 ∷ []) ∷ decimal i ∷ decimal j ∷ []
@@ -61,5 +55,5 @@ text lines = flat_map line_text lines
 
 -- opens every definition of this module, for what is proved by computation
 unfoldable pub text_opens : Unit {0}
-unfolding digits_within decimal kind_letter source_items items spaced line_text text
+unfolding digits_within decimal kind_letter items spaced line_text text
 text_opens = tt

@@ -28,49 +28,43 @@ occurs x a c = eqb c.predicate a.predicate && stands_at x c.position a.arguments
 unfoldable pub bag_of : List Property → List Atom → ℕ → Bag
 bag_of properties atoms x = map (λ c. count (λ a. occurs x a c) atoms) properties
 
--- A transition rule: the number of its schema (document 02, No. 6), and bags over all properties.
+-- A transition rule: bags over all properties.
 pub record Transition : Type 0 where
-  pub schema : ℕ
   pub enablers : Bag
   pub start : Bag
   pub finish : Bag
 
 -- for each distinct property c of X, ascending: enablers P less one c, start c, finish c
-unfoldable pub exchanges : ℕ → Bag → Bag → List Transition
-exchanges n p x =
+unfoldable pub exchanges : Bag → Bag → List Transition
+exchanges p x =
     map
-    (λ c. record { schema = n; enablers = less p (single (length p) c); start = single (length p) c; finish = single (length p) c })
+    (λ c. record { enablers = less p (single (length p) c); start = single (length p) c; finish = single (length p) c })
     (support x)
 
 -- start and finish with enablers P less start. Both empty: no rule. Start empty: one rule per distinct finish property, ascending
-unfoldable pub remaining : ℕ → Bag → Bag → Bag → List Transition
-remaining n p start finish =
+unfoldable pub remaining : Bag → Bag → Bag → List Transition
+remaining p start finish =
     cond
     (is_empty start)
-    (map (λ c. record { schema = n; enablers = less p start; start = start; finish = single (length p) c }) (support finish))
-    (record { schema = n; enablers = less p start; start = start; finish = finish } ∷ [])
+    (map (λ c. record { enablers = less p start; start = start; finish = single (length p) c }) (support finish))
+    (record { enablers = less p start; start = start; finish = finish } ∷ [])
 
--- the rules of one parameter of schema n with the bags P, D and A; X is the bag intersection of D and A
-unfoldable pub rules_of : ℕ → Bag → Bag → Bag → List Transition
-rules_of n p d a = let x = meet d a in exchanges n p x ++ remaining n p (less d x) (less a x)
+-- the rules of one parameter with the bags P, D and A; X is the bag intersection of D and A
+unfoldable pub rules_of : Bag → Bag → Bag → List Transition
+rules_of p d a = let x = meet d a in exchanges p x ++ remaining p (less d x) (less a x)
 
--- the rules of parameter k of the schema with number n
-unfoldable pub parameter_rules : Task → ℕ → Schema → ℕ → List Transition
-parameter_rules t n s k =
-    rules_of n
+unfoldable pub parameter_rules : Task → Schema → ℕ → List Transition
+parameter_rules t s k =
+    rules_of
     (bag_of (properties t) s.preconditions k)
     (bag_of (properties t) s.deletes k)
     (bag_of (properties t) s.adds k)
 
--- the rules of the schemas from number n on, in schema then parameter order; identical rules are kept
-unfoldable pub schema_rules : Task → ℕ → List Schema → List Transition
-schema_rules t n [] = []
-schema_rules t n (s ∷ schemas) = flat_map (parameter_rules t n s) (up_to s.parameters) ++ schema_rules t (suc n) schemas
-
+-- in schema then parameter order; identical rules are kept
 unfoldable pub transitions : Task → List Transition
-transitions t = schema_rules t 0 t.schemas
+transitions t = flat_map (λ s. flat_map (parameter_rules t s) (up_to s.parameters)) t.schemas
 
 -- opens every definition of this module, for what is proved by computation
 unfoldable pub transitions_open : Unit {0}
-unfolding properties_from properties occurs bag_of exchanges remaining rules_of parameter_rules schema_rules transitions
+unfolding properties_from properties occurs bag_of exchanges remaining rules_of parameter_rules transitions
 transitions_open = tt

@@ -4,23 +4,20 @@
 -- a condition that the listing gives for that space. An object outside a space has none of that space's properties. Every limit,
 -- membership, exclusion, fixed total and ceiling listed for C is true of S. A press that S allows puts into each role an object
 -- listed for that role. Document 02, No. 2: an E line names two of a space's conditions, the first strictly within the second. No. 5: what
--- holds of P spaces holds of H spaces too. No. 6: the condition on a T line is one application of a rule of its schema away from the one with
--- its index, which stands before it; the others, with a hyphen, are just those that a member opens with.
+-- holds of P spaces holds of H spaces too.
 --
 -- `Holds t S` says this of a task t and a state S, over the lines of the sections whose text the listing call writes
 -- (`Calls.section`). That it is so after every history is the theorem `listing_holds` of proofs/ListingHolds.antt.
 use Rattle.std.specs.Prelude.{ℕ, ◌≤◌, ◌<◌, ◌≡◌, Bool, true, false, ◌&&◌, length, get_or}
 use mathlib.Core.List.{List, [], ◌∷◌, Memᴰ}
 use Rattle.laws.specs.Lists.{member}
-use Rattle.laws.specs.Bags.{Bag, contains, strictly_within, restrict}
+use Rattle.laws.specs.Bags.{Bag, contains, strictly_within}
 use Rattle.model.specs.Answer.{accepted}
 use Rattle.model.specs.Card.{Task}
 use Rattle.model.specs.Strips.{State, Action, schema_at, check_action, applicable}
 use Rattle.model.specs.Transitions
-use Rattle.model.specs.Transitions.{Transition, bag_of, parameter_rules}
+use Rattle.model.specs.Transitions.{bag_of}
 use Rattle.model.specs.Spaces.{Kind, static, attribute, property, mixed, wide, rescued, condition}
-use Rattle.model.specs.Extension.{results}
-use Rattle.model.specs.Analysis.{Source, opening, led}
 use Rattle.model.specs.Lines.{Line, space, state, limit, membership, exclusion, nesting, total, ceiling, types, of_predicate}
 use Rattle.model.specs.Lines.{sections}
 
@@ -46,7 +43,7 @@ gives_conditions rescued = true
 unfoldable pub states_of : List Line → List Bag
 states_of [] = []
 states_of (space n kind properties members ∷ lines) = states_of lines
-states_of (state source counts ∷ lines) = counts ∷ states_of lines
+states_of (state counts ∷ lines) = counts ∷ states_of lines
 states_of (limit c most ∷ lines) = states_of lines
 states_of (membership i ∷ lines) = states_of lines
 states_of (exclusion i j ∷ lines) = states_of lines
@@ -72,7 +69,7 @@ abbrev pub StatesListed : Task → State → Type 0
 StatesListed t s =
     (lines : List Line) (n : ℕ) (kind : Kind) (properties members : List ℕ) (o : ℕ) → lines is_section_of t
     → space n kind properties members is_on lines → gives_conditions kind ≡ true → member o members ≡ true
-    → (source : Source) × (state source (condition t properties s o) is_on lines)
+    → state (condition t properties s o) is_on lines
 
 -- an object outside a space, of whatever kind, has none of that space's properties
 abbrev pub NoneOutside : Task → State → Type 0
@@ -108,42 +105,6 @@ NestingsTrue t =
     → (i < length (states_of lines)) × (j < length (states_of lines))
     × (strictly_within (get_or (states_of lines) i []) (get_or (states_of lines) j []) ≡ true)
 
--- One application of a rule of schema n leads from a condition over these properties to another: some role of the schema has a rule whose
--- start, restricted to the properties, the first condition contains, and the second is one of its results.
-pub record LeadsBy (t : Task) (properties : List ℕ) (n : ℕ) (b c : Bag) : Type 0 where
-  pub named : n < length t.schemas
-  pub role : ℕ
-  pub role_named : role < (schema_at t n).parameters
-  pub rule : Transition
-  pub of_role : Memᴰ rule (parameter_rules t n (schema_at t n) role)
-  pub contained : contains b (restrict properties rule.start) ≡ true
-  pub reached :
-      Memᴰ c (results b (record { schema = n; start = restrict properties rule.start; finish = restrict properties rule.finish }))
-
--- a T line with an index and a schema: its condition is one application of a rule of the schema away from the condition with the index,
--- which stands before it. It says nothing of the state
-abbrev pub SourcesTrue : Task → Type 0
-SourcesTrue t =
-    (lines : List Line) (n : ℕ) (kind : Kind) (properties members : List ℕ) (i k : ℕ) (b : Bag) → lines is_section_of t
-    → space n kind properties members is_on lines → gives_conditions kind ≡ true → state (led i k) b is_on lines
-    → (j : ℕ) × (i < j) × (j < length (states_of lines)) × (get_or (states_of lines) j [] ≡ b)
-    × LeadsBy t properties k (get_or (states_of lines) i []) b
-
--- a T line with a hyphen: a member opens with its condition
-abbrev pub OpeningsTrue : Task → Type 0
-OpeningsTrue t =
-    (lines : List Line) (n : ℕ) (kind : Kind) (properties members : List ℕ) (b : Bag) → lines is_section_of t
-    → space n kind properties members is_on lines → gives_conditions kind ≡ true → state opening b is_on lines
-    → (o : ℕ) × (member o members ≡ true) × (condition t properties t.facts o ≡ b)
-
--- and each condition that a member opens with is on such a line, and on no other T line
-abbrev pub OpeningsListed : Task → Type 0
-OpeningsListed t =
-    (lines : List Line) (n : ℕ) (kind : Kind) (properties members : List ℕ) (o : ℕ) → lines is_section_of t
-    → space n kind properties members is_on lines → gives_conditions kind ≡ true → member o members ≡ true
-    → (state opening (condition t properties t.facts o) is_on lines)
-    × ((source : Source) → state source (condition t properties t.facts o) is_on lines → source ≡ opening)
-
 -- an F total is the predicate's number of facts
 abbrev pub TotalsTrue : Task → State → Type 0
 TotalsTrue t s = (lines : List Line) (p n : ℕ) → lines is_section_of t → total p n is_on lines → of_predicate p s ≡ n
@@ -172,9 +133,6 @@ pub record Holds (t : Task) (s : State) : Type 0 where
   pub membership_true : MembershipsTrue t s
   pub exclusion_true : ExclusionsTrue t s
   pub nesting_true : NestingsTrue t
-  pub source_true : SourcesTrue t
-  pub opening_true : OpeningsTrue t
-  pub opening_listed : OpeningsListed t
   pub total_true : TotalsTrue t s
   pub ceiling_true : CeilingsTrue t s
   pub types_true : TypesTrue t s

@@ -268,13 +268,6 @@ moving8 =
     ∷ (0x0F ∷ 2 ∷ 1 ∷ 0 ∷ 0 ∷ 1 ∷ 1 ∷ 0 ∷ 0 ∷ 1 ∷ 2 ∷ 1 ∷ 0 ∷ 1 ∷ 4 ∷ 0 ∷ []) ∷ [])
     (map (λ i. 0 ∷ 0 ∷ i ∷ []) (from 1 8) ++ ((2 ∷ 0 ∷ []) ∷ []))
 
--- a/1, b/1, c/1, d/1; a schema with roles X and Y takes a(Y) and adds b(Y); a gives b once more, d gives a, c gives d; a(0), c(1)
-unfoldable pub relaying : List ℕ
-relaying =
-    card_with (1 ∷ 1 ∷ 1 ∷ 1 ∷ []) 2
-    ((0x0F ∷ 2 ∷ 1 ∷ 0 ∷ 1 ∷ 1 ∷ 0 ∷ 1 ∷ 1 ∷ 1 ∷ 1 ∷ []) ∷ trade (0 ∷ []) (1 ∷ []) ∷ trade (3 ∷ []) (0 ∷ []) ∷ trade (2 ∷ []) (3 ∷ []) ∷ [])
-    ((0 ∷ 0 ∷ []) ∷ (2 ∷ 1 ∷ []) ∷ [])
-
 unfoldable pub act : ℕ → List ℕ → Action
 act schema objects = record { schema = schema; objects = objects }
 
@@ -304,13 +297,13 @@ bench_card =
       expected =
           lines
           ("S 0 P : 0 1 : 0 1"
-          ∷ "T - : 1 0"
-          ∷ "T 0 0 : 0 1"
+          ∷ "T : 1 0"
+          ∷ "T : 0 1"
           ∷ "D 0"
           ∷ "D 1"
           ∷ "X 0 1"
           ∷ "S 1 P : 2 : 0 1"
-          ∷ "T - : 1"
+          ∷ "T : 1"
           ∷ "M 2 1"
           ∷ "D 0"
           ∷ "S 2 A : 3 : 2 3"
@@ -356,9 +349,9 @@ swallowed_add =
       expected =
           lines
           ("S 0 P : 0 1 : 0"
-          ∷ "T - : 1 1"
-          ∷ "T 0 0 : 0 2"
-          ∷ "T 0 0 : 0 1"
+          ∷ "T : 1 1"
+          ∷ "T : 0 2"
+          ∷ "T : 0 1"
           ∷ "D 2"
           ∷ "E 2 0"
           ∷ "E 2 1"
@@ -381,8 +374,8 @@ rescued_switch =
           lines
           ("S 0 M : 0 1 2 : 0"
           ∷ "S 0 H : 0 1 : 0"
-          ∷ "T - : 0 1"
-          ∷ "T 0 0 : 1 0"
+          ∷ "T : 0 1"
+          ∷ "T : 1 0"
           ∷ "D 0"
           ∷ "D 1"
           ∷ "X 0 1"
@@ -401,8 +394,8 @@ member_left_out =
           lines
           ("S 0 M : 0 1 2 : 0 1"
           ∷ "S 0 H : 0 1 : 0"
-          ∷ "T - : 0 1"
-          ∷ "T 0 0 : 1 0"
+          ∷ "T : 0 1"
+          ∷ "T : 1 0"
           ∷ "D 0"
           ∷ "D 1"
           ∷ "X 0 1"
@@ -421,8 +414,8 @@ no_total_rescued =
           lines
           ("S 0 M : 0 1 2 3 4 : 0"
           ∷ "S 0 H : 0 1 3 4 : 0"
-          ∷ "T - : 0 1 1 0"
-          ∷ "T 0 0 : 1 0 1 0"
+          ∷ "T : 0 1 1 0"
+          ∷ "T : 1 0 1 0"
           ∷ "D 0"
           ∷ "D 1"
           ∷ "X 0 1"
@@ -444,11 +437,11 @@ first_contained =
           lines
           ("S 0 M : 0 1 2 : 0"
           ∷ "S 0 H : 0 2 : 0"
-          ∷ "T - : 1 1"
-          ∷ "T 0 0 : 0 2"
-          ∷ "T 0 0 : 0 1"
-          ∷ "T 0 1 : 2 0"
-          ∷ "T 0 1 : 1 0"
+          ∷ "T : 1 1"
+          ∷ "T : 0 2"
+          ∷ "T : 0 1"
+          ∷ "T : 2 0"
+          ∷ "T : 1 0"
           ∷ "D 2"
           ∷ "D 4"
           ∷ "E 2 0"
@@ -470,9 +463,9 @@ own_list_alone =
           lines
           ("S 0 M : 0 1 2 3 : 0 1"
           ∷ "S 0 H : 0 1 2 : 0"
-          ∷ "T - : 1 0 0"
-          ∷ "T 0 0 : 0 1 0"
-          ∷ "T 1 1 : 0 0 1"
+          ∷ "T : 1 0 0"
+          ∷ "T : 0 1 0"
+          ∷ "T : 0 0 1"
           ∷ "D 0"
           ∷ "D 1"
           ∷ "D 2"
@@ -496,8 +489,8 @@ rescued_twice =
           lines
           ("S 0 M : 0 1 2 3 : 0"
           ∷ "S 0 H : 1 2 : 0"
-          ∷ "T - : 1 0"
-          ∷ "T 0 0 : 0 1"
+          ∷ "T : 1 0"
+          ∷ "T : 0 1"
           ∷ "D 0"
           ∷ "D 1"
           ∷ "X 0 1"
@@ -517,8 +510,8 @@ rule_emptied =
           lines
           ("S 0 M : 0 1 2 3 : 0"
           ∷ "S 0 H : 0 1 : 0"
-          ∷ "T - : 1 0"
-          ∷ "T 0 0 : 0 1"
+          ∷ "T : 1 0"
+          ∷ "T : 0 1"
           ∷ "D 0"
           ∷ "D 1"
           ∷ "X 0 1"
@@ -613,8 +606,8 @@ rescue_wide =
           lines
           ("S 0 M : 0 2 4 5 6 : 0"
           ∷ "S 1 P : 1 3 : 1 2 3 4 5 6 7 8"
-          ∷ "T - : 1 0"
-          ∷ "T 0 2 : 0 1"
+          ∷ "T : 1 0"
+          ∷ "T : 0 1"
           ∷ "M 1 1"
           ∷ "M 3 1"
           ∷ "D 0"
@@ -626,35 +619,6 @@ rescue_wide =
           ∷ "R 2 0 : 0"
           ∷ "R 2 1 : 1 2 3 4 5 6 7 8"
           ∷ [])
-          ∷ [];
-    }
-
--- document 02, No. 6. The own lists are a b and c d a b, by the rules a to b, d to a and c to d: schemas 0 (by its role 1) and 1 give the same
--- rule, and the first led to b; d is at place 1 of its own list, and c, at place 0 there, is at 2 in the joined one. Both starts have a hyphen
-unfoldable pub second_start : Entry
-second_start =
-    record {
-      question = lists relaying 0 65536;
-      expected =
-          (1 ∷ 134 ∷ [])
-          ∷ (lines
-          ("S 0 P : 0 1 2 3 : 0 1"
-          ∷ "T - : 1 0 0 0"
-          ∷ "T 0 0 : 0 1 0 0"
-          ∷ "T - : 0 0 1 0"
-          ∷ "T 2 3 : 0 0 0 1"
-          ∷ "D 0"
-          ∷ "D 1"
-          ∷ "D 2"
-          ∷ "D 3"
-          ∷ "X 0 1"
-          ∷ "X 0 2"
-          ∷ "X 0 3"
-          ∷ "X 1 2"
-          ∷ "X 1 3"
-          ∷ "X 2 3"
-          ∷ [])
-          ++ (7 ∷ 7 ∷ []))
           ∷ [];
     }
 
@@ -696,11 +660,11 @@ two_starts =
       expected =
           lines
           ("S 0 P : 0 2 : 0 3"
-          ∷ "T - : 2 0"
-          ∷ "T 0 0 : 1 1"
-          ∷ "T 1 0 : 0 2"
-          ∷ "T 1 0 : 0 1"
-          ∷ "T - : 1 0"
+          ∷ "T : 2 0"
+          ∷ "T : 1 1"
+          ∷ "T : 0 2"
+          ∷ "T : 0 1"
+          ∷ "T : 1 0"
           ∷ "M 0 2"
           ∷ "M 2 2"
           ∷ "D 3"
@@ -710,11 +674,11 @@ two_starts =
           ∷ "E 4 0"
           ∷ "E 4 1"
           ∷ "S 1 P : 1 3 : 1 2"
-          ∷ "T - : 2 0"
-          ∷ "T 0 0 : 1 1"
-          ∷ "T 1 0 : 0 2"
-          ∷ "T 1 0 : 0 1"
-          ∷ "T - : 1 0"
+          ∷ "T : 2 0"
+          ∷ "T : 1 1"
+          ∷ "T : 0 2"
+          ∷ "T : 0 1"
+          ∷ "T : 1 0"
           ∷ "M 1 2"
           ∷ "M 3 2"
           ∷ "D 3"
@@ -738,13 +702,13 @@ nested_chain =
       expected =
           lines
           ("S 0 P : 0 2 : 0"
-          ∷ "T - : 3 0"
-          ∷ "T 0 0 : 2 1"
-          ∷ "T 1 0 : 1 2"
-          ∷ "T 1 0 : 1 1"
-          ∷ "T 2 0 : 0 3"
-          ∷ "T 2 0 : 0 2"
-          ∷ "T 3 0 : 0 1"
+          ∷ "T : 3 0"
+          ∷ "T : 2 1"
+          ∷ "T : 1 2"
+          ∷ "T : 1 1"
+          ∷ "T : 0 3"
+          ∷ "T : 0 2"
+          ∷ "T : 0 1"
           ∷ "M 0 3"
           ∷ "M 2 3"
           ∷ "D 0"
@@ -760,8 +724,8 @@ nested_chain =
           ∷ "E 6 4"
           ∷ "E 6 5"
           ∷ "S 1 P : 1 3 : 1 2 3"
-          ∷ "T - : 1 0"
-          ∷ "T 0 0 : 0 1"
+          ∷ "T : 1 0"
+          ∷ "T : 0 1"
           ∷ "M 1 1"
           ∷ "M 3 1"
           ∷ "D 0"
@@ -799,12 +763,12 @@ three_arguments =
       expected =
           lines
           ("S 0 P : 0 : 0"
-          ∷ "T - : 1"
+          ∷ "T : 1"
           ∷ "M 0 1"
           ∷ "D 0"
           ∷ "S 1 P : 1 2 : 1 2"
-          ∷ "T - : 1 0"
-          ∷ "T - : 0 1"
+          ∷ "T : 1 0"
+          ∷ "T : 0 1"
           ∷ "M 1 1"
           ∷ "M 2 1"
           ∷ "D 0"
@@ -840,7 +804,7 @@ unfoldable pub section_written : Entry
 section_written =
     record {
       question = lists k1 1 65536;
-      expected = (1 ∷ 34 ∷ []) ∷ (lines ("S 1 P : 2 : 0 1" ∷ "T - : 1" ∷ "M 2 1" ∷ "D 0" ∷ []) ++ (7 ∷ 7 ∷ [])) ∷ [];
+      expected = (1 ∷ 32 ∷ []) ∷ (lines ("S 1 P : 2 : 0 1" ∷ "T : 1" ∷ "M 2 1" ∷ "D 0" ∷ []) ++ (7 ∷ 7 ∷ [])) ∷ [];
     }
 
 -- sections 0 to 3 are the spaces, 4 is the closing one, and 5 is past the last; a refusal changes no byte
@@ -1110,7 +1074,7 @@ table =
     ∷ still_so ∷ coming_differs ∷ going_differs ∷ filler_differs ∷ order_differs ∷ row_repeated ∷ rows_missing ∷ checks_first ∷ room_first
     ∷ committed_and_asked
     ∷ rescued_switch ∷ member_left_out ∷ no_total_rescued ∷ first_contained ∷ own_list_alone ∷ rescued_twice ∷ rule_emptied
-    ∷ start_emptied ∷ finish_emptied ∷ no_property_left ∷ no_member_left ∷ rescue_wide ∷ second_start ∷ []
+    ∷ start_emptied ∷ finish_emptied ∷ no_property_left ∷ no_member_left ∷ rescue_wide ∷ []
 
 -- opens every definition of this module but the table, for what is proved by computation
 unfoldable pub vectors_open : Unit {0}
@@ -1127,5 +1091,5 @@ unfolding
     checks_first room_first committed_and_asked
     of_role0 trade card_with touching sealing surpassing returning wearing swinging tripling tripling_more moving8
     rescued_switch member_left_out no_total_rescued first_contained own_list_alone rescued_twice rule_emptied
-    start_emptied finish_emptied no_property_left no_member_left rescue_wide relaying second_start
+    start_emptied finish_emptied no_property_left no_member_left rescue_wide
 vectors_open = tt

@@ -14,9 +14,6 @@ use Rattle.model.proofs.Checked.{checked}
 use Rattle.model.proofs.ListedSpace.{space_of_analysis}
 use Rattle.model.proofs.Parts.{space_part}
 use Rattle.model.proofs.RuleCount.{properties_few}
-use Rattle.properties.specs.Parameters.{most_parameters, schema_numbers}
-use Rattle.properties.proofs.ParameterRows.{rows_few}
-use Rattle.properties.proofs.SchemaNumbers.{numbers_padded}
 use Rattle.spaces.specs.Own.{own_of, Owns}
 use Rattle.spaces.specs.SpaceTable.{groups_of, space_at}
 use Rattle.spaces.specs.declared.own.Own.{Own}
@@ -48,10 +45,9 @@ own_inside {own} h few = omega (arith, few, h.count, ap length h.properties, pad
 
 -- the tables of a prepared task
 pub tables_of : {t : Task} {p : Prepared} {preconditions deletes adds counts : List ℕ} → Given t p preconditions deletes adds counts
-    → TaskTables t p.parameters p.schemas deletes adds counts
-tables_of {t} {preconditions = preconditions} given = record {
+    → TaskTables t p.parameters deletes adds counts
+tables_of {preconditions = preconditions} given = record {
   checked = given.checked;
-  schemas_are = λ i h. numbers_padded t.schemas given.prepared.schemas_are i;
   preconditions = preconditions;
   preconditions₀ = given.preconditions;
   deletes₀ = given.deletes;
@@ -60,18 +56,6 @@ tables_of {t} {preconditions = preconditions} given = record {
   counts₀ = given.counts;
   counts_are = given.prepared.counts_are;
 }
-
--- each of its parameters has a schema there
-pub schemas_room : {t : Task} {p : Prepared} {preconditions deletes adds counts : List ℕ} → Given t p preconditions deletes adds counts
-    → p.parameters ≤ length p.schemas
-schemas_room {t} given =
-    omega (
-      arith,
-      rows_few t given.checked,
-      given.prepared.tables.counted,
-      ap length given.prepared.schemas_are,
-      padded_long most_parameters (schema_numbers 0 t.schemas),
-    )
 
 module _ {number : ℕ} {p : Prepared} {deletes adds counts starts finishes conditions : List ℕ}
     (h : SpaceReady number p deletes adds counts starts finishes conditions) where
@@ -108,7 +92,7 @@ module _ {number : ℕ} {p : Prepared} {deletes adds counts starts finishes cond
   pub own_low : length (own_of_space p number) ≤ 60
   own_low = omega (arith, own_fewer, few_properties)
 
-  space_given : SpaceGiven t (space_at t number) (own_of_space p number) (get_or p.spaces.members number 0) p.parameters p.schemas deletes adds counts
+  space_given : SpaceGiven t (space_at t number) (own_of_space p number) (get_or p.spaces.members number 0) p.parameters deletes adds counts
   space_given = record {
     part = space_part t (space_at t number) (space_member t number there);
     own_are = own_is;
@@ -116,9 +100,8 @@ module _ {number : ℕ} {p : Prepared} {deletes adds counts starts finishes cond
     tables = tables_of h.given;
   }
 
-  lengths : Lengths (length (own_of_space p number)) p.parameters p.schemas deletes adds counts starts finishes conditions
+  lengths : Lengths (length (own_of_space p number)) p.parameters deletes adds counts starts finishes conditions
   lengths = record {
-    schemas_long = schemas_room h.given;
     deletes_long = h.given.room.deletes_room;
     adds_long = h.given.room.adds_room;
     counts_long = h.given.counts_long;
@@ -129,16 +112,15 @@ module _ {number : ℕ} {p : Prepared} {deletes adds counts starts finishes cond
 
   -- so it can be made, from the own properties as they are handed over, and then is what the space's number says
   module _ {own : List ℕ} (e : own ≡ own_of_space p number) where
-    pub analysable_space :
-        analysis.Analysable own (get_or p.spaces.members number 0) p.parameters p.schemas deletes adds counts starts finishes conditions
+    pub analysable_space : analysis.Analysable own (get_or p.spaces.members number 0) p.parameters deletes adds counts starts finishes conditions
     analysable_space =
         subst
         (λ (l : List ℕ).
-        analysis.Analysable l (get_or p.spaces.members number 0) p.parameters p.schemas deletes adds counts starts finishes conditions)
+        analysis.Analysable l (get_or p.spaces.members number 0) p.parameters deletes adds counts starts finishes conditions)
         (sym e) (tasks.analysable space_given lengths)
 
     pub found_at : {f : Found} {now_starts now_finishes now_conditions : List ℕ} → Owns (own_of_space p number) f.own
-        → analysis.Analyses (sorted [] (own_rules own p.parameters p.schemas deletes adds)) (own_conditions own counts (members_at p number)) f.analysed
+        → analysis.Analyses (sorted [] (own_rules own p.parameters deletes adds)) (own_conditions own counts (members_at p number)) f.analysed
         starts finishes conditions now_starts now_finishes now_conditions
         → SpaceFound number p deletes adds counts f starts finishes conditions now_starts now_finishes now_conditions
     unfolding pass_at initial_at
@@ -147,7 +129,7 @@ module _ {number : ℕ} {p : Prepared} {deletes adds counts starts finishes cond
       analyses =
           subst
           (λ (l : List ℕ).
-          analysis.Analyses (sorted [] (own_rules l p.parameters p.schemas deletes adds)) (own_conditions l counts (members_at p number)) f.analysed
+          analysis.Analyses (sorted [] (own_rules l p.parameters deletes adds)) (own_conditions l counts (members_at p number)) f.analysed
           starts finishes conditions now_starts now_finishes now_conditions)
           e a;
     }
@@ -176,7 +158,6 @@ module _ {number : ℕ} {p : Prepared} {deletes adds counts starts finishes cond
               own_is = own_kept own;
               members_are = space_given.members_are ∙ ap (λ (u : model.Space). u.members) space;
               conditions_held = record { counted = a.count; table_is = a.conditions_are };
-              sources_are = a.sources_are;
             };
         hides = a.hides;
         short = omega (arith, kept, h.conditions_long);

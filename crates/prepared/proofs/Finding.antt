@@ -22,7 +22,6 @@ use Rattle.model.proofs.RuleCount.{properties_few}
 use Rattle.properties.specs.Tables.{bags_in}
 use Rattle.properties.specs.Represented.{property_arities}
 use Rattle.properties.proofs.ArityTable.{arities_read}
-use Rattle.conditions.specs.Sources.{sources_in}
 use Rattle.spaces.specs.SpaceTable.{space_at}
 use Rattle.analysis.proofs.Places.{space_member}
 use Rattle.closing.proofs.TypedObjects.{spaces_few}
@@ -32,7 +31,7 @@ use Rattle.text.specs.Written.{Writes}
 use Rattle.text.specs.declared.kinds.Kind.TheVariants.{Mixed}
 use Rattle.space_lines.specs.OwnLines.{own_lines, space_bytes, Listable, AritiesOf}
 use Rattle.space_lines.proofs.Conditions.{analysis_sized, bags_are}
-use Rattle.space_lines.proofs.TaskSections.{Writable, part_writable, section_is, sources_short, listable}
+use Rattle.space_lines.proofs.TaskSections.{Writable, part_writable, section_is, listable}
 use Rattle.space_lines.proofs.SectionRoom.{section_fits, room_behind}
 use Rattle.totals.specs.Totals.{entered, TotalsEnterable}
 use Rattle.prepared.specs.declared.Prepared.{Prepared}
@@ -94,8 +93,7 @@ module _ {t : Task} {number : ℕ} {p : Prepared} {f : Found} {conditions : List
       → Room (text (found_lines number p f conditions)) out
   unfolding found_lines
   room_found small out room =
-      section_fits number _ (get_or p.spaces.members number 0) listable_found (sources_short writable_found h.held arities_of_lem h.short)
-      (omega (arith, number_few))
+      section_fits number _ (get_or p.spaces.members number 0) listable_found (omega (arith, number_few))
       (λ c m. omega (arith, few_properties, below c m)) small out room
 
   -- and its totals entered, from the own properties and the number of members as they are handed over
@@ -137,10 +135,9 @@ module _ {t : Task} {number : ℕ} {p : Prepared} {f : Found} {conditions : List
       ap (λ (n : ℕ). bags_in n f.analysed.count conditions) (ap length h.held.own_is)
       ∙ bags_are writable_found.sized writable_found.narrow h.held.conditions_held
       ∙ no_conditions t (space_at t number) (sym h.held.kind_is ∙ ap kind_says e) in
-      room_behind p.arities (sources_in f.analysed.sources f.analysed.count) number _ (get_or p.spaces.members number 0)
-      (omega (arith, number_few)) listable_found.rows.narrow (λ c m. omega (arith, few_properties, below c m)) room
+      room_behind p.arities number _ (get_or p.spaces.members number 0) (omega (arith, number_few)) listable_found.rows.narrow
+      (λ c m. omega (arith, few_properties, below c m)) room
       (subst
       (λ (bags : List Bag).
-      Writes (text (own_lines number (kind_says f.analysed.kind) (own_in f) (members_at p number) p.arities
-      (sources_in f.analysed.sources f.analysed.count) bags)) out mid at)
+      Writes (text (own_lines number (kind_says f.analysed.kind) (own_in f) (members_at p number) p.arities bags)) out mid at)
       none w)

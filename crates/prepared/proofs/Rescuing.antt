@@ -19,7 +19,6 @@ use Rattle.model.specs.Spaces as model
 use Rattle.model.specs.Text.{line_text, text}
 use Rattle.model.proofs.RuleCount.{properties_few}
 use Rattle.properties.specs.Tables.{bags_in}
-use Rattle.conditions.specs.Sources.{sources_in}
 use Rattle.text.specs.contracts.kinds.Kind as kinds
 use Rattle.text.specs.Kinds.{kind_says}
 use Rattle.text.specs.Room.{Room}
@@ -29,7 +28,7 @@ use Rattle.text.specs.declared.kinds.Kind.TheVariants.{Static, Attribute, Proper
 use Rattle.text.proofs.Writing.{nothing, and_then}
 use Rattle.space_lines.specs.OwnLines.{own_lines, space_bytes, Listable, SpaceHeld}
 use Rattle.space_lines.proofs.Conditions.{rescue_sized}
-use Rattle.space_lines.proofs.TaskSections.{Writable, in_order_few, part_writable, section_is, sources_short, listable}
+use Rattle.space_lines.proofs.TaskSections.{Writable, in_order_few, part_writable, section_is, listable}
 use Rattle.space_lines.proofs.SectionRoom.{section_fits}
 use Rattle.analysis.specs.Rescued.{RescueGiven, rescue_of, RescuedTo, RescuedOf}
 use Rattle.analysis.specs.declared.rescue.Rescued as code
@@ -37,7 +36,7 @@ use Rattle.prepared.specs.declared.Prepared.{Prepared}
 use Rattle.prepared.specs.declared.Found.{Found}
 use Rattle.prepared.specs.Prepared.{RoomForMoves}
 use Rattle.prepared.specs.Found.{analysis_at, FoundOf, FoundIn, found_lines, rescue_lines}
-use Rattle.prepared.proofs.Analysing.{own_kept, own_inside, tables_of, schemas_room}
+use Rattle.prepared.proofs.Analysing.{own_kept, tables_of}
 use Rattle.prepared.proofs.Finding.{number_few, part_found, arities_of_lem, lines_found}
 
 -- ---- the section
@@ -99,7 +98,7 @@ module _ {t : Task} {number : ℕ} {p : Prepared} {f : Found} {conditions : List
 pub rescuable : {t : Task} {number : ℕ} {p : Prepared} {f : Found} {deletes adds counts starts finishes conditions : List ℕ}
     → FoundIn t number p f deletes adds counts conditions → RoomForMoves (p.parameters + p.properties) starts finishes conditions
     → RescueGiven t (analysis_at t number) f.own (get_or p.spaces.members number 0) f.analysed.hidden p.parameters
-    p.schemas deletes adds counts starts finishes conditions
+    deletes adds counts starts finishes conditions
 rescuable {t} {number} {p} h room =
     let fewer : length (analysis_at t number).space.properties ≤ p.properties =
     omega (arith, in_order_few _ _ (part_found h.of).in_order, h.given.prepared.properties_counted) in
@@ -111,7 +110,6 @@ rescuable {t} {number} {p} h room =
       tables = tables_of h.given;
       lengths =
           record {
-            schemas_long = schemas_room h.given;
             deletes_long = h.given.room.deletes_room;
             adds_long = h.given.room.adds_room;
             counts_long = h.given.counts_long;
@@ -146,7 +144,7 @@ module _ {t : Task} {number : ℕ} {p : Prepared} {f : Found} {conditions : List
     writable =
         part_writable h.checked to.part (rescue_sized t _ _ _ left (subst (Memᴰ left) (sym to.rescued_is) (Memᴰ.head refl)))
 
-    held : SpaceHeld left Rescued own_left r.members to.before table r.count r.sources
+    held : SpaceHeld left Rescued own_left r.members to.before table r.count
     unfolding kind_says
     held =
         record {
@@ -154,25 +152,21 @@ module _ {t : Task} {number : ℕ} {p : Prepared} {f : Found} {conditions : List
           own_is = own_kept to.owns;
           members_are = to.members_are;
           conditions_held = record { counted = to.counted; table_is = to.conditions_are };
-          sources_are = to.sources_are;
         }
 
     abbrev lines : List Line
-    lines =
-        own_lines number (kind_says Rescued) own_left (members_of r.members) p.arities (sources_in r.sources r.count)
-        (bags_in (length own_left) r.count table)
+    lines = own_lines number (kind_says Rescued) own_left (members_of r.members) p.arities (bags_in (length own_left) r.count table)
 
     -- its lines can be written
-    pub room_left : r.own.count ≤ length r.own.properties
-    room_left = own_inside to.owns writable.narrow
+    pub few_left : r.own.count ≤ 60
+    few_left = omega (arith, to.owns.count, writable.narrow)
 
     pub listable_rescue : Listable (take r.own.count r.own.properties) p.arities table r.count
     listable_rescue = listable writable held (arities_of_lem h) (omega (arith, to.conditions_long))
 
     pub room_rescue : ((i : ℕ) → get_or table i 0 < 65536) → (out : List ℕ) → space_bytes ≤ length out → Room (text lines) out
     room_rescue small out room =
-        section_fits number _ r.members listable_rescue (sources_short writable held (arities_of_lem h) (omega (arith, to.conditions_long)))
-        (omega (arith, number_few h))
+        section_fits number _ r.members listable_rescue (omega (arith, number_few h))
         (λ c m.
         omega (
           arith,

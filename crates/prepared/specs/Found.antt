@@ -15,7 +15,6 @@ use Rattle.properties.specs.Represented.{property_arities}
 use Rattle.spaces.specs.Own.{own_of, Owns}
 use Rattle.spaces.specs.SpaceTable.{SpacesOf, space_at}
 use Rattle.text.specs.Kinds.{kind_says}
-use Rattle.conditions.specs.Sources.{sources_in}
 use Rattle.analysis.specs.Own.{own_rules}
 use Rattle.analysis.specs.Sorting.{Sorted, sorted}
 use Rattle.analysis.specs.Initial.{own_conditions}
@@ -54,7 +53,7 @@ unfoldable pub own_of_space : Prepared → ℕ → List ℕ
 own_of_space p number = own_of p.spaces.groups p.properties (get_or p.spaces.lowest number 0)
 
 unfoldable pub pass_at : Prepared → ℕ → List ℕ → List ℕ → Sorted
-pass_at p number deletes adds = sorted [] (own_rules (own_of_space p number) p.parameters p.schemas deletes adds)
+pass_at p number deletes adds = sorted [] (own_rules (own_of_space p number) p.parameters deletes adds)
 
 unfoldable pub initial_at : Prepared → ℕ → List ℕ → List Bag
 initial_at p number counts = own_conditions (own_of_space p number) counts (members_at p number)
@@ -81,7 +80,6 @@ pub record FoundOf (t : Task) (number : ℕ) (p : Prepared) (f : Found) (conditi
   pub before : List ℕ
   pub held :
       SpaceHeld (analysis_at t number) f.analysed.kind (own_in f) (get_or p.spaces.members number 0) before conditions f.analysed.count
-      f.analysed.sources
   pub hides : Hides (analysis_at t number).space.properties (analysis_at t number).hidden f.analysed.hidden
   pub short : length conditions ≤ 3840
 
@@ -105,8 +103,7 @@ pub record SectionReady (number : ℕ) (p : Prepared) (f : Found) (deletes adds 
 -- the lines of what was found
 unfoldable pub found_lines : ℕ → Prepared → Found → List ℕ → List Line
 found_lines number p f conditions =
-    own_lines number (kind_says f.analysed.kind) (own_in f) (members_at p number) p.arities (sources_in f.analysed.sources f.analysed.count)
-    (conditions_in f conditions)
+    own_lines number (kind_says f.analysed.kind) (own_in f) (members_at p number) p.arities (conditions_in f conditions)
 
 -- the lines of its rescue, by the hidden attributes of the space
 unfoldable pub rescue_lines : Task → ℕ → List Line

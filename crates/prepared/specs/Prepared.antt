@@ -7,7 +7,7 @@ use Rattle.model.specs.Writer.{check_task}
 use Rattle.model.specs.Transitions.{properties}
 use Rattle.properties.specs.Tables.{stride, rows_before}
 use Rattle.properties.specs.Represented.{object_bags, property_arities}
-use Rattle.properties.specs.Parameters.{most_parameters, parameters_in, schema_numbers, RoomForBags, ParameterTables}
+use Rattle.properties.specs.Parameters.{parameters_in, RoomForBags, ParameterTables}
 use Rattle.spaces.specs.SpaceTable.{SpacesOf}
 use Rattle.prepared.specs.declared.Prepared.{Prepared}
 
@@ -27,7 +27,6 @@ pub record PreparedOf (t : Task) (r : Prepared) (preconditions deletes adds coun
   pub counts_are : c ≡ rows_before (object_bags t) counts
   pub properties_counted : r.properties ≡ length (properties t)
   pub arities_are : r.arities ≡ padded 60 0 (property_arities t.arities)
-  pub schemas_are : r.schemas ≡ padded most_parameters 0 (schema_numbers 0 t.schemas)
   pub spaces_are : SpacesOf t r.spaces
 
 -- Tables that `prepare` has filled for a checked task; the table of the objects' bags has 64 rows.

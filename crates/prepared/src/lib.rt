@@ -17,7 +17,7 @@ use analysis::rescue::rescue;
 use analysis::{Analysed, analyse};
 use card::{ArityList, SchemaList, Task};
 use properties::arities::property_arities;
-use properties::parameters::{parameter_bags, parameter_schemas, parameters_of};
+use properties::parameters::{parameter_bags, parameters_of};
 use properties::{numbered, object_bags};
 use space_lines::write_space;
 use spaces::own::{Own, own_properties};
@@ -26,13 +26,12 @@ use text::kinds::Kind;
 use totals::enter_totals;
 
 // What is known of a task beside its tables: how many parameters its schemas have together, how many properties, the arity of each
-// property's predicate, the schema that each parameter is of, and its spaces.
+// property's predicate, and its spaces.
 #[derive(Drop)]
 pub struct Prepared {
     pub parameters: usize,
     pub properties: usize,
     pub arities: [u8; 60],
-    pub schemas: [u8; 192],
     pub spaces: Spaces,
 }
 
@@ -79,7 +78,6 @@ pub fn prepare(
     let numbers = numbered(task.predicates);
     let properties = numbers.count;
     let arities = property_arities(task.predicates);
-    let schemas = parameter_schemas(task.schemas);
     let spaces = spaces_of(
         preconditions,
         deletes,
@@ -93,7 +91,6 @@ pub fn prepare(
         parameters,
         properties,
         arities,
-        schemas,
         spaces,
     }
 }
@@ -136,12 +133,10 @@ pub fn analyse_space(
     let own = own_properties(&groups, prepared.properties, spaces.lowest[number]);
     let list = own.properties;
     let size = own.count;
-    let schemas = prepared.schemas;
     let analysed = analyse(
         &list[0..size],
         spaces.members[number],
         prepared.parameters,
-        &schemas,
         deletes,
         adds,
         counts,
@@ -179,7 +174,6 @@ fn write_found(
         spaces.members[number],
         conditions,
         analysed.count,
-        analysed.sources,
         &arities,
     )
 }
@@ -207,13 +201,11 @@ fn write_rescue(
     let spaces = prepared.spaces;
     let members = spaces.members[number];
     let parameters = prepared.parameters;
-    let schemas = prepared.schemas;
     let rescued = rescue(
         found.own,
         members,
         analysed.hidden,
         parameters,
-        &schemas,
         deletes,
         adds,
         counts,
@@ -236,7 +228,6 @@ fn write_rescue(
         rescued.members,
         conditions,
         rescued.count,
-        rescued.sources,
         &arities,
     )
 }

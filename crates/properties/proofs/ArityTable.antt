@@ -1,12 +1,14 @@
 -- The arities of properties in a table, predicate by predicate.
-use Prim.Native.Nat.{ℕ, suc, ◌+◌, ◌≤◌, ◌<◌}
+use Prim.Native.Nat.{ℕ, suc, ◌+◌, ◌-◌, ◌≤◌, ◌<◌}
 use native.Mathlib.Nat.{add-zero}
 use native.Mathlib.Numerals.{add-one}
 use native.Mathlib.Omega.{arith}
 use mathlib.Core.Path.{◌≡◌, refl, sym, ap, ◌∙◌, subst}
 use mathlib.Core.List.{List, [], ◌∷◌, ◌++◌, map, flat_map, map-map, append_assoc, append-nil}
-use lib.ListN.{length, get_or, take, replicate, length-append, length-map, length-replicate}
-use lib.Seq.{take-suc, take_all, get_or-append-add}
+use lib.ListN.{length, get_or, take, drop, set, replicate, length-append, length-map, length-take, length-drop, length-replicate, take-append-drop}
+use lib.ListN.{replicate-append-replicate}
+use lib.Seq.{take_at, drop_at, take-suc, take_all, get_or-append-add}
+use borrow.Author.Fill.{fill_more}
 use Rattle.laws.proofs.Padded.{padded_at}
 use Rattle.laws.specs.Lists.{up_to, sum, padded}
 use Rattle.laws.proofs.Columns.{length_flat_map}
@@ -17,9 +19,50 @@ use Rattle.model.specs.Card.{Task}
 use Rattle.model.specs.Lines.{arity_of}
 use Rattle.model.specs.Transitions.{Property, properties_from, properties}
 use Rattle.properties.specs.Represented.{property_arities}
-use Rattle.properties.proofs.Stamping.{stamped, stamp_behind, all_same}
 
--- ---- by predicate
+-- ---- one predicate
+
+-- one number put into n places of a list, from a place on
+abbrev pub stamped : ℕ → ℕ → ℕ → List ℕ → List ℕ
+stamped first n v before = take first before ++ (replicate n v ++ drop n (drop first before))
+
+module _ (first v : ℕ) (before : List ℕ) where
+  -- at first nothing is put
+  pub stamp_none : before ≡ stamped first 0 v before
+  stamp_none = sym (take-append-drop first before)
+
+  -- one place more
+  pub stamp_next : (n : ℕ) → first + n < length before → set (stamped first n v before) (first + n) v ≡ stamped first (n + 1) v before
+  stamp_next n h =
+      set_behind (take first before) (replicate n v ++ drop n (drop first before)) (omega (arith, length-take first before))
+      ∙ ap (λ (l : List ℕ). take first before ++ l) (fill_more n v (drop first before) (omega (arith, length-drop first before)))
+    where
+      set_behind : (xs ys : List ℕ) → length xs ≡ first → set (xs ++ ys) (first + n) v ≡ xs ++ set ys n v
+      set_behind xs ys e = ap (λ (k : ℕ). set (xs ++ ys) (k + n) v) (sym e) ∙ go xs
+        where
+          go : (zs : List ℕ) → set (zs ++ ys) (length zs + n) v ≡ zs ++ set ys n v
+          go [] = ap (λ (k : ℕ). set ys k v) (zero_and n)
+            where
+              zero_and : (n : ℕ) → 0 + n ≡ n
+              zero_and n = omega arith
+          go (z ∷ zs) = ap (λ (k : ℕ). set (z ∷ (zs ++ ys)) k v) (suc_and (length zs) n) ∙ ap (λ (l : List ℕ). z ∷ l) (go zs)
+            where
+              suc_and : (m n : ℕ) → suc m + n ≡ suc (m + n)
+              suc_and m n = omega arith
+
+  pub length_stamped : (n : ℕ) → first + n ≤ length before → length (stamped first n v before) ≡ length before
+  length_stamped n h =
+      length-append (take first before) (replicate n v ++ drop n (drop first before))
+      ∙ omega (
+        arith,
+        length-take first before,
+        length-append (replicate n v) (drop n (drop first before)),
+        length-replicate {A = ℕ} n v,
+        length-drop n (drop first before),
+        length-drop first before,
+      )
+
+-- ---- all predicates
 
 length_arities : (arities : List ℕ) → length (property_arities arities) ≡ sum arities
 unfolding property_arities
@@ -50,25 +93,44 @@ module _ (arities : List ℕ) (few : sum arities ≤ 60) where
     pub arities_room : p < length arities → first + get_or arities p 0 ≤ 60
     arities_room h = omega (arith, so_far.begins, sum_take_next arities p h, sum_take_all (suc p) arities)
 
-    pub arities_next : p < length arities → {n : ℕ} → n ≡ get_or arities p 0 → {places : ℕ} → places ≡ n → {later : List ℕ}
-        → later ≡ stamped first places n table → ArityPassed arities (p + 1) (first + places) later
-    unfolding front property_arities flat_map
-    arities_next h {n} e {places} f {later} l = record {
+    pub arities_next : p < length arities → {n : ℕ} → n ≡ get_or arities p 0 → {step : ℕ} → step ≡ n → {later : List ℕ}
+        → later ≡ stamped first n n table → ArityPassed arities (p + 1) (first + step) later
+    unfolding front padded property_arities flat_map
+    arities_next h {n} e {step} f {later} l = record {
       begins =
           (λ i. so_far.begins i + (f ∙ e) i) ∙ sym (sum_take_next arities p h) ∙ ap (λ (k : ℕ). sum (take k arities)) (sym (add-one p));
       is =
           l
-          ∙ ap (stamped first places n) so_far.is
-          ∙ stamp_behind 60 places n front sized (omega (arith, arities_room h))
-          ∙ ap (padded 60 0) one_more;
+          ∙ ap (stamped first n n) so_far.is
+          ∙ ap (λ (xs : List ℕ). xs ++ (replicate n n ++ drop n (drop first (front ++ zeros)))) (take_at front zeros first sized)
+          ∙ ap (λ (xs : List ℕ). front ++ (replicate n n ++ drop n xs)) (drop_at front zeros first sized)
+          ∙ ap (λ (k : ℕ). front ++ (replicate n n ++ drop n (replicate k 0))) (apart (arities_room h) sized e)
+          ∙ ap (λ (xs : List ℕ). front ++ (replicate n n ++ xs)) (fewer n (60 - length front - n))
+          ∙ sym (append_assoc front (replicate n n) (replicate (60 - length front - n) 0))
+          ∙ (λ i. one_more i ++ replicate (left i) 0);
     }
       where
-        one_more : front ++ replicate places n ≡ property_arities (take (p + 1) arities)
+        zeros : List ℕ
+        zeros = replicate (60 - length front) 0
+
+        apart : first + get_or arities p 0 ≤ 60 → length front ≡ first → n ≡ get_or arities p 0 → 60 - length front ≡ n + (60 - length front - n)
+        apart a b c = omega arith
+
+        fewer : (a b : ℕ) → drop {A = ℕ} a (replicate (a + b) 0) ≡ replicate b 0
+        fewer a b = ap (drop a) (sym (replicate-append-replicate a b 0)) ∙ drop_at (replicate a 0) (replicate b 0) a (length-replicate {A = ℕ} a 0)
+
+        one_more : front ++ replicate n n ≡ property_arities (take (p + 1) arities)
         one_more =
-            (λ i. front ++ replicate ((f ∙ e) i) (e i))
+            ap (λ (k : ℕ). front ++ replicate k k) e
             ∙ ap (λ (l : List ℕ). front ++ l) (sym (append-nil (replicate (get_or arities p 0) (get_or arities p 0))))
             ∙ sym (flat_map_append (λ n. replicate n n) (take p arities) (get_or arities p 0 ∷ []))
             ∙ ap property_arities (sym (ap (λ (k : ℕ). take k arities) (add-one p) ∙ take-suc arities p 0 h))
+
+        left : 60 - length front - n ≡ 60 - length (property_arities (take (p + 1) arities))
+        left = minus (sym (ap length one_more) ∙ length-append front (replicate n n) ∙ ap (λ (k : ℕ). length front + k) (length-replicate {A = ℕ} n n))
+          where
+            minus : {m : ℕ} → m ≡ length front + n → 60 - length front - n ≡ 60 - m
+            minus q = omega arith
 
   pub arities_end : {p first : ℕ} {table : List ℕ} → ArityPassed arities p first table → length arities ≤ p
       → table ≡ padded 60 0 (property_arities arities)
@@ -87,6 +149,10 @@ by_property front (a ∷ arities) =
   where
     f : Property → ℕ
     f q = get_or (front ++ (a ∷ arities)) q.predicate 0
+
+    all_same : (v : ℕ) (xs : List ℕ) → map (λ x. v) xs ≡ replicate (length xs) v
+    all_same v [] = refl
+    all_same v (x ∷ xs) = ap (λ (l : List ℕ). v ∷ l) (all_same v xs)
 
     here : get_or (front ++ (a ∷ arities)) (length front) 0 ≡ a
     here = ap (λ (k : ℕ). get_or (front ++ (a ∷ arities)) k 0) (sym (add-zero (length front))) ∙ get_or-append-add front (a ∷ arities) 0 0

@@ -9,8 +9,6 @@ pub mod Entering
 pub mod AtomByAtom
 pub mod ParameterRows
 pub mod SchemaLists
-pub mod Stamping
 pub mod ArityTable
-pub mod SchemaNumbers
 pub mod ParameterRules
 pub mod Turns

@@ -1,7 +1,6 @@
--- Document 01's bags P, D and A: for each parameter of each schema, in card order, one row in each of three tables; and document 02,
--- No. 6: which schema each parameter is of.
-use Rattle.std.specs.Prelude.{ℕ, suc, ◌*◌, ◌≤◌, ◌≡◌, length, get_or, replicate}
-use mathlib.Core.List.{List, [], ◌∷◌, ◌++◌, map, flat_map}
+-- Document 01's bags P, D and A: for each parameter of each schema, in card order, one row in each of three tables.
+use Rattle.std.specs.Prelude.{ℕ, ◌*◌, ◌≤◌, ◌≡◌, length}
+use mathlib.Core.List.{List, map, flat_map}
 use Rattle.laws.specs.Lists.{sum, up_to}
 use Rattle.laws.specs.Bags.{Bag}
 use Rattle.model.specs.Card.{Atom, Schema}
@@ -15,11 +14,6 @@ most_parameters = 192
 -- how many parameters some schemas have together
 unfoldable pub parameters_in : List Schema → ℕ
 parameters_in schemas = sum (map (λ s. s.parameters) schemas)
-
--- the number of the schema that each parameter is of, in card order; the first of the schemas has number n
-unfoldable pub schema_numbers : ℕ → List Schema → List ℕ
-schema_numbers n [] = []
-schema_numbers n (s ∷ schemas) = replicate s.parameters n ++ schema_numbers (suc n) schemas
 
 -- the bags of so many parameters, or objects, over a list of atoms
 unfoldable pub bags_over : List Property → List Atom → ℕ → List Bag
@@ -42,7 +36,6 @@ pub record ParameterTables (cs : List Property) (schemas : List Schema) (count :
   pub deletes_are : d ≡ rows_before (parameter_bags cs (λ s. s.deletes) schemas) deletes
   pub adds_are : a ≡ rows_before (parameter_bags cs (λ s. s.adds) schemas) adds
 
--- the transition rules of the parameters in the first rows of three tables, in their order; a list has the number of each one's schema
-unfoldable pub rules_in : ℕ → ℕ → List ℕ → List ℕ → List ℕ → List ℕ → List Transition
-rules_in size count schemas p d a =
-    flat_map (λ i. rules_of (get_or schemas i 0) (bag_at size p i) (bag_at size d i) (bag_at size a i)) (up_to count)
+-- the transition rules of the parameters in the first rows of three tables, in their order
+unfoldable pub rules_in : ℕ → ℕ → List ℕ → List ℕ → List ℕ → List Transition
+rules_in size count p d a = flat_map (λ i. rules_of (bag_at size p i) (bag_at size d i) (bag_at size a i)) (up_to count)

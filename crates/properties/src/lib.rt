@@ -26,18 +26,6 @@ fn wide(b: u8) -> usize
     b as usize
 }
 
-// Puts a number into `count` places of a table, from the place `first` on.
-fn stamp(table: &mut [u8], first: usize, count: usize, number: u8)
-    requires { first + count ≤ length table.old }
-    ensures { table.new ≡ take first table.old ++ (replicate count number ++ drop count (drop first table.old)) }
-{
-    let mut i: usize = 0;
-    while i < count {
-        table[first + i] = number;
-        i = i + 1;
-    }
-}
-
 // The numbers of the properties of a task's predicates.
 pub fn numbered(predicates: ArityList) -> Numbering
     requires { predicates.count ≤ 20 }

@@ -1,16 +1,16 @@
 // The bags P, D and A of the parameters of a task's schemas (document 01, "Property rules"), in three tables of rows: in card order, one row
-// a parameter; and which schema each parameter is of (document 02, No. 6).
+// a parameter.
 ghost use Rattle.std.specs.Prelude.{List, [], ◌∷◌, ◌++◌, ◌≡◌, ℕ, ◌+◌, ◌*◌, ◌≤◌, ◌<◌, length, get_or, take, drop, replicate};
 ghost use Rattle.laws.specs.Lists.{padded};
 ghost use Rattle.model.specs.Transitions.{properties_from};
 ghost use Rattle.card.specs.Represents.{arities_of, atoms_of, schema_of, schemas_of};
 ghost use Rattle.properties.specs.Represented.{AritiesRight, AtomsRight, SchemaRight, SchemasRight, SchemasSmall, first_properties};
-ghost use Rattle.properties.specs.Parameters.{parameters_in, schema_numbers, bags_over, RoomForBags, ParameterTables};
+ghost use Rattle.properties.specs.Parameters.{parameters_in, bags_over, RoomForBags, ParameterTables};
 ghost use Rattle.properties.specs.Entered.{RoomFrom, SchemaEntered};
 ghost use Rattle.properties.specs.Tables.{rows_before};
 ghost use Rattle.properties.specs.Tallies.{raised, tallied_rows, Talliable};
 
-use crate::{numbered, stamp, wide};
+use crate::{numbered, wide};
 use card::{ArityList, Atom, AtomList, Schema, SchemaList};
 
 // Empties the first rows of a table of parameters' bags.
@@ -165,22 +165,4 @@ pub fn parameters_of(schemas: SchemaList) -> usize
         i = i + 1;
     }
     parameters
-}
-
-// The number of the schema that each parameter is of, parameters in card order, and 0 behind the last; the arities play no part here either.
-pub fn parameter_schemas(schemas: SchemaList) -> [u8; 192]
-    requires { SchemasSmall schemas }
-    ensures { (arities : List ℕ) → result ≡ padded 192 0 (schema_numbers 0 (schemas_of arities schemas)) }
-{
-    let m = schemas.count;
-    let mut table = [0u8; 192];
-    let mut first: usize = 0;
-    let mut i: usize = 0;
-    while i < m {
-        let schema = schemas.schemas[i];
-        stamp(&mut table, first, schema.parameters, i as u8);
-        first = first + schema.parameters;
-        i = i + 1;
-    }
-    table
 }

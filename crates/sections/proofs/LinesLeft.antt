@@ -10,17 +10,14 @@ use lib.ListN.{length, take, drop, get_or, drop_of_length-le, length-drop}
 use lib.Seq.{drop-cons, take_all}
 use native.Mathlib.Omega.{arith}
 use Rattle.laws.specs.Bags.{Bag}
-use Rattle.laws.specs.Lists.{all, keep, up_to}
+use Rattle.laws.specs.Lists.{all, keep}
 use Rattle.laws.proofs.Lists.{all_at, mem_get_d, flat_map_append}
 use Rattle.laws.proofs.Tests.{and_right}
 use Rattle.laws.proofs.Walks.{left, left_all, left_one, left_none}
-use Rattle.conditions.specs.Sources.{source_at, sources_in}
-use Rattle.conditions.specs.declared.sources.Sources.{Sources}
-use Rattle.model.specs.Analysis.{Source}
-use Rattle.model.specs.Lines.{Line, state, membership, exclusion, nesting, states}
+use Rattle.model.specs.Lines.{Line, state, membership, exclusion, nesting}
 use Rattle.model.specs.Text.{line_text, text}
-use Rattle.properties.specs.Tables.{bag_at, bags_in}
-use Rattle.properties.proofs.RowTables.{lent, row_lent}
+use Rattle.properties.specs.Tables.{bags_in}
+use Rattle.properties.proofs.RowTables.{bags_from, rows_start, rows_left, rows_end, lent, row_lent}
 use Rattle.masks.specs.Sets.{is_member, members_of, first_member, without_first, common_of}
 use Rattle.masks.proofs.Walking.{Walk, walk, no_members}
 use Rattle.sections.specs.Exclusions.{excluded_by, exclusions_by}
@@ -36,34 +33,18 @@ pub no_lines : text [] ≡ []
 unfolding text flat_map
 no_lines = refl
 
--- T lines by where each condition comes from and by its counts
-zip_states : {A : Type 0} (source : A → Source) (bag : A → Bag) (xs : List A)
-    → states (map source xs) (map bag xs) ≡ map (λ x. state (source x) (bag x)) xs
-unfolding states
-zip_states source bag [] = refl
-zip_states source bag (x ∷ xs) = ap (λ (lines : List Line). state (source x) (bag x) ∷ lines) (zip_states source bag xs)
+-- T lines
+module _ (size count : ℕ) (table : List ℕ) where
+  pub states_start : text (map state (bags_in size count table)) ≡ text (map state (bags_from size count table 0))
+  states_start = ap (λ (bags : List Bag). text (map state bags)) (rows_start size count table)
 
--- T lines of the first rows of a table, from one on
-module _ (sources : Sources) (size count : ℕ) (table : List ℕ) where
-  abbrev state_at : ℕ → Line
-  state_at i = state (source_at sources i) (bag_at size table i)
+  pub states_next : (i : ℕ) → i < count
+      → Begins (text (map state (bags_from size count table i))) (line_text (state (lent size table i)))
+      (text (map state (bags_from size count table (i + 1))))
+  states_next i h = rw (rows_left size count table i h, row_lent size i table) (first_line _ _)
 
-  unfoldable pub states_from : ℕ → List ℕ
-  states_from i = text (map state_at (left i count))
-
-  pub states_start : text (states (sources_in sources count) (bags_in size count table)) ≡ states_from 0
-  unfolding sources_in bags_in states_from
-  states_start =
-      ap text (zip_states (source_at sources) (bag_at size table) (up_to count) ∙ ap (map state_at) (sym (left_all count)))
-
-  pub states_next : (i : ℕ) {source : Source} → i < count → source ≡ source_at sources i
-      → Begins (states_from i) (line_text (state source (lent size table i))) (states_from (i + 1))
-  unfolding states_from
-  states_next i h e = rw (left_one i count h, e, ← row_lent size i table) (first_line _ _)
-
-  pub states_end : (i : ℕ) → count ≤ i → states_from i ≡ []
-  unfolding states_from
-  states_end i h = rw (left_none i count h) no_lines
+  pub states_end : (i : ℕ) → count ≤ i → text (map state (bags_from size count table i)) ≡ []
+  states_end i h = rw (rows_end size count table i h) no_lines
 
 -- D lines of a list of indices, from a place on
 module _ (indices : List ℕ) where

@@ -11,8 +11,7 @@ use Rattle.laws.specs.Bags.{Bag}
 use Rattle.laws.specs.Lists.{keep}
 use Rattle.laws.proofs.Counting.{count_most}
 use Rattle.laws.proofs.Lists.{keep_at, length_keep, flat_map_append}
-use Rattle.model.specs.Analysis.{Source}
-use Rattle.model.specs.Lines.{Line, state, limit, membership, states, exclusions, nestings, minimal, largest, count_of}
+use Rattle.model.specs.Lines.{Line, state, limit, membership, exclusions, nestings, minimal, largest, count_of}
 use Rattle.model.specs.Text.{line_text, text}
 use Rattle.model.proofs.Sections.{exclusion_line, nesting_line}
 use Rattle.model.proofs.Nestings.{pairs_few}
@@ -20,27 +19,16 @@ use Rattle.sections.specs.Comparisons.{comparison_lines}
 use Rattle.sections.specs.Limits.{limits_by}
 use Rattle.sections.proofs.ComparisonLines.{minimal_below, minimal_few}
 use Rattle.masks.proofs.Ascending.{Below}
-use Rattle.text.proofs.Lengths.{SourceBelow, state_length, limit_length, membership_length, exclusion_length, nesting_length, text_length}
+use Rattle.text.proofs.Lengths.{state_length, limit_length, membership_length, exclusion_length, nesting_length, text_length}
 
 -- no more is kept than there is
 keep_shorter : {A : Type 0} (test : A → Bool) (xs : List A) → length (keep test xs) ≤ length xs
 keep_shorter test xs = omega (arith, length_keep test xs, count_most test xs)
 
--- T lines: at most 370 bytes each
-pub states_length : (sources : List Source) (bags : List Bag) → ((s : Source) → Memᴰ s sources → SourceBelow 100 s)
-    → ((b : Bag) → Memᴰ b bags → (length b ≤ 60) × Below 100000 b) → length (text (states sources bags)) ≤ 370 * length bags
-unfolding states text flat_map
-states_length [] bags h k = omega arith
-states_length (s ∷ sources) [] h k = omega arith
-states_length (s ∷ sources) (b ∷ bags) h k =
-    let here = k b (Memᴰ.head refl) in
-    omega (
-      arith,
-      length-append (line_text (state s b)) (text (states sources bags)),
-      state_length s b (h s (Memᴰ.head refl)) here.1,
-      here.0,
-      states_length sources bags (λ r m. h r (Memᴰ.tail m)) (λ c m. k c (Memᴰ.tail m)),
-    )
+-- T lines: at most 364 bytes each
+pub states_length : (bags : List Bag) → ((b : Bag) → Memᴰ b bags → (length b ≤ 60) × Below 100000 b)
+    → length (text (map state bags)) ≤ 364 * length bags
+states_length bags h = text_length 364 state bags (λ b m. omega (arith, state_length b (h b m).1, (h b m).0))
 
 -- M lines: at most 11 bytes for each property
 pub limits_length : (arities properties : List ℕ) (bags : List Bag) → Below 100 properties

@@ -1,5 +1,4 @@
--- The conditions that are listed for a space: each has a count for every property and is opening or led to by a rule of the space, and the
--- code's table holds them.
+-- The conditions that are listed for a space: each has a count for every property, and the code's table holds them.
 use Prim.Native.Nat.{ℕ, zero, suc, ◌*◌, ◌≤◌}
 use native.Mathlib.Omega.{arith}
 use mathlib.Core.Path.{◌≡◌, sym, ap, subst, ◌∙◌}
@@ -14,8 +13,8 @@ use Rattle.model.specs.Card.{Task}
 use Rattle.model.specs.Transitions as model
 use Rattle.model.specs.Transitions.{Transition, bag_of}
 use Rattle.model.specs.Spaces.{Space, Kind, static, attribute, property, mixed, wide, rescued, condition, kind_of}
-use Rattle.model.specs.Extension.{Move, Outcome, joined}
-use Rattle.model.specs.Analysis.{Source, led, Analysis, moves_of, initial_conditions, conditions_for, source_of, analyse_property_space, analyse_as, analyse}
+use Rattle.model.specs.Extension.{Move, Outcome}
+use Rattle.model.specs.Analysis.{Analysis, moves_of, initial_conditions, conditions_for, analyse_property_space, analyse_as, analyse}
 use Rattle.model.specs.Rescue.{without_hidden, narrowed, lost, rescued_as, rescue}
 use Rattle.model.proofs.ListedSpace.{extension_of}
 use Rattle.model.proofs.JoinedLists.{joined_from, adjoin_all_from}
@@ -24,12 +23,10 @@ use Rattle.properties.specs.Tables.{stride, rows, rows_before, bags_in, HasRows}
 use Rattle.properties.proofs.Rows.{length_rows}
 use Rattle.properties.proofs.RowTables.{rows_before_back}
 use Rattle.space_lines.specs.OwnLines.{ConditionsHeld}
-use Rattle.space_lines.proofs.Sources.{LedBy, source_led_by}
 
--- Each condition of an analysis has a count for every property of its space, and each that is not opening is led to by a rule of the space.
+-- Each condition of an analysis has a count for every property of its space.
 pub record Sized (a : Analysis) : Type 0 where
   pub sized : (b : Bag) → Memᴰ b a.conditions → length b ≡ length a.space.properties
-  pub sourced : (index schema : ℕ) → Memᴰ (led index schema) a.sources → LedBy a.space.rules (length a.conditions) index schema
 
 -- ---- a space that is analysed
 
@@ -39,7 +36,7 @@ moves_sized : (u : Space) (m : Move) → Memᴰ m (moves_of u)
 unfolding moves_of
 moves_sized u m k =
     let own = u.properties in
-    let over : Transition → Move = λ r. record { schema = r.schema; start = restrict own r.start; finish = restrict own r.finish } in
+    let over : Transition → Move = λ r. record { start = restrict own r.start; finish = restrict own r.finish } in
     let p = Memᴰ.of_map over u.rules k in
     subst (λ (x : Move). (length x.start ≡ length own) × (length x.finish ≡ length own)) p.2
     (length_restrict own p.0.start, length_restrict own p.0.finish)
@@ -54,22 +51,11 @@ initial_sized t u b m =
     (length_restrict u.properties (bag_of (model.properties t) t.facts p.0)))
     (adjoin_all_from [] (map (condition t u.properties t.facts) u.members) b m)
 
--- so the conditions of its extension are, and those that are not opening are led to by its rules
+-- so the conditions of its extension are
 property_sized : (t : Task) (u : Space) → Sized (analyse_property_space t u)
 unfolding analyse_property_space conditions_for
-property_sized t u = record { sized = go (extension_of t u).outcome; sourced = led_by (extension_of t u).outcome }
+property_sized t u = record { sized = go (extension_of t u).outcome }
   where
-    source : Bag → Source
-    source = source_of (moves_of u) (initial_conditions t u) (extension_of t u).lists
-
-    led_by : (o : Outcome) (index schema : ℕ) → Memᴰ (led index schema) (map source (conditions_for o (extension_of t u).lists))
-        → LedBy u.rules (length (conditions_for o (extension_of t u).lists)) index schema
-    led_by Outcome.neither index schema m =
-        let p = Memᴰ.of_map source (joined (extension_of t u).lists) m in
-        source_led_by u (initial_conditions t u) (extension_of t u).lists p.0 p.2
-    led_by (Outcome.mixed places) index schema m = absurd (Memᴰ.not-nil m)
-    led_by Outcome.wide index schema m = absurd (Memᴰ.not-nil m)
-
     go : (o : Outcome) (b : Bag) → Memᴰ b (conditions_for o (extension_of t u).lists) → length b ≡ length u.properties
     go Outcome.neither b m =
         let p = joined_from (extension_of t u).lists b m in
@@ -82,8 +68,8 @@ unfolding analyse analyse_as
 analysis_sized t u = go (kind_of u.rules)
   where
     go : (k : Kind) → Sized (analyse_as k t u)
-    go static = record { sized = λ b m. absurd (Memᴰ.not-nil m); sourced = λ i n m. absurd (Memᴰ.not-nil m) }
-    go attribute = record { sized = λ b m. absurd (Memᴰ.not-nil m); sourced = λ i n m. absurd (Memᴰ.not-nil m) }
+    go static = record { sized = λ b m. absurd (Memᴰ.not-nil m) }
+    go attribute = record { sized = λ b m. absurd (Memᴰ.not-nil m) }
     go property = property_sized t u
     go mixed = property_sized t u
     go wide = property_sized t u
@@ -98,7 +84,7 @@ unfolding rescued_as
 rescued_sized k s h true a m = absurd (Memᴰ.not-nil m)
 rescued_sized static s h false a m = absurd (Memᴰ.not-nil m)
 rescued_sized attribute s h false a m = absurd (Memᴰ.not-nil m)
-rescued_sized property s h false a m = subst Sized (sym (Memᴰ.eq_of_singleton m)) (record { sized = s.sized; sourced = s.sourced })
+rescued_sized property s h false a m = subst Sized (sym (Memᴰ.eq_of_singleton m)) (record { sized = s.sized })
 rescued_sized mixed s h false a m = h a m
 rescued_sized wide s h false a m = absurd (Memᴰ.not-nil m)
 rescued_sized rescued s h false a m = absurd (Memᴰ.not-nil m)

@@ -1,5 +1,4 @@
 pub mod Parts
-pub mod Sources
 pub mod Conditions
 pub mod SectionRoom
 pub mod TaskSections

@@ -1,10 +1,9 @@
 -- The text of a section part by part: the S line, all T, all M, and all D with all X and all E.
 use Prim.Native.Nat.{ℕ}
-use mathlib.Core.List.{List, ◌++◌}
+use mathlib.Core.List.{List, ◌++◌, map}
 use Rattle.laws.specs.Bags.{Bag}
 use Rattle.laws.proofs.Lists.{flat_map_append}
-use Rattle.model.specs.Analysis.{Source}
-use Rattle.model.specs.Lines.{Line, space, states}
+use Rattle.model.specs.Lines.{Line, space, state}
 use Rattle.model.specs.Spaces.{Kind}
 use Rattle.model.specs.Text.{line_text, text}
 use Rattle.sections.specs.Comparisons.{comparison_lines}
@@ -24,13 +23,11 @@ module _ (arities own : List ℕ) (bags : List Bag) where
   unfolding invariant_lines
   limits_first = text_parts (limits_by arities own bags) (comparison_lines bags)
 
-module _ (arities own : List ℕ) (sources : List Source) (bags : List Bag) where
-  pub states_first : Begins (text (condition_lines arities own sources bags)) (text (states sources bags)) (text (invariant_lines arities own bags))
+  pub states_first : Begins (text (condition_lines arities own bags)) (text (map state bags)) (text (invariant_lines arities own bags))
   unfolding condition_lines
-  states_first = text_parts (states sources bags) (invariant_lines arities own bags)
+  states_first = text_parts (map state bags) (invariant_lines arities own bags)
 
   pub space_first : (number : ℕ) (kind : Kind) (members : List ℕ)
-      → Begins (text (own_lines number kind own members arities sources bags)) (line_text (space number kind own members))
-      (text (condition_lines arities own sources bags))
+      → Begins (text (own_lines number kind own members arities bags)) (line_text (space number kind own members)) (text (condition_lines arities own bags))
   unfolding own_lines
-  space_first number kind members = first_line (space number kind own members) (condition_lines arities own sources bags)
+  space_first number kind members = first_line (space number kind own members) (condition_lines arities own bags)

@@ -1,5 +1,5 @@
 -- The section of an analysed space of a task, or of what is left of one: what the code keeps of it gives its lines.
-use Prim.Native.Nat.{ℕ, ◌≤◌, ◌<◌}
+use Prim.Native.Nat.{ℕ, ◌≤◌}
 use native.Mathlib.Omega.{arith}
 use mathlib.Core.Path.{◌≡◌, sym, ap, subst, ◌∙◌}
 use mathlib.Core.List.{List, ◌∷◌, ◌++◌, map, append_assoc, Memᴰ}
@@ -10,49 +10,42 @@ use Rattle.laws.specs.Lists.{member}
 use Rattle.laws.proofs.Lists.{all_intro}
 use Rattle.laws.proofs.Numbers.{InOrder, in_order_below, in_order_distinct}
 use Rattle.laws.proofs.Walks.{keep_few}
-use Rattle.conditions.specs.Sources.{sources_in}
-use Rattle.conditions.specs.declared.sources.Sources.{Sources}
 use Rattle.masks.specs.Sets.{members_of}
 use Rattle.model.specs.Answer.{accepted}
 use Rattle.model.specs.Card.{Task}
 use Rattle.model.specs.Writer.{check_task}
-use Rattle.model.specs.Analysis.{Source, opening, led, Analysis}
-use Rattle.model.specs.Lines.{space, membership, states, minimal, exclusions, nestings, space_lines, arity_of}
-use Rattle.model.specs.Transitions.{Transition, properties}
+use Rattle.model.specs.Analysis.{Analysis}
+use Rattle.model.specs.Lines.{space, state, membership, minimal, exclusions, nestings, space_lines, arity_of}
+use Rattle.model.specs.Transitions.{properties}
 use Rattle.model.proofs.Parts.{Part}
 use Rattle.model.proofs.RuleCount.{properties_few}
 use Rattle.properties.specs.Tables.{stride, bags_in}
 use Rattle.sections.proofs.LimitLines.{limits_are}
 use Rattle.sections.specs.Comparisons.{comparison_lines}
 use Rattle.sections.specs.Limits.{limits_by}
-use Rattle.text.proofs.Lengths.{SourceBelow}
 use Rattle.text.specs.Kinds.{kind_says}
 use Rattle.text.specs.declared.kinds.Kind.{Kind}
 use Rattle.space_lines.specs.OwnLines.{invariant_lines, condition_lines, own_lines, Listable, AritiesOf, SpaceHeld}
-use Rattle.space_lines.proofs.Sources.{schema_small}
 use Rattle.space_lines.proofs.Conditions.{Sized, rows_there, few_conditions, bags_are}
 
 -- the definition's lines by the arities of the space's properties
 section_lines_lem : (t : Task) (number : ℕ) (a : Analysis) (arities : List ℕ)
     → ((c : ℕ) → Memᴰ c a.space.properties → arity_of t c ≡ get_or arities c 0)
-    → space_lines t number a ≡ own_lines number a.kind a.space.properties a.space.members arities a.sources a.conditions
+    → space_lines t number a ≡ own_lines number a.kind a.space.properties a.space.members arities a.conditions
 unfolding space_lines own_lines condition_lines invariant_lines comparison_lines
 section_lines_lem t number a arities h =
     let own = a.space.properties in
     let bags = a.conditions in
-    let first = states a.sources bags in
     rw (limits_are arities own bags t h)
     (ap (λ lines. space number a.kind own a.space.members ∷ lines)
-    (append_assoc (first ++ limits_by arities own bags ++ map membership (minimal bags)) (exclusions bags (minimal bags)) (nestings bags)
-    ∙ append_assoc (first ++ limits_by arities own bags) (map membership (minimal bags)) (exclusions bags (minimal bags) ++ nestings bags)
-    ∙ append_assoc first (limits_by arities own bags) (comparison_lines bags)))
+    (append_assoc (map state bags ++ limits_by arities own bags ++ map membership (minimal bags)) (exclusions bags (minimal bags)) (nestings bags)
+    ∙ append_assoc (map state bags ++ limits_by arities own bags) (map membership (minimal bags)) (exclusions bags (minimal bags) ++ nestings bags)
+    ∙ append_assoc (map state bags) (limits_by arities own bags) (comparison_lines bags)))
 
--- An analysis of a task: the properties of its space are the task's, in their order and few enough for a row, and its rules are of few
--- schemas.
+-- An analysis of a task: the properties of its space are the task's, in their order and few enough for a row.
 pub record Writable (t : Task) (a : Analysis) : Type 0 where
   pub in_order : InOrder (length (properties t)) a.space.properties
   pub narrow : length a.space.properties ≤ stride
-  pub few_schemas : (r : Transition) → Memᴰ r a.space.rules → r.schema < 32
   pub sized : Sized a
 
 -- numbers below n in their order are at most n
@@ -65,18 +58,16 @@ part_writable {t} {a} ok part s =
     record {
       in_order = part.in_order;
       narrow = omega (arith, in_order_few (length (properties t)) a.space.properties part.in_order, properties_few t ok);
-      few_schemas = schema_small ok part;
       sized = s;
     }
 
 module _ {t : Task} {a : Analysis} (w : Writable t a) {kind : Kind} {own : List ℕ} {members : ℕ} {before table : List ℕ} {count : ℕ}
-    {sources : Sources} (h : SpaceHeld a kind own members before table count sources) {arities : List ℕ} (r : AritiesOf t arities) where
+    (h : SpaceHeld a kind own members before table count) {arities : List ℕ} (r : AritiesOf t arities) where
   -- what the code keeps gives its lines
-  pub section_is : (number : ℕ)
-      → own_lines number (kind_says kind) own (members_of members) arities (sources_in sources count) (bags_in (length own) count table)
+  pub section_is : (number : ℕ) → own_lines number (kind_says kind) own (members_of members) arities (bags_in (length own) count table)
       ≡ space_lines t number a
   section_is number =
-      rw (h.kind_is, h.own_is, h.members_are, h.sources_are, bags_are w.sized w.narrow h.conditions_held)
+      rw (h.kind_is, h.own_is, h.members_are, bags_are w.sized w.narrow h.conditions_held)
       (sym (section_lines_lem t number a arities (λ c m. sym (r.are c (in_order_below _ _ w.in_order c m)))))
 
   -- and they can be written
@@ -91,12 +82,3 @@ module _ {t : Task} {a : Analysis} (w : Writable t a) {kind : Kind} {own : List 
             all_intro (λ c. ltb c (length arities)) a.space.properties
             (λ c m. lt-ltb c (length arities) (omega (arith, in_order_below _ _ w.in_order c m, r.long)));
       }
-
-  -- where its conditions come from is told in numbers of two digits
-  pub sources_short : length table ≤ 3840 → (s : Source) → Memᴰ s (sources_in sources count) → SourceBelow 100 s
-  sources_short short opening m = tt
-  sources_short short (led index schema) m =
-      let by = w.sized.sourced index schema (subst (Memᴰ (led index schema)) h.sources_are m) in (
-        omega (arith, by.known, h.conditions_held.counted, few_conditions w.sized w.narrow h.conditions_held short),
-        omega (arith, by.schema_is, w.few_schemas by.rule by.of_space),
-      )

@@ -1,7 +1,6 @@
 // The section of a space as text: its `S` line and, for a property space, all `T`, all `M`, all `D`, all `X` and all `E` lines.
-// Document 01, "Listing", and document 02, No. 2 and No. 6.
+// Document 01, "Listing", and document 02, No. 2.
 ghost use Rattle.std.specs.Prelude.{length};
-ghost use Rattle.conditions.specs.Sources.{sources_in};
 ghost use Rattle.masks.specs.Sets.{members_of};
 ghost use Rattle.model.specs.Text.{text};
 ghost use Rattle.properties.specs.Tables.{bags_in};
@@ -10,7 +9,6 @@ ghost use Rattle.text.specs.Room.{Room};
 ghost use Rattle.text.specs.Written.{Writes};
 ghost use Rattle.space_lines.specs.OwnLines.{invariant_lines, condition_lines, own_lines, Listable};
 
-use conditions::sources::Sources;
 use sections::comparisons::write_comparisons;
 use sections::limits::write_limits;
 use sections::states::write_states;
@@ -42,32 +40,24 @@ fn write_conditions(
     out: &mut [u8],
     table: &[u16],
     count: usize,
-    sources: Sources,
     own: &[usize],
     arities: &[u8],
 ) -> usize
     requires listable { Listable own.now arities.now table.now count }
-    requires room { Room
-        (text (condition_lines arities.now own.now (sources_in sources count) (bags_in (length own.now) count table.now)))
-        out.old }
+    requires room { Room (text (condition_lines arities.now own.now (bags_in (length own.now) count table.now))) out.old }
     ensures { Writes
-        (text
-        (condition_lines
-        arities.now
-        own.now
-        (sources_in sources count)
-        (bags_in (length own.now) count table.now)))
+        (text (condition_lines arities.now own.now (bags_in (length own.now) count table.now)))
         out.old
         out.new
         result }
 {
-    let at = write_states(out, table, count, own.len(), sources);
+    let at = write_states(out, table, count, own.len());
     let n = write_invariants(&mut out[at..], table, count, own, arities);
     at + n
 }
 
 // The section of a space: its number and kind, its own properties and its members, as a mask, and its conditions in the first rows of a
-// table, with where each comes from. The arities of all properties are given by number.
+// table. The arities of all properties are given by number.
 pub fn write_space(
     out: &mut [u8],
     number: usize,
@@ -76,20 +66,12 @@ pub fn write_space(
     members: u64,
     table: &[u16],
     count: usize,
-    sources: Sources,
     arities: &[u8],
 ) -> usize
     requires listable { Listable own.now arities.now table.now count }
     requires room { Room
         (text
-        (own_lines
-        number
-        (kind_says kind)
-        own.now
-        (members_of members)
-        arities.now
-        (sources_in sources count)
-        (bags_in (length own.now) count table.now)))
+        (own_lines number (kind_says kind) own.now (members_of members) arities.now (bags_in (length own.now) count table.now)))
         out.old }
     ensures { Writes
         (text
@@ -99,13 +81,12 @@ pub fn write_space(
         own.now
         (members_of members)
         arities.now
-        (sources_in sources count)
         (bags_in (length own.now) count table.now)))
         out.old
         out.new
         result }
 {
     let at = text::lists::write_space(out, number, kind, own, members);
-    let n = write_conditions(&mut out[at..], table, count, sources, own, arities);
+    let n = write_conditions(&mut out[at..], table, count, own, arities);
     at + n
 }

@@ -3,7 +3,7 @@ use Prim.Native.Nat.{ℕ, ◌≤◌, ◌<◌}
 use native.Mathlib.Nat.{lt_of_lt_of_le}
 use native.Mathlib.Omega.{arith}
 use mathlib.Core.Path.{◌≡◌, refl, sym, ap, ◌∙◌, subst}
-use mathlib.Core.List.{List, [], map, Memᴰ}
+use mathlib.Core.List.{List, map, Memᴰ}
 use lib.Dec.{eqb}
 use lib.ListN.{length, get_or, take, length-map}
 use lib.Seq.{take_at}
@@ -36,23 +36,22 @@ labelled_known size narrow groups =
 
 -- and so are the labels of the groups
 module _ {size count : ℕ} {p d a : List ℕ} (narrow : size ≤ 60) (room : RoomForBags count p d a) where
-  moved_below : (schemas : List ℕ) (r : Transition) → Memᴰ r (rules_in size count schemas p d a) → (c : ℕ) → Memᴰ c (moved r) → c < size
+  moved_below : (r : Transition) → Memᴰ r (rules_in size count p d a) → (c : ℕ) → Memᴰ c (moved r) → c < size
   unfolding rules_in moved
-  moved_below schemas r m c k =
-      let found = flat_map_at (λ i. rules_of (get_or schemas i 0) (bag_at size p i) (bag_at size d i) (bag_at size a i)) (up_to count) r m in
+  moved_below r m c k =
+      let found = flat_map_at (λ i. rules_of (bag_at size p i) (bag_at size d i) (bag_at size a i)) (up_to count) r m in
       let row : ℕ = found.0 in
       let h : row < count = up_to_at count row found.1 in
       let lp = length_bag_at (preconditions_there narrow room row h) in
-      let sized = rules_of_sized (get_or schemas row 0) (bag_at size p row) (bag_at size d row) (bag_at size a row)
+      let sized = rules_of_sized (bag_at size p row) (bag_at size d row) (bag_at size a row)
       (length_bag_at (deletes_there narrow room row h) ∙ sym lp) (length_bag_at (adds_there narrow room row h) ∙ sym lp) r found.2 in
       subst (λ (n : ℕ). c < n) (length_plus size r.start r.finish (sized.start ∙ lp) (sized.finish ∙ lp))
       (support_at_lem (plus r.start r.finish) c k).0
 
   pub groups_known : (c : ℕ) → get_or (groups_in size count d a) c 0 < 60
   groups_known c =
-      let rules = rules_in size count [] p d a in
-      subst (λ (l : List ℕ). get_or l c 0 < 60) (sym (groups_by_rules narrow room []))
-      (grouping_known size narrow (grouping size rules) (grouping_lowest size rules (moved_below [])) c)
+      subst (λ (l : List ℕ). get_or l c 0 < 60) (sym (groups_by_rules narrow room))
+      (grouping_known size narrow (grouping size (rules_in size count p d a)) (grouping_lowest size (rules_in size count p d a) moved_below) c)
 
 -- What the steps of the code find are these spaces.
 module _ (size parameters objects : ℕ) (p d a c : List ℕ) {groups lowest masks : List ℕ} {count : ℕ}
@@ -94,7 +93,7 @@ module _ {t : Task} {size parameters objects : ℕ} {p d a c : List ℕ} (held :
     (room : RoomForBags parameters p d a) where
   array : groups_in size parameters d a ≡ group_array t
   unfolding group_array Rattle.model.proofs.Closing.groups
-  array = groups_by_rules narrow room held.schemas ∙ (λ i. padded 60 0 (grouping (held.properties_are i) (held.rules_are i)))
+  array = groups_by_rules narrow room ∙ (λ i. padded 60 0 (grouping (held.properties_are i) (held.rules_are i)))
 
   labelled_are : labelled size (groups_in size parameters d a) ≡ labels t
   labelled_are = (λ i. labelled (held.properties_are i) (array i)) ∙ labels_found t
@@ -115,7 +114,7 @@ module _ {t : Task} {size parameters objects : ℕ} {p d a c : List ℕ} (held :
   same_masks : masks ≡ closed_masks t c
   unfolding closed_masks masks
   same_masks =
-      rounds_by_rules narrow room held.schemas (groups_in size parameters d a) objects (length (labelled size (groups_in size parameters d a)))
+      rounds_by_rules narrow room (groups_in size parameters d a) objects (length (labelled size (groups_in size parameters d a)))
       (open_masks (groups_in size parameters d a) size c objects)
       ∙ (λ i.
       rounds_of (array i) (held.objects_are i) (held.rules_are i) (length (labelled_are i))

@@ -10,7 +10,7 @@ use Rattle.laws.proofs.Mapped.{get_d_map}
 use Rattle.model.specs.Card.{Task}
 use Rattle.model.specs.Transitions.{properties, bag_of}
 use Rattle.model.proofs.Grouping.{length_bag_of}
-use Rattle.properties.specs.Parameters.{schema_numbers, bags_over, ParameterTables}
+use Rattle.properties.specs.Parameters.{bags_over, ParameterTables}
 use Rattle.properties.specs.Represented.{object_bags}
 use Rattle.properties.specs.Tables.{stride, rows_before, bag_at}
 use Rattle.properties.proofs.ParameterRules.{rules_read}
@@ -41,7 +41,6 @@ module _ (t : Task) (narrow : length (properties t) ≤ stride) where
   tables_held counts {c} written bags = record {
     properties_are = refl;
     objects_are = refl;
-    schemas = schema_numbers 0 t.schemas;
-    rules_are = rules_read t narrow written refl (schema_numbers 0 t.schemas) (λ i h. refl);
+    rules_are = rules_read t narrow written refl;
     bags_are = λ o h. ap (λ (l : List ℕ). bag_at (length (properties t)) l o) bags ∙ object_row counts o h;
   }

@@ -1,9 +1,8 @@
--- Grouping and rounds by the rows of the parameters are those by the rules that the rows give, whatever schemas the parameters are of.
+-- Grouping and rounds by the rows of the parameters are those by the rules that the rows give.
 use Prim.Native.Nat.{ℕ, zero, suc, ◌≤◌, ◌<◌}
 use native.Mathlib.Omega.{arith}
 use mathlib.Core.Path.{◌≡◌, refl, sym, ap, ◌∙◌}
 use mathlib.Core.List.{List}
-use lib.ListN.{get_or}
 use Rattle.laws.specs.Lists.{up_to, padded}
 use Rattle.laws.proofs.Folds.{fold_ext, fold_lists}
 use Rattle.laws.proofs.Lists.{length_up_to, up_to_at}
@@ -29,45 +28,43 @@ module _ {size count : ℕ} {p d a : List ℕ} (narrow : size ≤ stride) (room 
   pub adds_there : (row : ℕ) → row < count → HasRow size row a
   adds_there row h = let r = room.adds_room in record { inside = omega arith }
 
-  rules : List ℕ → ℕ → List Transition
-  rules schemas row = rules_of (get_or schemas row 0) (bag_at size p row) (bag_at size d row) (bag_at size a row)
+  rules : ℕ → List Transition
+  rules row = rules_of (bag_at size p row) (bag_at size d row) (bag_at size a row)
 
   -- the groups
-  pub groups_by_rules : (schemas : List ℕ) → groups_in size count d a ≡ padded 60 0 (grouping size (rules_in size count schemas p d a))
+  pub groups_by_rules : groups_in size count d a ≡ padded 60 0 (grouping size (rules_in size count p d a))
   unfolding groups_in grouping rules_in rules
-  groups_by_rules schemas =
+  groups_by_rules =
       unitings_padded 60 size (λ row. united_by (bag_at size d row) (bag_at size a row)) (up_to count) (up_to size) (length_up_to size)
       (λ row m. let h = up_to_at count row m in united_below (deletes_there row h) (adds_there row h))
       ∙ ap (padded 60 0)
       (sym
-      (fold_lists (λ groups r. unite_all groups (moved r)) (rules schemas) (up_to count) (up_to size)
+      (fold_lists (λ groups r. unite_all groups (moved r)) rules (up_to count) (up_to size)
       ∙ fold_ext _ _ (up_to count)
       (λ groups row m.
       let h = up_to_at count row m in
-      unite_rules (get_or schemas row 0) size (bag_at size p row) (bag_at size d row) (bag_at size a row)
-      (length_bag_at (preconditions_there row h)) (length_bag_at (deletes_there row h)) (length_bag_at (adds_there row h)) groups)
+      unite_rules size (bag_at size p row) (bag_at size d row) (bag_at size a row) (length_bag_at (preconditions_there row h))
+      (length_bag_at (deletes_there row h)) (length_bag_at (adds_there row h)) groups)
       (up_to size)))
 
   -- the rounds
-  module _ (schemas groups : List ℕ) (objects : ℕ) where
-    round_by_rules : (masks : List ℕ)
-        → round_in groups objects size count p d a masks ≡ round_of groups objects (rules_in size count schemas p d a) masks
+  module _ (groups : List ℕ) (objects : ℕ) where
+    round_by_rules : (masks : List ℕ) → round_in groups objects size count p d a masks ≡ round_of groups objects (rules_in size count p d a) masks
     unfolding round_in round_of rules_in rules
     round_by_rules masks =
         sym
-        (fold_lists (gain_by groups objects masks) (rules schemas) (up_to count) masks
+        (fold_lists (gain_by groups objects masks) rules (up_to count) masks
         ∙ fold_ext _ _ (up_to count)
         (λ gained row m.
         let h = up_to_at count row m in
-        gain_rules (get_or schemas row 0) size (bag_at size p row) (bag_at size d row) (bag_at size a row)
-        (length_bag_at (preconditions_there row h)) (length_bag_at (deletes_there row h)) (length_bag_at (adds_there row h))
-        groups objects masks gained)
+        gain_rules size (bag_at size p row) (bag_at size d row) (bag_at size a row) (length_bag_at (preconditions_there row h))
+        (length_bag_at (deletes_there row h)) (length_bag_at (adds_there row h)) groups objects masks gained)
         masks)
 
     pub rounds_by_rules : (n : ℕ) (masks : List ℕ)
-        → rounds_in groups objects size count p d a n masks ≡ rounds_of groups objects (rules_in size count schemas p d a) n masks
+        → rounds_in groups objects size count p d a n masks ≡ rounds_of groups objects (rules_in size count p d a) n masks
     unfolding rounds_in rounds_of
     rounds_by_rules zero masks = refl
     rounds_by_rules (suc n) masks =
         ap (rounds_in groups objects size count p d a n) (round_by_rules masks)
-        ∙ rounds_by_rules n (round_of groups objects (rules_in size count schemas p d a) masks)
+        ∙ rounds_by_rules n (round_of groups objects (rules_in size count p d a) masks)

@@ -78,9 +78,9 @@ single_some n c h =
     one : {k : ℕ} → k ≡ 1 → k ≡ 0 → ⊥
     one p q = omega arith
 
--- ---- the bags of a parameter, and the number of its schema
+-- ---- the bags of a parameter
 
-module _ (schema n : ℕ) (p d a : Bag) (lp : length p ≡ n) (ld : length d ≡ n) (la : length a ≡ n) where
+module _ (n : ℕ) (p d a : Bag) (lp : length p ≡ n) (ld : length d ≡ n) (la : length a ≡ n) where
   common : Bag
   common = meet d a
 
@@ -164,12 +164,10 @@ module _ (schema n : ℕ) (p d a : Bag) (lp : length p ≡ n) (ld : length d ≡
   -- ---- the rules
 
   -- an exchange moves one property, and has a start
-  exchange_still : (r : Transition) → Memᴰ r (exchanges schema p common) → ((c : ℕ) × (moved r ≡ c ∷ [])) × (is_empty r.start ≡ false)
+  exchange_still : (r : Transition) → Memᴰ r (exchanges p common) → ((c : ℕ) × (moved r ≡ c ∷ [])) × (is_empty r.start ≡ false)
   unfolding exchanges common moved
   exchange_still r m =
-      let c =
-      Memᴰ.of_map
-      (λ c. record { schema = schema; enablers = less p (single (length p) c); start = single (length p) c; finish = single (length p) c })
+      let c = Memᴰ.of_map (λ c. record { enablers = less p (single (length p) c); start = single (length p) c; finish = single (length p) c })
       (support (meet d a)) m in
       let h : c.0 < length p = subst (λ (k : ℕ). c.0 < k) (length_meet n d a ld la ∙ sym lp) (support_at_lem (meet d a) c.0 c.1).0 in
       subst (λ (q : Transition). ((x : ℕ) × (moved q ≡ x ∷ [])) × (is_empty q.start ≡ false)) c.2
@@ -177,7 +175,7 @@ module _ (schema n : ℕ) (p d a : Bag) (lp : length p ≡ n) (ld : length d ≡
 
   -- the increasing rule of a property
   increase : ℕ → Transition
-  increase c = record { schema = schema; enablers = less p start; start = start; finish = single (length p) c }
+  increase c = record { enablers = less p start; start = start; finish = single (length p) c }
 
   increase_moved : has_start d a ≡ false → (c : ℕ) → Memᴰ c (support finish) → moved (increase c) ≡ c ∷ []
   unfolding moved increase
@@ -186,22 +184,21 @@ module _ (schema n : ℕ) (p d a : Bag) (lp : length p ≡ n) (ld : length d ≡
       (subst (λ (k : ℕ). c < k) (length_finish ∙ sym lp) (support_at_lem finish c m).0) (start_empty none)
 
   -- what remains beside the exchanges
-  remaining_increasing : has_start d a ≡ false → remaining schema p start finish ≡ map increase (support finish)
+  remaining_increasing : has_start d a ≡ false → remaining p start finish ≡ map increase (support finish)
   unfolding remaining increase
   remaining_increasing none = cond_true (is_empty start) _ _ (start_empty none)
 
-  remaining_one : has_start d a ≡ true
-      → remaining schema p start finish ≡ record { schema = schema; enablers = less p start; start = start; finish = finish } ∷ []
+  remaining_one : has_start d a ≡ true → remaining p start finish ≡ record { enablers = less p start; start = start; finish = finish } ∷ []
   unfolding remaining
   remaining_one some = cond_false (is_empty start) _ _ (start_some some)
 
   -- a fold over all rules that leaves the exchanges out
-  rules_fold : {B : Type 0} (f : B → Transition → B) (b : B) → ((x : B) (r : Transition) → Memᴰ r (exchanges schema p common) → f x r ≡ x)
-      → foldl f b (rules_of schema p d a) ≡ foldl f b (remaining schema p start finish)
+  rules_fold : {B : Type 0} (f : B → Transition → B) (b : B) → ((x : B) (r : Transition) → Memᴰ r (exchanges p common) → f x r ≡ x)
+      → foldl f b (rules_of p d a) ≡ foldl f b (remaining p start finish)
   unfolding rules_of common start finish
   rules_fold f b still =
-      foldl-append f b (exchanges schema p (meet d a)) (remaining schema p (less d (meet d a)) (less a (meet d a)))
-      ∙ ap (λ (x : _). foldl f x (remaining schema p (less d (meet d a)) (less a (meet d a)))) (fold_still f (exchanges schema p (meet d a)) still b)
+      foldl-append f b (exchanges p (meet d a)) (remaining p (less d (meet d a)) (less a (meet d a)))
+      ∙ ap (λ (x : _). foldl f x (remaining p (less d (meet d a)) (less a (meet d a)))) (fold_still f (exchanges p (meet d a)) still b)
 
   -- ---- uniting
 
@@ -210,7 +207,7 @@ module _ (schema n : ℕ) (p d a : Bag) (lp : length p ≡ n) (ld : length d ≡
   unfolding unite_all
   alone groups r c = ap (unite_all groups) c.1
 
-  pub unite_rules : (groups : List ℕ) → foldl (λ l r. unite_all l (moved r)) groups (rules_of schema p d a) ≡ unite_all groups (united_by d a)
+  pub unite_rules : (groups : List ℕ) → foldl (λ l r. unite_all l (moved r)) groups (rules_of p d a) ≡ unite_all groups (united_by d a)
   unfolding united_by unite_all moved
   unite_rules groups =
       rules_fold (λ l r. unite_all l (moved r)) groups (λ l r m. alone l r (exchange_still r m).0)
@@ -242,7 +239,7 @@ module _ (schema n : ℕ) (p d a : Bag) (lp : length p ≡ n) (ld : length d ≡
         (less_empty n p start lp length_start (start_empty none))
         ∙ ap (join_first groups (enabled_by groups objects old p) masks) (increase_moved none c m)
 
-    pub gain_rules : (masks : List ℕ) → foldl (gain_by groups objects old) masks (rules_of schema p d a) ≡ gain_row groups objects old masks p d a
+    pub gain_rules : (masks : List ℕ) → foldl (gain_by groups objects old) masks (rules_of p d a) ≡ gain_row groups objects old masks p d a
     unfolding gain_row gained_by
     gain_rules masks =
         let join = join_at groups (enabled_by groups objects old p) in
@@ -250,7 +247,7 @@ module _ (schema n : ℕ) (p d a : Bag) (lp : length p ≡ n) (ld : length d ≡
         ∙ by_test (has_start d a)
         (λ e.
         ap (foldl (gain_by groups objects old) masks) (remaining_one e)
-        ∙ started masks (record { schema = schema; enablers = less p start; start = start; finish = finish }) (start_some e)
+        ∙ started masks (record { enablers = less p start; start = start; finish = finish }) (start_some e)
         ∙ ap (foldl join masks) (sym (cond_true (has_start d a) [] (changed_by d a) e)))
         (λ e.
         ap (foldl (gain_by groups objects old) masks) (remaining_increasing e)

@@ -12,7 +12,7 @@ use Rattle.laws.proofs.Padded.{padded_at, padded_below}
 use Rattle.laws.specs.Lists.{any, all, keep, up_to, member, padded}
 use Rattle.laws.specs.Bags.{Bag, is_empty, support, restrict}
 use Rattle.laws.proofs.Tests.{by_test, same_test, and_left, and_right, and_intro, and_swap, not-true, to_not_true}
-use Rattle.laws.proofs.Lists.{any_at, any_intro, keep_at, keep_intro, up_to_at, up_to_intro, member_at, member_intro, mem_get_d, place_of_lem}
+use Rattle.laws.proofs.Lists.{any_at, any_intro, keep_at, keep_intro, up_to_at, up_to_intro, member_at, member_intro, mem_get_d, place_of}
 use Rattle.laws.proofs.Mapped.{any_ext, all_ext, keep_ext, map_ext}
 use Rattle.laws.proofs.Numbers.{member_keep_up_to}
 use Rattle.laws.proofs.Closure.{repeat}
@@ -35,7 +35,7 @@ pub grouping_known : (size : ℕ) → size ≤ 60 → (labels : List ℕ) → Lo
 grouping_known size narrow labels low =
     padded_below 60 60 labels
     (λ x m.
-    let place = place_of_lem labels x 0 m in
+    let place = place_of labels x 0 m in
     subst (λ (n : ℕ). n < 60) place.2
     (lt_of_lt_of_le (label_known size labels low place.0 (subst (λ (n : ℕ). place.0 < n) low.sized place.1)) narrow))
     (omega arith)
@@ -197,7 +197,7 @@ module _ (t : Task) where
               let c = any_at (λ d. eqb l (get_or (group_array t) d 0)) (support b) e in
               let has = support_at_lem b c.0 c.1 in
               let here = member_at c.0 (properties_at t l) (of_label l c.0 (known c.0 has.0) ∙ c.2) in
-              let place = place_of_lem (properties_at t l) c.0 0 here in
+              let place = place_of (properties_at t l) c.0 0 here in
               let count : get_or (restrict (properties_at t l) b) place.0 0 ≡ get_or b c.0 0 =
               get_d_restrict (properties_at t l) b place.0 place.1 ∙ ap (λ (d : ℕ). get_or b d 0) place.2 in
               to_not_true (is_empty (restrict (properties_at t l) b))

@@ -11,10 +11,9 @@ pub record Grouped (size : ℕ) (groups : List ℕ) : Type 0 where
   pub filled : size ≤ length groups
   pub known : (c : ℕ) → get_or groups c 0 < stride
 
--- The tables hold a task: the rules of its parameters, whose schemas are these, and the initial bags of its objects.
+-- The tables hold a task: the rules of its parameters, and the initial bags of its objects.
 pub record TablesOf (t : Task) (size parameters objects : ℕ) (p d a counts : List ℕ) : Type 0 where
   pub properties_are : size ≡ length (properties t)
   pub objects_are : objects ≡ t.objects
-  pub schemas : List ℕ
-  pub rules_are : rules_in size parameters schemas p d a ≡ transitions t
+  pub rules_are : rules_in size parameters p d a ≡ transitions t
   pub bags_are : (o : ℕ) → o < objects → bag_at size counts o ≡ bag_of (properties t) t.facts o

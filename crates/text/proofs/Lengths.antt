@@ -7,15 +7,12 @@ use mathlib.Core.List.{List, [], ◌∷◌, ◌++◌, map, flat_map, Memᴰ}
 use lib.ListN.{length, length-append}
 use Rattle.masks.proofs.Ascending.{Below}
 use Rattle.model.specs.Lines.{Line, space, state, limit, membership, exclusion, nesting, total, ceiling, types}
-use Rattle.model.specs.Analysis.{Source, opening, led}
-use Rattle.model.specs.Text.{decimal, source_items, items, spaced, line_text, text}
+use Rattle.model.specs.Text.{decimal, items, spaced, line_text, text}
 use Rattle.model.specs.Spaces.{Kind}
-use Rattle.text.specs.Letters.{newline, letter_c, letter_d, letter_e, letter_f, letter_m, letter_r, letter_s, letter_t, letter_x}
+use Rattle.text.specs.Letters.{newline, letter_c, letter_d, letter_e, letter_f, letter_m, letter_r, letter_s, letter_x}
 use Rattle.text.specs.Numbers.{numbers, last_numbers}
-use Rattle.text.specs.Sources.{state_front}
 use Rattle.text.proofs.Decimal.{two_digits, five_digits}
-use Rattle.text.proofs.LineTexts.{one_number_lem, two_numbers, opening_parts, state_parts, types_parts, head_parts, front_parts, space_parts}
-use Rattle.text.proofs.LineTexts.{membership_end}
+use Rattle.text.proofs.LineTexts.{one_number_lem, two_numbers, state_parts, types_parts, head_parts, front_parts, space_parts, membership_end}
 use Rattle.text.proofs.NumberRows.{first_number}
 use Rattle.text.proofs.Writing.{Begins}
 
@@ -58,21 +55,9 @@ pair_length : (letter a b : ℕ)
     → length (spaced ((letter ∷ []) ∷ decimal a ∷ decimal b ∷ []) ++ (newline ∷ [])) ≡ 4 + length (decimal a) + length (decimal b)
 pair_length letter a b = simp length-append (omega (arith, two_length letter a b))
 
--- The numbers of a source are below a bound.
-abbrev pub SourceBelow : ℕ → Source → Type 0
-SourceBelow bound opening = Unit
-SourceBelow bound (led index schema) = (index < bound) × (schema < bound)
-
-front_length : (source : Source) → SourceBelow 100 source → length (state_front source) ≤ 7
-unfolding state_front source_items
-front_length opening h = omega (arith, parts_length opening_parts)
-front_length (led index schema) h = omega (arith, two_length letter_t index schema, two_digits index h.0, two_digits schema h.1)
-
--- T: ten bytes and at most six for each count
-pub state_length : (source : Source) (counts : List ℕ) → SourceBelow 100 source → Below 100000 counts
-    → length (line_text (state source counts)) ≤ 10 + 6 * length counts
-state_length source counts s h =
-    omega (arith, parts_length (state_parts source counts), front_length source s, last_numbers_length counts, five_digit_numbers counts h)
+-- T: four bytes and at most six for each count
+pub state_length : (counts : List ℕ) → Below 100000 counts → length (line_text (state counts)) ≤ 4 + 6 * length counts
+state_length counts h = omega (arith, parts_length (state_parts counts), last_numbers_length counts, five_digit_numbers counts h)
 
 -- M, D, X, E, F, C
 pub limit_length : (c most : ℕ) → c < 100 → most < 100000 → length (line_text (limit c most)) ≤ 11

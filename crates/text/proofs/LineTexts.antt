@@ -3,14 +3,12 @@ use Prim.Native.Nat.{ℕ}
 use mathlib.Core.Path.{refl}
 use mathlib.Core.List.{List, [], ◌∷◌, ◌++◌, map, flat_map, append-nil, append_assoc}
 use Rattle.laws.proofs.Lists.{flat_map_append}
-use Rattle.model.specs.Analysis.{Source, opening}
 use Rattle.model.specs.Lines.{space, state, membership, types}
-use Rattle.model.specs.Text.{decimal, kind_letter, colon, source_items, items, spaced, line_text}
+use Rattle.model.specs.Text.{decimal, kind_letter, colon, items, spaced, line_text}
 use Rattle.model.specs.Spaces.{Kind}
 use Rattle.text.specs.Kinds.{space_front}
-use Rattle.text.specs.Letters.{newline, blank, colon_byte, hyphen, letter_d, letter_r, letter_s, letter_t}
+use Rattle.text.specs.Letters.{newline, blank, colon_byte, letter_d, letter_r, letter_s, letter_t}
 use Rattle.text.specs.Numbers.{numbers, last_numbers}
-use Rattle.text.specs.Sources.{state_front}
 use Rattle.text.proofs.Writing.{Begins}
 
 -- the first number after the letter
@@ -47,15 +45,10 @@ items_parts : (first : List ℕ) (front back : List (List ℕ))
 unfolding spaced
 items_parts first front back = record { path = rw (flat_map_append (λ item. blank ∷ item) front back) (simp append_assoc) }
 
--- T: the letter, then a hyphen
-pub opening_parts : Begins (state_front opening) (letter_t ∷ []) (blank ∷ hyphen ∷ [])
-unfolding state_front source_items spaced flat_map
-opening_parts = record { path = refl }
-
--- or the letter, an index and a schema; then the counts
-pub state_parts : (source : Source) (counts : List ℕ) → Begins (line_text (state source counts)) (state_front source) (last_numbers counts)
-unfolding line_text items state_front flat_map last_numbers numbers
-state_parts source counts = items_parts (letter_t ∷ []) (source_items source) (colon ∷ map decimal counts)
+-- T: the letter, then the counts
+pub state_parts : (counts : List ℕ) → Begins (line_text (state counts)) (letter_t ∷ []) (last_numbers counts)
+unfolding line_text items spaced flat_map last_numbers numbers
+state_parts counts = items_parts (letter_t ∷ []) [] (colon ∷ map decimal counts)
 
 -- R: the letter and two numbers, then the objects
 pub types_parts : (schema parameter : ℕ) (objects : List ℕ)

@@ -7,9 +7,6 @@ newline = 10
 abbrev pub blank : ℕ
 blank = 32
 
-abbrev pub hyphen : ℕ
-hyphen = 45
-
 abbrev pub colon_byte : ℕ
 colon_byte = 58
 

@@ -3,4 +3,3 @@ pub mod Written
 pub mod Letters
 pub mod Numbers
 pub mod Kinds
-pub mod Sources

@@ -5,4 +5,3 @@ pub mod lines;
 pub mod lists;
 mod numbers;
 mod rows;
-pub mod sources;

@@ -1,47 +1,23 @@
 // The lines with lists: `S`, `T` and `R`.
 ghost use Rattle.std.specs.Prelude.{◌≡◌, [], ◌∷◌};
 ghost use Rattle.masks.specs.Sets.{members_of};
-ghost use Rattle.model.specs.Analysis.{opening};
 ghost use Rattle.model.specs.Lines.{space, state, types};
 ghost use Rattle.model.specs.Text.{kind_letter, line_text};
 ghost use Rattle.text.specs.Kinds.{kind_says, space_front};
 ghost use Rattle.text.specs.Letters.{blank, colon_byte};
 ghost use Rattle.text.specs.Room.{Room};
-ghost use Rattle.text.specs.Sources.{source_says, state_front};
 ghost use Rattle.text.specs.Written.{Writes};
 
 use crate::kinds::Kind;
 use crate::numbers::{write_byte, write_mark, write_one, write_two};
 use crate::rows::{write_last_counts, write_last_members, write_numbers};
-use crate::sources::Source;
 
-// The start of a `T` line whose condition a member opens with: a hyphen.
-fn write_opening(out: &mut [u8]) -> usize
-    requires { Room (state_front opening) out.old }
-    ensures { Writes (state_front opening) out.old out.new result }
+// `T`: the counts of a condition.
+pub fn write_state(out: &mut [u8], counts: &[u16]) -> usize
+    requires { Room (line_text (state counts.now)) out.old }
+    ensures { Writes (line_text (state counts.now)) out.old out.new result }
 {
     let at = write_byte(out, b'T');
-    let n = write_mark(&mut out[at..], b'-');
-    at + n
-}
-
-// The start of a `T` line: where its condition comes from.
-fn write_source(out: &mut [u8], source: Source) -> usize
-    requires { Room (state_front (source_says source)) out.old }
-    ensures { Writes (state_front (source_says source)) out.old out.new result }
-{
-    match source {
-        Source::Opening => write_opening(out),
-        Source::Led(index, schema) => write_two(out, b'T', index, schema),
-    }
-}
-
-// `T`: where a condition comes from, and its counts.
-pub fn write_state(out: &mut [u8], source: Source, counts: &[u16]) -> usize
-    requires { Room (line_text (state (source_says source) counts.now)) out.old }
-    ensures { Writes (line_text (state (source_says source) counts.now)) out.old out.new result }
-{
-    let at = write_source(out, source);
     let list = write_last_counts(&mut out[at..], counts);
     at + list
 }

@@ -135,8 +135,7 @@ module _ (t : Task) where
   totals_to : (n c : ℕ) → n ≤ length (analysis t) → c < 60 → get_or (totals_of (take n (analysis t))) c 0 ≡ fixed_of (take n (analysis t)) c
   totals_to zero c h k = unfold totals_of fixed_of totals_by keep flat_map first_and_one in get_d_zeros 60 c
   totals_to (suc n) c h k =
-      let none : Analysis =
-      record { space = record { properties = []; rules = []; members = [] }; kind = static; conditions = []; sources = []; hidden = [] } in
+      let none : Analysis = record { space = record { properties = []; rules = []; members = [] }; kind = static; conditions = []; hidden = [] } in
       let a = get_or (analysis t) n none in
       let some = take n (analysis t) in
       let here : Memᴰ a (analysis t) = mem_get_d (analysis t) n none h in

@@ -8,11 +8,12 @@ pub use preview::missing_of_previews;
 
 use crate::card::{decode, Schema, Task, OUTPUT_LEN};
 use crate::crowded;
-use crate::met::{every_answer, Call, Case, Met, LEFT_MEMBERS, LINES, LONG_ORIGINS, NESTINGS, ORIGINS, RESCUES, SPACES, TALLIES, T_LINES};
+use crate::met::{every_answer, Call, Case, Met, LEFT_MEMBERS, LINES, NESTINGS, RESCUES, SPACES, TALLIES};
 use crate::preview::{Changes, ChangesBytes};
 use crate::proved::{Calls, Found};
 use crate::random::{write_unchecked, Malformed, Random, MALFORMED_PARTS};
 use crate::refusal::{BINDING, OUTPUT, SECTION, STATE};
+use crate::rescue::rescues;
 use crate::strips::{Press, FACT_LEN, MAX_STATE_FACTS, STATE_LEN};
 use crate::vectors::to_hex;
 use std::cmp::Ordering;
@@ -187,14 +188,13 @@ const LONG_COMMIT: Case = ("accepted commit", "in a long buffer");
 const FULL_BEFORE_COMMIT: Case = ("accepted commit", "on 1,024 facts");
 const FULL_AFTER_COMMIT: Case = ("accepted commit", "to 1,024 facts");
 
-/// What random cards have to bring up and did not: every answer of the calls that take a card alone, every kind of space, of line, of
-/// `T` line and of nesting, conditions that come from everywhere, 64 conditions and a 65th from several starts, every way that a rescue
-/// goes, short and long buffers, section numbers past the last.
+/// What random cards have to bring up and did not: every answer of the calls that take a card alone, every kind of space, of line and
+/// of nesting, 64 conditions and a 65th from several starts, every way that a rescue goes, short and long buffers, section numbers past
+/// the last.
 pub fn missing_of_cards(met: &Met) -> Vec<String> {
     let calls = [Call::Check, Call::Initial, Call::Rewrite, Call::Section];
     let buffers = [SHORT_STATE, LONG_STATE, SHORT_OUTPUT, LONG_OUTPUT, NEAR_SECTION, FAR_SECTION];
-    let of_spaces = [&SPACES[..], &LINES, &T_LINES, &LONG_ORIGINS, &NESTINGS, &ORIGINS, &TALLIES, &RESCUES, &LEFT_MEMBERS].concat();
-    met.missing(&every_answer(&calls), &[&of_spaces[..], &buffers].concat())
+    met.missing(&every_answer(&calls), &[&SPACES[..], &LINES, &NESTINGS, &TALLIES, &RESCUES, &LEFT_MEMBERS, &buffers].concat())
 }
 
 /// What random histories have to bring up and did not: every answer of a press, every part of 15 and of 17, full states, short and
@@ -295,13 +295,12 @@ impl<'a> Comparison<'a> {
         }
     }
 
-    /// A random card, whole, crowded, with hidden attributes, with repeated schemas or damaged, and all that is asked of a card alone.
+    /// A random card, whole, crowded, with hidden attributes or damaged, and all that is asked of a card alone.
     pub fn random_card(&mut self) -> Result<(), Difference> {
         let card = match self.random.below(100) {
             0 => return self.crowded_card(),
             1..=10 => write_unchecked(&self.random.hiding_task()),
-            11 | 12 => write_unchecked(&self.random.repeating_task()),
-            13..=69 => self.random.card(),
+            11..=69 => self.random.card(),
             70..=89 => {
                 let refusal = self.random.within(1, 14) as u8;
                 self.random.refused_card(refusal)
@@ -334,11 +333,13 @@ impl<'a> Comparison<'a> {
         self.call_into(card, Request::Rewrite, length)?;
 
         let mut number = 0;
-        while self.section(card, number, OUTPUT_LEN)?.answer.is_ok() {
+        let mut any_mixed = false;
+        while let Outcome { answer: Ok(length), bytes } = self.section(card, number, OUTPUT_LEN)? {
+            any_mixed |= bytes[..length].starts_with(format!("S {number} M").as_bytes());
             number += 1;
         }
-        if let Ok(task) = decode(card) {
-            self.met.spaces(&task);
+        if let (true, Ok(task)) = (any_mixed, decode(card)) {
+            rescues(&task).iter().for_each(|(mixed, rescue)| self.met.rescue(mixed, rescue));
         }
         self.wild_section(card, number)
     }

@@ -1,5 +1,5 @@
 //! Crowded cards: a property space with about 64 distinct conditions from several starts, and one beside it; the conditions of both in
-//! closed form, and where they come from (document 01, "Conditions"; document 02, requests 3 and 6).
+//! closed form (document 01, "Conditions"; document 02, request 3).
 //!
 //! A crowded card has predicates p/2 and q/2 and one schema, which takes p(X,Y) and adds q(X,Y). Space 0 has the first positions of both,
 //! space 1 the second ones. Each has one rule, from p to q, so that a condition is a number of p and a number of q. The members of
@@ -68,14 +68,6 @@ pub fn conditions(starts: &[Condition]) -> BTreeSet<Condition> {
     starts.iter().copied().flat_map(own_list).collect()
 }
 
-/// The condition that one of these starts' conditions came from, on the first own list that has it; none for a start. Two lead to it, both
-/// with one p more: one with as many q, and one with a q less. The first of them comes first, if it is on the list.
-pub fn came_from(starts: &[Condition], (p, q): Condition) -> Option<Condition> {
-    let own = starts.iter().copied().map(own_list).find(|own| own.contains(&(p, q)))?;
-    let swallowed = (p + 1, q);
-    (!starts.contains(&(p, q))).then(|| if own.contains(&swallowed) { swallowed } else { (p + 1, q - 1) })
-}
-
 /// The index of the start whose own search meets the 65th condition, if there are so many. All starts count from the beginning.
 pub fn start_of_65th(starts: &[Condition]) -> Option<usize> {
     let mut met: BTreeSet<Condition> = starts.iter().copied().collect();
@@ -85,8 +77,7 @@ pub fn start_of_65th(starts: &[Condition]) -> Option<usize> {
     })
 }
 
-/// Holds both spaces of a crowded card's listing, or of its first two sections, to the closed form: the kind, the `T` lines, and where
-/// their conditions come from, by the first start whose own list has them.
+/// Holds both spaces of a crowded card's listing, or of its first two sections, to the closed form: the kind and the `T` lines.
 pub fn check(starts: &[Condition], text: &str) -> Result<(), String> {
     let listing = Listing::parse(text).ok_or("what was listed is no listing")?;
     if listing.spaces.len() != 2 {
@@ -101,14 +92,6 @@ pub fn check(starts: &[Condition], text: &str) -> Result<(), String> {
         if space.kind != kind || !lines.into_iter().eq(conditions.into_iter().map(|(p, q)| vec![p, q])) {
             let listed = format!("{} with {} conditions", space.kind, space.bags.len());
             return Err(format!("the space of starts {starts:?} is listed as {listed}, and is {kind} of {number}"));
-        }
-        for (bag, origin) in space.bags.iter().zip(&space.origins) {
-            let condition = (bag[0], bag[1]);
-            let from = came_from(&starts, condition);
-            let index = from.and_then(|(p, q)| space.bags.iter().position(|bag| *bag == [p, q]));
-            if *origin != index.map(|index| (index, 0)) {
-                return Err(format!("{condition:?} of starts {starts:?} has the origin {origin:?}, and comes from {from:?}"));
-            }
         }
     }
     Ok(())

@@ -1,13 +1,13 @@
 //! Random histories by one implementation's calls, presses, asks and commits mixed: the `E` lines of its listing checked against the `T`
-//! lines, where conditions come from against the card's rules, and every other line against the state after each call.
+//! lines, and every other line against the state after each call.
 
 use crate::card::Task;
-use crate::met::{Call, Case, Met, LINES, NESTINGS, SPACES, T_LINES};
+use crate::met::{Call, Case, Met, LINES, NESTINGS, SPACES};
 use crate::preview::{ChangesBytes, CHANGES_LEN};
 use crate::proved::Calls;
 use crate::random::{write_unchecked, Damaged, Random};
 use crate::strips::{Press, FACT_LEN, STATE_LEN};
-use crate::truth::{check, check_nestings, check_origins, check_rescues, Listing};
+use crate::truth::{check, check_nestings, check_rescues, Listing};
 use crate::vectors::to_hex;
 use std::fmt;
 
@@ -116,7 +116,6 @@ impl<'a> Histories<'a> {
         let listing = Listing::parse(text).ok_or("what was listed is no listing")?;
         check_nestings(&listing)?;
         check_rescues(&listing)?;
-        check_origins(task, &listing)?;
         self.histories += 1;
         self.rescued += listing.spaces.iter().any(|space| space.kind == "H" && !space.members.is_empty()) as usize;
         let opened = self.calls.initial(card, &mut history.state);
@@ -179,13 +178,13 @@ impl<'a> Histories<'a> {
     }
 
     /// What never came up: a press, an ask or a commit that is accepted or refused by 16 to 20, a commit that is refused by 23, one in the
-    /// state that was asked about, in another one, or of something damaged; a kind of space, of line, of `T` line or of nesting. Or what
-    /// came up too seldom: a rescued space with members.
+    /// state that was asked about, in another one, or of something damaged; a kind of space, of line or of nesting. Or what came up too
+    /// seldom: a rescued space with members.
     pub fn missing(&self) -> Vec<String> {
         let calls = [Call::Press, Call::Preview, Call::Commit];
         let answers = calls.into_iter().flat_map(|call| [0, 16, 17, 18, 19, 20].map(|answer| (call, answer)));
         let answers: Vec<(Call, u8)> = answers.chain([(Call::Commit, 23)]).collect();
-        let mut missing = self.met.missing(&answers, &[&SPACES[..], &LINES, &T_LINES, &NESTINGS, &[AS_ASKED, OUTDATED, DAMAGED]].concat());
+        let mut missing = self.met.missing(&answers, &[&SPACES[..], &LINES, &NESTINGS, &[AS_ASKED, OUTDATED, DAMAGED]].concat());
         if self.rescued * RESCUED < self.histories {
             missing.push(format!("a rescued space with members in one history of {RESCUED}"));
         }

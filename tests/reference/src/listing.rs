@@ -1,10 +1,10 @@
-//! The listing's text: one section per space, then a closing section (document 01, "Listing"; of document 02 request 2: `E` lines,
-//! request 5: what a rescue lists, and request 6: where a condition comes from).
+//! The listing's text: one section per space, then a closing section (document 01, "Listing"; of document 02 request 2: `E` lines, and
+//! request 5: what a rescue lists).
 
 use crate::card::{decode, Task, OUTPUT_LEN};
 use crate::refusal::*;
 use crate::rescue::{rescue, End};
-use crate::tim::{compare, contains, each, Analysis, Bags, Compared, Extension, Kind, Lists, Origin, Space};
+use crate::tim::{compare, contains, each, Analysis, Bags, Compared, Extension, Kind, Space};
 
 /// Writes one section from byte 0 of `out` and answers its length. Refuses by 1 to 14, then 21, then 22.
 pub fn section(card: &[u8], number: usize, out: &mut [u8]) -> Result<usize, u8> {
@@ -63,11 +63,11 @@ fn space_section(analysis: &Analysis, number: usize, extension: Option<&Extensio
     };
     space_line(number, kind, space, text);
     match extension {
-        Some(Extension::Bags(lists)) => bag_lines(analysis, space, lists, text),
+        Some(Extension::Bags(bags)) => bag_lines(analysis, space, bags, text),
         Some(Extension::Mixed(mixed)) => {
-            if let End::Listed(left, lists) = rescue(analysis, space, mixed).end {
+            if let End::Listed(left, bags) = rescue(analysis, space, mixed).end {
                 space_line(number, "H", &left, text);
-                bag_lines(analysis, &left, &lists, text);
+                bag_lines(analysis, &left, &bags, text);
             }
         }
         _ => {}
@@ -90,19 +90,12 @@ fn space_line(number: usize, kind: &str, space: &Space, text: &mut Text) {
 }
 
 /// What stands below the S line of a space that is listed with its bags; nothing where no object is a member.
-fn bag_lines(analysis: &Analysis, space: &Space, Lists { bags, origins, .. }: &Lists, text: &mut Text) {
+fn bag_lines(analysis: &Analysis, space: &Space, bags: &Bags, text: &mut Text) {
     if bags.is_empty() {
         return;
     }
-    for (bag, origin) in bags.iter().zip(origins) {
+    for bag in bags.iter() {
         text.first("T");
-        match *origin {
-            Origin::Opening => text.item("-"),
-            Origin::Led { index, schema } => {
-                text.number(index);
-                text.number(schema);
-            }
-        }
         text.item(":");
         for &count in bag {
             text.number(count.into());
@@ -187,7 +180,7 @@ fn fixed_total(analysis: &Analysis, extensions: &[Option<Extension>], predicate:
         let number = analysis.space_of[property];
         let space = &analysis.spaces[number];
         // Of a mixed space none, whatever its rescue lists.
-        let Some(Extension::Bags(Lists { bags, .. })) = &extensions[number] else { return None };
+        let Some(Extension::Bags(bags)) = &extensions[number] else { return None };
         let place = space.properties.iter().position(|&other| other == property)?;
         let mut counts = bags.iter().map(|bag| bag[place]);
         let count = counts.next()?;

@@ -1,10 +1,9 @@
 //! What a run has met: how often each call gave each answer, and how often each named case came up,
 //! so that a run which left something out is told from one that passed.
 
-use crate::card::Task;
 use crate::crowded::{conditions, start_of_65th, Condition, MOST_CONDITIONS};
-use crate::rescue::{rescue, End, Rescue};
-use crate::tim::{Analysis, Extension, Kind, Lists, OnList, Origin, Space};
+use crate::rescue::{End, Rescue};
+use crate::tim::Space;
 use std::collections::{BTreeMap, BTreeSet};
 use std::fmt;
 
@@ -67,18 +66,6 @@ pub const SPACES: [Case; 6] = [("space", "S"), ("space", "A"), ("space", "P"), (
 pub const LINES: [Case; 9] =
     [("line", "S"), ("line", "T"), ("line", "M"), ("line", "D"), ("line", "X"), ("line", "E"), ("line", "F"), ("line", "C"), ("line", "R")];
 
-/// What stands before the colon of a `T` line.
-pub const T_LINES: [Case; 3] = [OPENING, LED, LED_IN_RESCUE];
-
-/// The same, with longer numbers.
-pub const LONG_ORIGINS: [Case; 2] = [LONG_INDEX, LONG_SCHEMA];
-
-const OPENING: Case = ("T line", "opening");
-const LED: Case = ("T line", "index and schema");
-const LED_IN_RESCUE: Case = ("T line", "index and schema in H");
-const LONG_INDEX: Case = ("T line", "index of two digits");
-const LONG_SCHEMA: Case = ("T line", "schema of two digits");
-
 /// What the `E` lines of a space are like.
 pub const NESTINGS: [Case; 5] = [ALONE, BESIDE_X, ABOVE, BELOW, CHAIN];
 
@@ -119,22 +106,6 @@ const ALL_MEMBERS: Case = ("members of a rescue", "all");
 const FEWER_MEMBERS: Case = ("members of a rescue", "some");
 const NO_MEMBER: Case = ("members of a rescue", "none");
 
-/// Where the conditions of a space come from.
-pub const ORIGINS: [Case; 8] =
-    [RESULT_OPENS, LATER_LIST, OTHER_PLACE, TWO_ORIGINS, TWO_SCHEMAS, BEHIND_REPEATED, RESCUED, RESCUED_TWO_SCHEMAS];
-
-const RESULT_OPENS: Case = ("origin", "an opening condition that was first met as a result");
-const LATER_LIST: Case = ("origin", "on a later start's list");
-/// The condition that it came from has another place on the own list than in the joined one.
-const OTHER_PLACE: Case = ("origin", "at another place of the own list");
-const TWO_ORIGINS: Case = ("origin", "another one on a later list");
-/// A later schema has the same rule.
-const TWO_SCHEMAS: Case = ("origin", "by a rule of two schemas");
-/// A rule before it is the same as one before that.
-const BEHIND_REPEATED: Case = ("origin", "by a rule behind a repeated one");
-const RESCUED: Case = ("origin", "in H");
-const RESCUED_TWO_SCHEMAS: Case = ("origin", "in H, by a rule of two schemas");
-
 #[derive(Clone, Debug, Default)]
 pub struct Met {
     answers: BTreeMap<(Call, u8), usize>,
@@ -162,7 +133,6 @@ impl Met {
             }
         }
         for space in lines.chunk_by(|_, next| !next.starts_with("S ")) {
-            t_lines(space).for_each(|case| self.case(case));
             nestings(space).for_each(|case| self.case(case));
         }
     }
@@ -175,18 +145,6 @@ impl Met {
         }
         if number == MOST_CONDITIONS + 1 && start_of_65th(starts) > Some(0) {
             self.case(OVER);
-        }
-    }
-
-    /// The property spaces of a task: how mixed ones are rescued, and where conditions come from.
-    pub fn spaces(&mut self, task: &Task) {
-        let analysis = Analysis::new(task);
-        for space in analysis.spaces.iter().filter(|space| space.kind == Kind::Property) {
-            match analysis.extension(space) {
-                Extension::Mixed(mixed) => self.rescue(space, &rescue(&analysis, space, &mixed)),
-                Extension::Bags(lists) => self.origins(space, &lists, false),
-                Extension::Wide => {}
-            }
         }
     }
 
@@ -204,8 +162,7 @@ impl Met {
             (End::Wide, 1) => WIDE,
             (End::Wide, _) => LATER_WIDE,
         });
-        let End::Listed(left, lists) = end else { return };
-        self.origins(left, lists, true);
+        let End::Listed(left, _) = end else { return };
         if left.transitions.len() < mixed.transitions.len() {
             self.case(FEWER_RULES);
         }
@@ -214,33 +171,6 @@ impl Met {
             members if members == mixed.members => ALL_MEMBERS,
             _ => FEWER_MEMBERS,
         });
-    }
-
-    /// Where the conditions of a listed space, or of a rescue, come from.
-    fn origins(&mut self, space: &Space, Lists { origins, own, .. }: &Lists, rescued: bool) {
-        let rules = &space.transitions;
-        let same = |one: usize, other: usize| rules[one].start == rules[other].start && rules[one].finish == rules[other].finish;
-        for (bag, origin) in origins.iter().enumerate() {
-            // The own lists that have the condition, each with its number and with where it met the condition.
-            let mut lists = own.iter().enumerate().filter_map(|(number, list)| Some((number, list, list.iter().find(|on| on.bag == bag)?)));
-            let Some((number, list, &OnList { came_from: Some((from, rule)), .. })) = lists.next() else { continue };
-            let &Origin::Led { schema, .. } = origin else {
-                self.case(RESULT_OPENS);
-                continue;
-            };
-            let two_schemas = (0..rules.len()).any(|other| same(rule, other) && rules[other].schema != schema);
-            let differs = |(other, by): (usize, usize)| (other, rules[by].schema) != (from, schema);
-            let met = [
-                (LATER_LIST, number > 0),
-                (OTHER_PLACE, list.iter().position(|on| on.bag == from) != Some(from)),
-                (TWO_ORIGINS, lists.any(|(_, _, on)| on.came_from.is_some_and(differs))),
-                (TWO_SCHEMAS, two_schemas),
-                (BEHIND_REPEATED, (0..rule).any(|second| (0..second).any(|first| same(first, second)))),
-                (RESCUED, rescued),
-                (RESCUED_TWO_SCHEMAS, rescued && two_schemas),
-            ];
-            met.into_iter().filter(|(_, met)| *met).for_each(|(case, _)| self.case(case));
-        }
     }
 
     pub fn calls(&self) -> usize {
@@ -256,24 +186,7 @@ impl Met {
     }
 }
 
-/// The cases that the `T` lines of one space are, each as often as it is there.
-fn t_lines<'a>(lines: &'a [&str]) -> impl Iterator<Item = Case> + 'a {
-    let rescued = lines[0].split(' ').nth(2) == Some("H");
-    let heads = lines.iter().filter_map(|line| Some(line.strip_prefix("T ")?.split_once(" :")?.0));
-    heads.flat_map(move |head| {
-        let (index, schema) = head.split_once(' ').unwrap_or(("", ""));
-        let met = [
-            (OPENING, head == "-"),
-            (LED, head != "-"),
-            (LED_IN_RESCUE, head != "-" && rescued),
-            (LONG_INDEX, index.len() > 1),
-            (LONG_SCHEMA, schema.len() > 1),
-        ];
-        met.into_iter().filter(|(_, met)| *met).map(|(case, _)| case)
-    })
-}
-
-/// The cases that the `E` lines of one space are.
+/// The cases that the lines of one space are.
 fn nestings(lines: &[&str]) -> impl Iterator<Item = Case> {
     let pair = |line: &&str| {
         let (inner, outer) = line.strip_prefix("E ")?.split_once(' ')?;

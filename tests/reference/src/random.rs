@@ -142,24 +142,6 @@ impl Random {
         }
     }
 
-    /// A task with up to 32 schemas that are few and come again and again, one of them in front up to twenty times: what leads to a
-    /// condition is in several schemas, and the first of these may be a late one.
-    pub fn repeating_task(&mut self) -> Task {
-        let mut task = if self.once_in(2) { self.hiding_task() } else { self.task() };
-        let schemas = task.schemas().to_vec();
-        let Some(&front) = self.pick(&schemas) else { return task };
-        let mut repeated = schemas.clone();
-        for _ in 0..self.below(MAX_SCHEMAS - schemas.len() + 1).min(4) {
-            repeated.push(schemas[self.below(schemas.len())]);
-        }
-        self.shuffle(&mut repeated);
-        let copies = self.below(20).min(MAX_SCHEMAS - repeated.len());
-        repeated.splice(..0, vec![front; copies]);
-        task.schema_places[..repeated.len()].copy_from_slice(&repeated);
-        task.schema_count = repeated.len() as u8;
-        task
-    }
-
     /// Other facts in the place of the task's, up to `count`.
     fn replace_facts(&mut self, task: &mut Task, count: usize) {
         let facts = self.facts(task, count);

@@ -1,7 +1,7 @@
 //! The rescue of a mixed space: its hidden attributes are dropped, and what is left is listed again (document 02, request 5; 000, 2.8).
 
 use crate::card::Task;
-use crate::tim::{each, Analysis, Containing, Extension, Kind, Lists, Space, Sparse, Transition};
+use crate::tim::{each, Analysis, Bags, Containing, Extension, Kind, Space, Sparse, Transition};
 
 /// How a rescue went: its number of rounds, and how the last of them ended.
 #[derive(Clone, Debug)]
@@ -12,8 +12,8 @@ pub struct Rescue {
 
 #[derive(Clone, Debug)]
 pub enum End {
-    /// As P, which prints as H: what is left of the space, and its lists.
-    Listed(Space, Lists),
+    /// As P, which prints as H: what is left of the space, and its bags.
+    Listed(Space, Bags),
     /// As W, which prints nothing.
     Wide,
     /// A restricted rule has one empty side.
@@ -37,7 +37,7 @@ pub fn rescue(analysis: &Analysis, space: &Space, mixed: &Containing) -> Rescue 
         match analysis.extension(&left) {
             Extension::Mixed(again) => mixed = again,
             Extension::Wide => return Rescue { rounds, end: End::Wide },
-            Extension::Bags(lists) => return Rescue { rounds, end: End::Listed(left, lists) },
+            Extension::Bags(bags) => return Rescue { rounds, end: End::Listed(left, bags) },
         }
     }
 }
@@ -48,8 +48,7 @@ fn narrowed(analysis: &Analysis, space: &Space, Containing { containing, contain
     let larger = |place: usize| containing[place] > contained[place];
     let properties: Vec<usize> = (0..space.properties.len()).filter(|&place| !larger(place)).map(|place| space.properties[place]).collect();
     let restricted = |bag: &Sparse| bag.iter().filter(|(property, _)| properties.contains(property)).copied().collect::<Sparse>();
-    let rule = |Transition { schema, enablers, start, finish }: &Transition| Transition {
-        schema: *schema,
+    let rule = |Transition { enablers, start, finish }: &Transition| Transition {
         enablers: *enablers,
         start: restricted(start),
         finish: restricted(finish),

@@ -1,9 +1,8 @@
 //! Whether a listing is true of a state (document 01, "True of a state", and the owner's demand 3; of what a rescue lists too: document
-//! 02, request 5). What says nothing of states is checked once: whether `E` lines follow from the `T` lines (document 02, request 2), and
-//! whether each condition is one use of a rule away from the one that it is said to come from (request 6).
+//! 02, request 5), and whether its `E` lines, which say nothing of states, follow from its `T` lines (document 02, request 2).
 //! It works from the listing's text, parsed back line by line, and from the card; it shares nothing with the analysis.
 
-use crate::card::{Atoms, Schema, Task};
+use crate::card::{Schema, Task};
 use crate::strips::FACT_LEN;
 
 /// A listing, parsed back from its lines.
@@ -25,9 +24,8 @@ pub struct SpaceLines {
     pub kind: String,
     pub properties: Vec<usize>,
     pub members: Vec<usize>,
-    /// `T` lines: the counts, and the index and the schema that the condition comes from, none for an opening condition.
+    /// `T` lines.
     pub bags: Vec<Vec<usize>>,
-    pub origins: Vec<Option<(usize, usize)>>,
     /// `M` lines: property and most.
     pub limits: Vec<(usize, usize)>,
     /// `D` lines.
@@ -81,14 +79,9 @@ impl Listing {
             if "TMDXE".contains(letter) && !listing.spaces.last()?.gives_conditions() {
                 return None;
             }
-            if letter == "T" {
-                let [counts] = <[Vec<usize>; 1]>::try_from(lists).ok()?;
-                listing.spaces.last_mut()?.bags.push(counts);
-                listing.spaces.last_mut()?.origins.push(origin(head)?);
-                continue;
-            }
             let head = numbers(head)?;
             match (letter, head.as_slice(), lists.as_slice()) {
+                ("T", [], [counts]) => listing.spaces.last_mut()?.bags.push(counts.clone()),
                 ("M", &[property, most], []) => listing.spaces.last_mut()?.limits.push((property, most)),
                 ("D", &[bag], []) => listing.spaces.last_mut()?.least.push(bag),
                 ("X", &[one, other], []) => listing.spaces.last_mut()?.exclusions.push((one, other)),
@@ -113,15 +106,6 @@ impl Listing {
     }
 }
 
-/// What stands before the colon of a `T` line: a hyphen, or an index and a schema.
-fn origin(head: &str) -> Option<Option<(usize, usize)>> {
-    match numbers(head).as_deref() {
-        None if head == "-" => Some(None),
-        Some(&[index, schema]) => Some(Some((index, schema))),
-        _ => None,
-    }
-}
-
 fn numbers(text: &str) -> Option<Vec<usize>> {
     text.split_whitespace().map(|word| word.parse().ok()).collect()
 }
@@ -138,11 +122,6 @@ impl State {
             (bytes[0] as usize, bytes[1..=arity].iter().map(|&object| object as usize).collect())
         };
         State { facts: bytes.chunks_exact(FACT_LEN).map(fact).collect() }
-    }
-
-    fn opening(task: &Task) -> State {
-        let objects = |fact| task.arguments(fact).iter().map(|&object| object as usize).collect();
-        State { facts: task.facts().iter().map(|fact| (fact.predicate as usize, objects(fact))).collect() }
     }
 
     fn facts_of(&self, predicate: usize) -> usize {
@@ -163,17 +142,14 @@ impl State {
     }
 }
 
-/// The properties of a task: predicate and position.
-fn properties(task: &Task) -> Vec<(usize, usize)> {
-    let arities = task.arities().iter().map(|&arity| arity as usize).enumerate();
-    arities.flat_map(|(predicate, arity)| (0..arity).map(move |position| (predicate, position))).collect()
-}
-
 /// Checks every line of a card's listing, and the rest of demand 3, against the facts of a state. Says what is false.
 pub fn check(task: &Task, listing: &Listing, facts: &[u8]) -> Result<(), String> {
     let state = State::new(task, facts);
+    let arities = task.arities().iter().map(|&arity| arity as usize).enumerate();
+    let properties: Vec<(usize, usize)> =
+        arities.flat_map(|(predicate, arity)| (0..arity).map(move |position| (predicate, position))).collect();
     let objects = task.object_count as usize;
-    let counts = state.counts(&properties(task), objects);
+    let counts = state.counts(&properties, objects);
 
     for space in &listing.spaces {
         check_space(space, &counts, objects).map_err(|fault| format!("{}: {fault}", space.name()))?;
@@ -240,82 +216,6 @@ fn check_nestings_of(SpaceLines { bags, nestings, .. }: &SpaceLines) -> Result<(
         }
     }
     Ok(())
-}
-
-/// Checks where the conditions come from: the lines `T -` have the conditions that members open with, and no others; any other line names
-/// a condition before it and a schema, a rule of which leads from that condition to this one. Says what is wrong.
-pub fn check_origins(task: &Task, listing: &Listing) -> Result<(), String> {
-    let counts = State::opening(task).counts(&properties(task), task.object_count as usize);
-    let rules: Vec<Vec<Rule>> = task.schemas().iter().map(|schema| rules_of(task, schema)).collect();
-    for space in &listing.spaces {
-        check_origins_of(space, &counts, &rules).map_err(|fault| format!("{}: {fault}", space.name()))?;
-    }
-    Ok(())
-}
-
-fn check_origins_of(space: &SpaceLines, opening: &[Vec<usize>], rules: &[Vec<Rule>]) -> Result<(), String> {
-    let opens = |object: usize| -> Vec<usize> { space.properties.iter().map(|&property| opening[property][object]).collect() };
-    for (at, (bag, &origin)) in space.bags.iter().zip(&space.origins).enumerate() {
-        let opener = space.members.iter().find(|&&member| opens(member) == *bag);
-        let (from, schema) = match (origin, opener) {
-            (None, Some(_)) => continue,
-            (None, None) => return Err(format!("T - : {bag:?}, but no member opens with it")),
-            (Some((from, schema)), Some(object)) => return Err(format!("T {from} {schema} : {bag:?}, but object {object} opens with it")),
-            (Some(origin), None) => origin,
-        };
-        if from >= at {
-            return Err(format!("T {from} {schema} : {bag:?}, but this is condition {at}"));
-        }
-        let leads = |rule: &Rule| leads(&space.properties, rule, &space.bags[from], bag);
-        if !rules.get(schema).is_some_and(|rules| rules.iter().any(leads)) {
-            return Err(format!("T {from} {schema} : {bag:?}, but no rule of schema {schema} leads there from {:?}", space.bags[from]));
-        }
-    }
-    Ok(())
-}
-
-/// A rule's start and finish, as counts of all properties.
-struct Rule {
-    start: Vec<usize>,
-    finish: Vec<usize>,
-}
-
-/// The rules of a schema, whatever the role, but for those without a start, which no listed condition comes from.
-fn rules_of(task: &Task, schema: &Schema) -> Vec<Rule> {
-    let properties = properties(task);
-    let mut rules = Vec::new();
-    for role in 0..schema.parameters {
-        let counts = |atoms: &Atoms| -> Vec<usize> {
-            let here = |&(predicate, position): &(usize, usize)| {
-                let atoms = atoms.as_slice().iter().filter(|atom| atom.predicate as usize == predicate);
-                atoms.filter(|atom| atom.arguments[position] == role).count()
-            };
-            properties.iter().map(here).collect()
-        };
-        let (mut start, mut finish) = (counts(&schema.deletes), counts(&schema.adds));
-        for property in 0..properties.len() {
-            let both = start[property].min(finish[property]);
-            if both > 0 {
-                let mut one = vec![0; properties.len()];
-                one[property] = 1;
-                rules.push(Rule { start: one.clone(), finish: one });
-            }
-            start[property] -= both;
-            finish[property] -= both;
-        }
-        rules.push(Rule { start, finish });
-    }
-    rules
-}
-
-/// Whether one use of a rule, restricted to these properties, leads from a condition to another: the start goes, and of what comes to a
-/// property as much is swallowed, at most, as is left there.
-fn leads(properties: &[usize], Rule { start, finish }: &Rule, from: &[usize], to: &[usize]) -> bool {
-    let fits = |((&property, &count), result): ((&usize, &usize), &usize)| match count.checked_sub(start[property]) {
-        Some(left) => (left.max(finish[property])..=left + finish[property]).contains(result),
-        None => false,
-    };
-    properties.iter().any(|&property| start[property] > 0) && properties.iter().zip(from).zip(to).all(fits)
 }
 
 fn check_space(space: &SpaceLines, counts: &[Vec<usize>], objects: usize) -> Result<(), String> {

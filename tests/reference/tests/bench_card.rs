@@ -19,13 +19,13 @@ fn space(card: &[u8], number: usize) -> Vec<String> {
 fn k1_prints_its_listing() {
     let expected = "\
 S 0 P : 0 1 : 0 1
-T - : 1 0
-T 0 0 : 0 1
+T : 1 0
+T : 0 1
 D 0
 D 1
 X 0 1
 S 1 P : 2 : 0 1
-T - : 1
+T : 1
 M 2 1
 D 0
 S 2 A : 3 : 2 3
@@ -65,13 +65,13 @@ fn k3_presses_twice() {
 #[test]
 fn k4_lists_an_absorbed_add() {
     let card = from_hex("02 01 01 01 01 0E 01 00 00 01 00 00 01 01 00 00 02 00 00 01 00");
-    assert_eq!(space(&card, 0), ["S 0 P : 0 1 : 0", "T - : 1 1", "T 0 0 : 0 2", "T 0 0 : 0 1", "D 2", "E 2 0", "E 2 1"]);
+    assert_eq!(space(&card, 0), ["S 0 P : 0 1 : 0", "T : 1 1", "T : 0 2", "T : 0 1", "D 2", "E 2 0", "E 2 1"]);
 }
 
 #[test]
 fn k5_is_mixed_and_rescued() {
     let card = from_hex("03 01 01 01 01 02 0E 01 01 00 01 01 00 02 00 00 02 00 0E 01 00 00 01 00 00 02 01 00 02 00 00 01 01 00");
-    assert_eq!(space(&card, 0), ["S 0 M : 0 1 2 : 0", "S 0 H : 0 1 : 0", "T - : 0 1", "T 0 0 : 1 0", "D 0", "D 1", "X 0 1"]);
+    assert_eq!(space(&card, 0), ["S 0 M : 0 1 2 : 0", "S 0 H : 0 1 : 0", "T : 0 1", "T : 1 0", "D 0", "D 1", "X 0 1"]);
 }
 
 /// p/2, q/2; the rule takes p(X,Y) and adds q(X,Y); p(0,1) to p(0,last).

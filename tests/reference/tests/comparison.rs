@@ -1,8 +1,7 @@
 //! The comparison passes two equal implementations and finds a fault in each part of a faulty one.
 
 use reference::comparison::{missing_of_cards, missing_of_histories, missing_of_open, missing_of_previews, Comparison};
-use reference::examples::task;
-use reference::met::{Call, Met, LONG_ORIGINS, NESTINGS, ORIGINS, TALLIES, T_LINES};
+use reference::met::{Call, Met, NESTINGS, TALLIES};
 use reference::open::Given;
 use reference::preview::{Changes, ChangesBytes, CHANGES_LEN, COMING_AT, GOING_AT};
 use reference::proved::{Calls, Found, Reference};
@@ -20,7 +19,6 @@ enum Fault {
     LeavesTheTail,
     AltersOnRefusal,
     WrongBag,
-    WrongSchema,
     WrongMember,
     TurnsNestingsRound,
     SortsNestingsByOuter,
@@ -53,7 +51,7 @@ enum Fault {
     CommitLeavesTheTail,
 }
 
-const FAULTS: [Fault; 38] = [
+const FAULTS: [Fault; 37] = [
     Fault::AcceptsTrailingBytes,
     Fault::RewritesOneByte,
     Fault::WritesPastTheCard,
@@ -61,7 +59,6 @@ const FAULTS: [Fault; 38] = [
     Fault::LeavesTheTail,
     Fault::AltersOnRefusal,
     Fault::WrongBag,
-    Fault::WrongSchema,
     Fault::WrongMember,
     Fault::TurnsNestingsRound,
     Fault::SortsNestingsByOuter,
@@ -105,12 +102,6 @@ fn change_nestings(out: &mut [u8], text: &str, change: fn(&mut Vec<(usize, usize
     change(&mut pairs);
     let changed: String = pairs.iter().map(|(inner, outer)| format!("E {inner} {outer}\n")).collect();
     out[at..text.len()].copy_from_slice(changed.as_bytes());
-}
-
-/// Where the colon of the fourth `T` line is, with its blanks.
-fn counts_of_a_later_bag(text: &str) -> Option<usize> {
-    let (at, _) = text.match_indices("\nT ").nth(3)?;
-    Some(at + text[at..].find(" : ")?)
 }
 
 /// Clears bytes that were lent to be read, as code on the other side of the C interface could.
@@ -246,7 +237,7 @@ impl Calls for Faulty {
         match self.0 {
             Fault::TurnsNestingsRound => change_nestings(out, &text, |pairs| pairs.iter_mut().for_each(|(one, other)| swap(one, other))),
             Fault::SortsNestingsByOuter => change_nestings(out, &text, |pairs| pairs.sort_by_key(|pair| pair.1)),
-            Fault::IsWideAt64 if text.matches("\nT ").count() == 64 => {
+            Fault::IsWideAt64 if text.matches("\nT :").count() == 64 => {
                 let end = text.find('\n').map_or(0, |at| at + 1);
                 let wide = text[..end].replace(" P : ", " W : ");
                 out[..end].copy_from_slice(wide.as_bytes());
@@ -256,9 +247,8 @@ impl Calls for Faulty {
             _ => {}
         }
         let place = match self.0 {
-            // One count of a later bag, its schema, the last member of an attribute space, the last object of a type.
-            Fault::WrongBag => counts_of_a_later_bag(&text).map(|at| at + 3),
-            Fault::WrongSchema => counts_of_a_later_bag(&text).map(|at| at - 1),
+            // One count of a later bag, the last member of an attribute space, the last object of a type.
+            Fault::WrongBag => text.match_indices("T :").nth(3).map(|(at, _)| at + 4),
             Fault::WrongMember => (text.contains(" A : ") && !text.ends_with(":\n")).then_some(length - 2),
             Fault::WrongClosing => (text.starts_with(['F', 'C', 'R']) && !text.ends_with(":\n")).then_some(length - 2),
             _ => None,
@@ -315,15 +305,15 @@ fn equal_implementations_pass_and_every_case_comes_up() {
     assert_eq!(missing_of_previews(&previews.met), [""; 0]);
 }
 
-/// A record with nothing in it misses everything: 15, 16, 16 and 17 answers, 6 kinds of spaces, 9 of lines, 3 of `T` lines and 2 with
-/// longer numbers, 5 of nestings, 8 of origins, 2 of tallies, 10 of rescues with 3 of their members, and 6 of buffers and numbers.
+/// A record with nothing in it misses everything: 15, 16, 16 and 17 answers, 6 kinds of spaces, 9 of lines, 5 of nestings, 2 of
+/// tallies, 10 of rescues with 3 of their members, and 6 of buffers and numbers.
 #[test]
 fn what_never_came_up_is_missing() {
     let mut met = Met::default();
-    assert_eq!(missing_of_cards(&met).len(), 15 + 16 + 16 + 17 + 6 + 9 + 3 + 2 + 5 + 8 + 2 + 10 + 3 + 6);
+    assert_eq!(missing_of_cards(&met).len(), 15 + 16 + 16 + 17 + 6 + 9 + 5 + 2 + 10 + 3 + 6);
     met.answer(Call::Check, Err(3));
     met.lines("S 0 P : 0 : 1\n");
-    assert_eq!(missing_of_cards(&met).len(), 15 + 16 + 16 + 17 + 6 + 9 + 3 + 2 + 5 + 8 + 2 + 10 + 3 + 6 - 3);
+    assert_eq!(missing_of_cards(&met).len(), 15 + 16 + 16 + 17 + 6 + 9 + 5 + 2 + 10 + 3 + 6 - 3);
     // Of previews 21 and 22 answers, 7 parts of 15 and 3 of 17, 9 kinds of lists, 4 of buffers and full states, 4 of something outdated,
     // and damage: 6 parts of the press, 16 of the lists, the unused places, and 19 and 20 of damaged lists.
     assert_eq!(missing_of_previews(&met).len(), 21 + 22 + 7 + 3 + 9 + 4 + 4 + 6 + 16 + 1 + 2);
@@ -352,56 +342,6 @@ fn nestings_are_told_apart() {
     }
 }
 
-/// Each kind of `T` line is met by lines that are of it, and by no others.
-#[test]
-fn t_lines_are_told_apart() {
-    for (lines, kinds) in [
-        ("S 0 P : 0 1 : 0\nD 0\n", &[] as &[&str]),
-        ("S 0 P : 0 1 : 0\nT - : 10 10\n", &["opening"]),
-        ("S 0 P : 0 1 : 0\nT 0 9 : 10 10\n", &["index and schema"]),
-        ("S 0 M : 0 1 2 : 0\nS 0 H : 0 1 : 0\nT - : 0 1\n", &["opening"]),
-        ("S 0 M : 0 1 2 : 0\nS 0 H : 0 1 : 0\nT 0 0 : 0 1\n", &["index and schema", "index and schema in H"]),
-        ("S 0 P : 0 1 : 0\nT 10 9 : 0 1\n", &["index and schema", "index of two digits"]),
-        ("S 0 P : 0 1 : 0\nT 9 10 : 0 1\n", &["index and schema", "schema of two digits"]),
-    ] {
-        let mut met = Met::default();
-        met.lines(lines);
-        let all = [&T_LINES[..], &LONG_ORIGINS].concat();
-        let missing = met.missing(&[], &all);
-        let found: Vec<&str> = all.iter().map(|case| case.1).filter(|kind| !missing.contains(&format!("T line {kind}"))).collect();
-        assert_eq!(found, kinds, "{lines}");
-    }
-}
-
-/// Each kind of origin is met by a card that has it, and by no others. A schema here takes the first letter and gives the others.
-#[test]
-fn origins_are_told_apart() {
-    for (schemas, facts, kinds) in [
-        ("ab ba", "a(o)", &[] as &[&str]),
-        ("ab ba", "a(o) b(t)", &["an opening condition that was first met as a result"]),
-        ("ab bc cd ce", "a(o) d(t)", &["an opening condition that was first met as a result"]),
-        ("ab cd da", "c(t) a(o)", &["on a later start's list", "at another place of the own list"]),
-        ("ac bc", "a(o) b(t)", &["another one on a later list"]),
-        ("ab ab", "a(o)", &["by a rule of two schemas"]),
-        ("ba ba ab", "a(o)", &["by a rule behind a repeated one"]),
-        ("abe ba", "a(o)", &["in H"]),
-        ("abe ab ba", "a(o)", &["by a rule of two schemas", "in H", "in H, by a rule of two schemas"]),
-    ] {
-        let schema = |(number, letters): (usize, &str)| {
-            let (takes, gives) = letters.split_at(1);
-            let gives: String = gives.chars().map(|letter| format!(" {letter}(x)")).collect();
-            format!("schema s{number} x\npre {takes}(x)\ndel {takes}(x)\nadd{gives}\n")
-        };
-        let schemas: String = schemas.split(' ').enumerate().map(schema).collect();
-        let task = task(&format!("predicates a/1 b/1 c/1 d/1 e/1\nobjects o t\n{schemas}facts {facts}\n")).unwrap();
-        let mut met = Met::default();
-        met.spaces(&task);
-        let missing = met.missing(&[], &ORIGINS);
-        let found: Vec<&str> = ORIGINS.iter().map(|case| case.1).filter(|kind| !missing.contains(&format!("origin {kind}"))).collect();
-        assert_eq!(found, kinds, "{schemas}{facts}");
-    }
-}
-
 /// Each kind of tally is met by starts that come to it, and by no others.
 #[test]
 fn tallies_are_told_apart() {
@@ -426,7 +366,7 @@ fn tallies_are_told_apart() {
 /// Two sides with one fault never differ; of a crowded card the closed form tells.
 #[test]
 fn a_fault_of_both_sides_is_found_on_crowded_cards() {
-    for fault in [Fault::WrongBag, Fault::WrongSchema, Fault::IsWideAt64] {
+    for fault in [Fault::WrongBag, Fault::IsWideAt64] {
         assert!(finds(&Faulty(fault), &Faulty(fault)), "{fault:?}");
     }
 }

@@ -57,7 +57,7 @@ fn a_chain_lists_all_its_pairs_after_x() {
         facts p(a,b) p(a,c) p(a,d)";
     assert_eq!(
         lines_of_space_0(description),
-        "T - : 3 0, T 0 0 : 2 1, T 1 0 : 1 2, T 1 0 : 1 1, T 2 0 : 0 3, T 2 0 : 0 2, T 3 0 : 0 1, M 0 3, M 2 3, D 0, D 6, X 0 6, \
+        "T : 3 0, T : 2 1, T : 1 2, T : 1 1, T : 0 3, T : 0 2, T : 0 1, M 0 3, M 2 3, D 0, D 6, X 0 6, \
          E 3 1, E 3 2, E 5 2, E 5 4, E 6 1, E 6 2, E 6 3, E 6 4, E 6 5"
     );
 }
@@ -73,7 +73,7 @@ fn a_condition_is_within_one_of_another_start() {
         del p(x)
         add q(x)
         facts p(a) p(b) q(b)";
-    assert_eq!(lines_of_space_0(description), "T - : 1 0, T 0 0 : 0 1, T - : 1 1, T 2 0 : 0 2, D 0, D 1, E 0 2, E 1 2, E 1 3");
+    assert_eq!(lines_of_space_0(description), "T : 1 0, T : 0 1, T : 1 1, T : 0 2, D 0, D 1, E 0 2, E 1 2, E 1 3");
 }
 
 #[test]
@@ -105,5 +105,5 @@ fn stored_listings_nest_their_conditions() {
             lines += space.nestings.len();
         }
     }
-    assert_eq!((spaces, lines), (246, 16_873), "spaces with E lines, and E lines");
+    assert_eq!((spaces, lines), (305, 16_771), "spaces with E lines, and E lines");
 }

@@ -91,12 +91,12 @@ fn listings() -> BTreeMap<String, Vec<String>> {
     listings
 }
 
-/// The quotations of a text that are lines of a listing, or begin one: a letter, and then a number, a hyphen or a colon.
+/// The quotations of a text that are lines of a listing, or begin one: a letter, and then a number or a colon.
 fn quotations(text: &str) -> impl Iterator<Item = &str> {
     text.split('`').skip(1).step_by(2).filter(|quoted| {
         let mut words = quoted.split(' ');
         matches!(words.next(), Some("S" | "T" | "M" | "D" | "X" | "E" | "F" | "C" | "R"))
-            && words.next().is_some_and(|word| word == ":" || word == "-" || word.bytes().all(|byte| byte.is_ascii_digit()))
+            && words.next().is_some_and(|word| word == ":" || word.bytes().all(|byte| byte.is_ascii_digit()))
     })
 }
 

@@ -2,7 +2,7 @@
 
 use reference::card::OUTPUT_LEN;
 use reference::histories::Histories;
-use reference::met::{Met, LEFT_MEMBERS, LONG_ORIGINS, ORIGINS, RESCUES, T_LINES};
+use reference::met::{Met, LEFT_MEMBERS, RESCUES};
 use reference::preview::Changes;
 use reference::proved::Reference;
 use reference::random::{trimmed, write_unchecked, Damaged, Random, UNUSED};
@@ -48,22 +48,6 @@ fn hidden_attributes_are_rescued_in_every_way() {
     println!("{mixed} cards with a mixed space\n{met}");
     assert!(mixed >= 700, "{mixed}");
     assert_eq!(met.missing(&[], &[&RESCUES[..], &LEFT_MEMBERS].concat()), [""; 0]);
-}
-
-/// Cards that repeat schemas are accepted, and their conditions come from everywhere.
-#[test]
-fn repeated_schemas_lead_from_everywhere() {
-    let mut random = Random::new(SEED);
-    let mut met = Met::default();
-    for _ in 0..600 {
-        let task = random.repeating_task();
-        let card = write_unchecked(&task);
-        assert_eq!(decode(&card), Ok(trimmed(&task)), "{}", to_hex(&card));
-        met.lines(std::str::from_utf8(&listing(&card)).unwrap());
-        met.spaces(&task);
-    }
-    println!("{met}");
-    assert_eq!(met.missing(&[], &[&T_LINES[..], &LONG_ORIGINS, &ORIGINS].concat()), [""; 0]);
 }
 
 #[test]

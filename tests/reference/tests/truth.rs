@@ -1,12 +1,11 @@
-//! The check of a listing against a state, of its `E` lines against its `T` lines, and of where conditions come from, finds each kind of
-//! false line.
+//! The check of a listing against a state, and of its `E` lines against its `T` lines, finds each kind of false line.
 
 use reference::histories::Histories;
 use reference::open::Given;
 use reference::preview::{Changes, ChangesBytes};
 use reference::proved::{Calls, Found, Reference};
 use reference::strips::{facts_in, FACT_LEN, STATE_LEN};
-use reference::truth::{check, check_nestings, check_origins, check_rescues, Listing};
+use reference::truth::{check, check_nestings, check_rescues, Listing};
 use reference::vectors::{from_hex, K1};
 use reference::{decode, initial, listing, press};
 
@@ -24,8 +23,7 @@ fn verdict(card: &[u8], facts: &[u8], from: &str, to: &str) -> Result<(), String
     let listing = Listing::parse(&text.replacen(from, to, 1)).ok_or("no listing")?;
     check_nestings(&listing)?;
     check_rescues(&listing)?;
-    check(&decode(card).unwrap(), &listing, facts)?;
-    check_origins(&decode(card).unwrap(), &listing)
+    check(&decode(card).unwrap(), &listing, facts)
 }
 
 #[test]
@@ -36,7 +34,7 @@ fn the_listing_of_k1_holds() {
 #[test]
 fn false_lines_of_k1_are_found() {
     let false_lines = [
-        ("T 0 0 : 0 1\n", "T 0 0 : 0 2\n"),
+        ("T : 0 1\n", "T : 0 2\n"),
         ("M 2 1\n", "M 2 0\n"),
         ("D 1\nX 0 1\n", ""),
         ("S 2 A : 3 : 2 3\n", "S 2 A : 3 : 3\n"),
@@ -64,8 +62,8 @@ fn k4() -> (Vec<u8>, Vec<u8>) {
 fn a_false_exclusion_is_found() {
     let (card, facts) = k4();
     assert_eq!(verdict(&card, &facts, "", ""), Ok(()));
-    let listed = "T 0 0 : 0 1\nD 2\nE 2 0\nE 2 1\n";
-    let excluding = "T 0 0 : 0 1\nT 0 0 : 1 0\nD 2\nX 2 3\nE 2 0\nE 2 1\nE 3 0\n";
+    let listed = "T : 0 1\nD 2\nE 2 0\nE 2 1\n";
+    let excluding = "T : 0 1\nT : 1 0\nD 2\nX 2 3\nE 2 0\nE 2 1\nE 3 0\n";
     let fault = verdict(&card, &facts, listed, excluding).unwrap_err();
     assert!(fault.ends_with("contains both of X 2 3"), "{fault}");
 }
@@ -89,29 +87,6 @@ fn false_nestings_are_found() {
     }
 }
 
-#[test]
-fn false_origins_are_found() {
-    let (card, facts) = k4();
-    for (from, to, fault) in [
-        ("T - : 1 1\n", "T 0 0 : 1 1\n", "T 0 0 : [1, 1], but object 0 opens with it"),
-        ("T 0 0 : 0 2\n", "T - : 0 2\n", "T - : [0, 2], but no member opens with it"),
-        ("T 0 0 : 0 2\n", "T 1 0 : 0 2\n", "T 1 0 : [0, 2], but this is condition 1"),
-        ("T 0 0 : 0 2\n", "T 2 0 : 0 2\n", "T 2 0 : [0, 2], but this is condition 1"),
-        ("T 0 0 : 0 2\n", "T 0 1 : 0 2\n", "T 0 1 : [0, 2], but no rule of schema 1 leads there from [1, 1]"),
-        ("T 0 0 : 0 1\n", "T 1 0 : 0 1\n", "T 1 0 : [0, 1], but no rule of schema 0 leads there from [0, 2]"),
-        ("T 0 0 : 0 2\n", "T 0 0 : 0 3\n", "T 0 0 : [0, 3], but no rule of schema 0 leads there from [1, 1]"),
-        ("T 0 0 : 0 2\nT 0 0 : 0 1\n", "T 0 0 : 0 1\nT 0 0 : 0 0\n", "T 0 0 : [0, 0], but no rule of schema 0 leads there from [1, 1]"),
-    ] {
-        let text = String::from_utf8(listing(&card)).unwrap();
-        let listing = Listing::parse(&text.replacen(from, to, 1)).unwrap();
-        assert_eq!(check_origins(&decode(&card).unwrap(), &listing), Err(format!("space 0: {fault}")), "{from} as {to}");
-    }
-    for head in ["", " -  -", " 0", " - 0", " 0 -", " 0 0 0", " a 0"] {
-        let old = format!("T{head} : 0 2\n");
-        assert_eq!(verdict(&card, &facts, "T 0 0 : 0 2\n", &old), Err("no listing".to_string()), "{old}");
-    }
-}
-
 /// K5 with a second object, which opens touched; and its state after schema 0 on object 0, which is on and touched then.
 fn switched_on() -> (Vec<u8>, Vec<u8>) {
     let card = from_hex("03 01 01 01 02 02 0E 01 01 00 01 01 00 02 00 00 02 00 0E 01 00 00 01 00 00 02 01 00 02 00 00 02 01 00 02 01");
@@ -126,13 +101,11 @@ fn false_lines_of_a_rescue_are_found() {
         ("S 0 H : 0 1 : 0\n", "S 0 H : 0 1 :\n", "object 0 is outside and has [1, 0]"),
         ("S 0 H : 0 1 : 0\n", "S 0 H : 0 1 : 0 1\n", "object 1 has [0, 0], which is not listed"),
         ("S 0 H : 0 1 : 0\n", "S 0 H : 0 2 : 0\n", "object 0 has [1, 1], which is not listed"),
-        ("T 0 0 : 1 0\n", "T 0 0 : 2 0\n", "object 0 has [1, 0], which is not listed"),
+        ("T : 1 0\n", "T : 2 0\n", "object 0 has [1, 0], which is not listed"),
         ("D 1\nX 0 1\n", "", "object 0 has [1, 0], which contains no D"),
         ("S 0 H : 0 1 : 0\n", "S 0 H : 0 1 2 : 0\n", "properties [0, 1, 2] are left of [0, 1, 2]"),
         ("S 0 H : 0 1 : 0\n", "S 0 H : : 0\n", "properties [] are left of [0, 1, 2]"),
         ("S 0 M : 0 1 2 : 0 1\n", "S 0 M : 0 1 2 : 1\n", "members [0] are left of [1]"),
-        ("T - : 0 1\n", "T 0 1 : 0 1\n", "T 0 1 : [0, 1], but object 0 opens with it"),
-        ("T 0 0 : 1 0\n", "T 0 1 : 1 0\n", "T 0 1 : [1, 0], but no rule of schema 1 leads there from [0, 1]"),
     ] {
         assert_eq!(verdict(&card, &facts, from, to), Err(format!("space 0, rescued: {fault}")), "{from} as {to}");
     }
@@ -254,15 +227,6 @@ fn turned_round(line: &str) -> String {
     format!("{} {} {}\n", words[0], words[2], words[1])
 }
 
-/// The `T` line with its schema made larger by one, if it has one.
-fn other_schema(line: &str) -> String {
-    let (head, counts) = line.split_once(" :").unwrap();
-    match head.rsplit_once(' ') {
-        Some((index, schema)) if schema != "-" => format!("{index} {} :{counts}\n", schema.parse::<usize>().unwrap() + 1),
-        _ => format!("{line}\n"),
-    }
-}
-
 /// Each kind of line, changed in all listings, is false after one of the first random histories.
 #[test]
 fn false_lines_are_found_in_histories() {
@@ -270,9 +234,6 @@ fn false_lines_are_found_in_histories() {
         ("S", without_last as fn(&str) -> String),
         ("S", |line| if line.contains(" H : ") { without_last(line) } else { format!("{line}\n") }),
         ("T", other_number),
-        ("T", other_schema),
-        ("T", |line| format!("T - :{}\n", line.split_once(" :").unwrap().1)),
-        ("T", |line| format!("{}\n", line.replacen("T -", "T 0 0", 1))),
         ("M", other_number),
         ("D", |_| String::new()),
         ("E", |_| String::new()),

@@ -8,7 +8,7 @@ use reference::{commit, decode, encode, initial, listing, next_open, press, prev
 #[test]
 fn listings_agree() {
     let listings = listings();
-    assert_eq!(listings.len(), 999);
+    assert_eq!(listings.len(), 1_000);
     listings.iter().for_each(agrees);
 }
 

@@ -47,36 +47,33 @@ part-analyse-start c = search rules
 part-analyse-end : tie.Need-slice-bounds-analyse-end
 unfolding own_of_space
 part-analyse-end c =
-    let own = c.before.before.before in
+    let own = c.before.before in
     own_inside own.own-properties.ensures (own_low (entry own).requires)
 
 mul-analyse : tie.Need-overflow-mul-analyse
-mul-analyse c = omega (arith, (sizes_low (entry c.before.before.before.before).requires).1.1)
+mul-analyse c = omega (arith, (sizes_low (entry c.before.before.before).requires).1.1)
 
 element-copy-out-analyse : tie.Need-element-copy-out-analyse
-element-copy-out-analyse c = (sizes_low (entry c.before.before.before.before).requires).1.1
-
-slice-aggregate-analyse : tie.Need-slice-aggregate-analyse
-slice-aggregate-analyse c = search rules
+element-copy-out-analyse c = (sizes_low (entry c.before.before.before).requires).1.1
 
 analyse-requires : tie.Need-analyse-requires
 analyse-requires c κs =
-    let own = c.before.before.before.before.before.before.before.before.before in
+    let own = c.before.before.before.before.before.before.before in
     analysable_space (entry own).requires (own_lent own)
 
 same_length : tie.Need-same-length
-same_length c = (done c).analyse.auto.1.1.1.1.1.1.1.0
+same_length c = (done c).analyse.auto.1.1.1.1.1.1.0
 
 same-length-2 : tie.Need-same-length-2
-same-length-2 c = (done c).analyse.auto.1.1.1.1.1.1.1.1.0
+same-length-2 c = (done c).analyse.auto.1.1.1.1.1.1.1.0
 
 same-length-3 : tie.Need-same-length-3
-same-length-3 c = (done c).analyse.auto.1.1.1.1.1.1.1.1.1.0
+same-length-3 c = (done c).analyse.auto.1.1.1.1.1.1.1.1.0
 
 returns : tie.Need-returns
 unfolding own_of_space
 returns c =
-    let own = (done c).before.before.before.before.before.before.before.before.before.before in
+    let own = (done c).before.before.before.before.before.before.before.before in
     found_at (entry own).pre (own_lent own) own.own-properties.ensures (done c).analyse.ensures
 
 pub analyse-space-spec : {M : Type 1} → statement M
@@ -91,7 +88,6 @@ analyse-space-spec =
     part-analyse-end
     mul-analyse
     element-copy-out-analyse
-    slice-aggregate-analyse
     analyse-requires
     same_length
     same-length-2

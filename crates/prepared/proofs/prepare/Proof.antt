@@ -2,7 +2,6 @@
 use native.Mathlib.Omega.{arith}
 use Rattle.card.specs.Represents.{task_of}
 use Rattle.properties.proofs.TaskParts.{arities_right, schemas_right, facts_right}
-use Rattle.properties.proofs.SchemaLists.{right_small}
 use Rattle.prepared.proofs.Preparing.{tables_are, bags_are, properties_counted, sizes_few, room_for, spaces_are}
 use borrow.Author.Rules.{rules}
 use Rattle.prepared.proofs.prepare.Statement.{statement}
@@ -20,7 +19,7 @@ abbrev objects : tie.After-numbered → tie.After-object-bags
 objects c = c.before.before.before
 
 abbrev filled : tie.After-spaces-of → tie.After-object-bags
-filled c = objects c.before.before.before.before.before.before.before
+filled c = objects c.before.before.before.before.before.before
 
 parameter-bags-requires : tie.Need-parameter-bags-requires
 unfolding task_of
@@ -39,12 +38,9 @@ numbered-requires c κs = (arities_right _ (entry (parameters c.before.before)).
 property-arities-requires : tie.Need-property-arities-requires
 property-arities-requires c κs = arities_right _ (entry (parameters (objects c))).requires.0
 
-parameter-schemas-requires : tie.Need-parameter-schemas-requires
-parameter-schemas-requires c κs = right_small (schemas_right _ (entry (parameters (objects c.before))).requires.0)
-
 spaces-of-requires : tie.Need-spaces-of-requires
 spaces-of-requires c κs =
-    let numbered = c.before.before.before.before.before.before in
+    let numbered = c.before.before.before.before.before in
     let bags = (objects numbered).object-bags in
     let called = parameters (objects numbered) in
     let written = called.parameter-bags in
@@ -76,7 +72,7 @@ same-length-4 c = (filled c).object-bags.auto.1.1.1.0
 returns : tie.Need-returns
 unfolding task_of
 returns c =
-    let numbered = c.before.before.before.before.before.before.before in
+    let numbered = c.before.before.before.before.before.before in
     let bags = (objects numbered).object-bags in
     let called = parameters (objects numbered) in
     let written = called.parameter-bags in
@@ -90,8 +86,7 @@ returns c =
       tables = tables;
       counts_are = counts;
       properties_counted = counted;
-      arities_are = c.before.before.before.before.before.before.property-arities.ensures;
-      schemas_are = c.before.before.before.before.before.parameter-schemas.ensures _;
+      arities_are = c.before.before.before.before.before.property-arities.ensures;
       spaces_are = spaces_are _ pre.0 _ tables counts counted c.spaces-of.ensures room;
     }
 
@@ -103,7 +98,6 @@ prepare-spec =
     object-bags-requires
     numbered-requires
     property-arities-requires
-    parameter-schemas-requires
     spaces-of-requires
     same_length
     same-length-2

@@ -32,8 +32,8 @@ add-result c =
 
 returns : tie.Need-returns
 unfolding rows_at_most properties
-returns c t arities_are schemas_are =
-    ap₂ ◌+◌ (c.parameters-of.ensures _ ∙ ap parameters_in (sym schemas_are))
+returns c t arities_are schemas-are =
+    ap₂ ◌+◌ (c.parameters-of.ensures _ ∙ ap parameters_in (sym schemas-are))
     (c.before.numbered.ensures.counted ∙ ap (λ (arities : List ℕ). length (properties_from 0 arities)) (sym arities_are))
 
 pub rows-at-most-spec : {M : Type 1} → statement M

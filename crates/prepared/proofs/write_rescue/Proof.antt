@@ -8,13 +8,13 @@ use borrow.Author.Rules.{rules}
 use Rattle.laws.proofs.Tests.{not-true, not-false}
 use Rattle.prepared.specs.Found.{analysis_at}
 use Rattle.prepared.proofs.Finding.{number_few}
-use Rattle.prepared.proofs.Rescuing.{rescuable, rescue_unlisted, room_left, listable_rescue, room_rescue, rescue_listed}
+use Rattle.prepared.proofs.Rescuing.{rescuable, rescue_unlisted, few_left, listable_rescue, room_rescue, rescue_listed}
 use Rattle.prepared.proofs.write_rescue.Statement.{statement}
 use Rattle.prepared.proofs.write_rescue.Tie as tie
 
 -- earlier points of the function, each reached from the next: start, the rescue looked for, its properties lent
 abbrev entry : tie.After-rescue → tie.Start
-entry c = c.before.before.before.before.before.before.before.before.before.before.before.before.before.before.before.before
+entry c = c.before.before.before.before.before.before.before.before.before.before.before.before.before.before
 
 abbrev sought : tie.After-list2 → tie.After-rescue
 sought c = c.before.before.before.before.before.before.before.before.before.before.before.before.before
@@ -26,10 +26,7 @@ lent c = c.before.before.before
 is_listed : (c : tie.After-list2) → (sought c).rescue.result.listed ≡ true
 is_listed c = not-false _ c.before.before.before.before.before.if1.false
 
--- the tables of schemas and of arities, as they are lent
-schemas_long : (s : tie.Start) → length s.args.prepared.schemas ≡ 192
-schemas_long s = search rules
-
+-- the table of arities, as it is lent
 arities_long : (s : tie.Start) → length s.args.prepared.arities ≡ 60
 arities_long s = search rules
 
@@ -39,12 +36,9 @@ mul-members c = omega (arith, number_few c.before.before.before.before.before.be
 element-copy-out-members : tie.Need-element-copy-out-members
 element-copy-out-members c = number_few c.before.before.before.before.before.before.before.before.before.requires.0.found.of
 
-slice-aggregate-rescue : tie.Need-slice-aggregate-rescue
-slice-aggregate-rescue c = sym (schemas_long c.before.before.before.before.before.before.before.before.before.before.before.before)
-
 rescue-requires : tie.Need-rescue-requires
 rescue-requires c κs =
-    let s = c.before.before.before.before.before.before.before.before.before.before.before.before.before.before.before in
+    let s = c.before.before.before.before.before.before.before.before.before.before.before.before.before in
     record {
       task = s.requires.0.task;
       analysis = analysis_at s.requires.0.task s.args.number;
@@ -76,9 +70,10 @@ part-write-space-end : tie.Need-slice-bounds-write-space-end
 part-write-space-end c =
     let called = sought c in
     let ready = (entry called).pre.0 in
+    let long : length called.rescue.result.own.properties ≡ 60 = search rules in
     omega (
       arith,
-      room_left ready.found.of (called.rescue.ensures _ _ (rescuable ready.found ready.room)) (is_listed c),
+      few_left ready.found.of (called.rescue.ensures _ _ (rescuable ready.found ready.room)) (is_listed c),
     )
 
 slice-aggregate-write-space : tie.Need-slice-aggregate-write-space
@@ -120,6 +115,6 @@ returns-2 c t h =
 pub write-rescue-spec : {M : Type 1} → statement M
 write-rescue-spec =
     tie.close
-    (tie.spec mul-members element-copy-out-members slice-aggregate-rescue rescue-requires same_length same-length-2 same-length-3 returns sub-write-space
+    (tie.spec mul-members element-copy-out-members rescue-requires same_length same-length-2 same-length-3 returns sub-write-space
     part-write-space-start part-write-space-end slice-aggregate-write-space write-space-requires same-length-4 same-length-5 same-length-6
     same-length-7 returns-2)

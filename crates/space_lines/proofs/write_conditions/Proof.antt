@@ -11,11 +11,11 @@ abbrev entry : tie.After-write-states → tie.Start
 entry c = c.before.before.before.before.before.before
 
 write-states-requires : tie.Need-write-states-requires
-write-states-requires c κs = let pre = c.before.before.before.before.before.requires in (pre.0.rows, pre.0.few, first_fits (states_first _ _ _ _) pre.1)
+write-states-requires c κs = let pre = c.before.before.before.before.before.requires in (pre.0.rows, first_fits (states_first _ _ _) pre.1)
 
 sub-write-invariants : tie.Need-overflow-sub-write-invariants
 sub-write-invariants c =
-    let written = c.before.before in rest_inside (states_first _ _ _ _) (entry written).requires.1 written.write-states.ensures
+    let written = c.before.before in rest_inside (states_first _ _ _) (entry written).requires.1 written.write-states.ensures
 
 part-write-invariants-start : tie.Need-slice-bounds-write-invariants-start
 part-write-invariants-start c = sub-write-invariants c
@@ -27,7 +27,7 @@ write-invariants-requires : tie.Need-write-invariants-requires
 write-invariants-requires c κs =
     let written = c.before.before.before in
     let pre = (entry written).requires in
-    (pre.0, second_fits (states_first _ _ _ _) pre.1 written.write-states.ensures)
+    (pre.0, second_fits (states_first _ _ _) pre.1 written.write-states.ensures)
 
 same_length : tie.Need-same-length
 same_length c = search rules
@@ -35,7 +35,7 @@ same_length c = search rules
 returns : tie.Need-returns
 returns c =
     let written = c.before.before.before.before.before.before in
-    both (states_first _ _ _ _) (entry written).requires.1 written.write-states.ensures c.before.before.write-invariants.ensures
+    both (states_first _ _ _) (entry written).requires.1 written.write-states.ensures c.before.before.write-invariants.ensures
 
 add-result : tie.Need-overflow-add-result
 add-result c = let whole = returns c in omega arith

@@ -13,13 +13,13 @@ entry c = c.before.before.before.before.before.before
 write-space-requires : tie.Need-write-space-requires
 write-space-requires c κs =
     let s = c.before.before.before.before.before in
-    first_fits (space_first _ _ _ _ s.args.number _ _) s.requires.1
+    first_fits (space_first _ _ _ s.args.number _ _) s.requires.1
 
 sub-write-conditions : tie.Need-overflow-sub-write-conditions
 sub-write-conditions c =
     let written = c.before.before in
     let s = entry written in
-    rest_inside (space_first _ _ _ _ s.args.number _ _) s.pre.1 written.write-space.ensures
+    rest_inside (space_first _ _ _ s.args.number _ _) s.pre.1 written.write-space.ensures
 
 part-write-conditions-start : tie.Need-slice-bounds-write-conditions-start
 part-write-conditions-start c = sub-write-conditions c
@@ -31,7 +31,7 @@ write-conditions-requires : tie.Need-write-conditions-requires
 write-conditions-requires c κs =
     let written = c.before.before.before in
     let s = entry written in
-    (s.pre.0, second_fits (space_first _ _ _ _ s.args.number _ _) s.pre.1 written.write-space.ensures)
+    (s.pre.0, second_fits (space_first _ _ _ s.args.number _ _) s.pre.1 written.write-space.ensures)
 
 same_length : tie.Need-same-length
 same_length c = search rules
@@ -40,7 +40,7 @@ returns : tie.Need-returns
 returns c =
     let written = c.before.before.before.before.before.before in
     let s = entry written in
-    both (space_first _ _ _ _ s.args.number _ _) s.pre.1 written.write-space.ensures c.before.before.write-conditions.ensures
+    both (space_first _ _ _ s.args.number _ _) s.pre.1 written.write-space.ensures c.before.before.write-conditions.ensures
 
 add-result : tie.Need-overflow-add-result
 add-result c = let whole = returns c in omega arith

@@ -11,7 +11,7 @@ rows-below-requires c κs = search rules
 returns : tie.Need-returns
 returns c =
     let start = c.before.before.before in
-    number_missing start.requires start.args.n (omega (arith, c.before.rows_below.ensures))
+    number_missing start.requires start.args.n (omega (arith, c.before.rows-below.ensures))
 
 row-requires : tie.Need-row-requires
 row-requires c κs = let room = c.before.before.before.requires.room in omega arith
@@ -19,7 +19,7 @@ row-requires c κs = let room = c.before.before.before.requires.room in omega ar
 returns-2 : tie.Need-returns-2
 returns-2 c =
     let start = c.before.before.before.before in
-    number_there start.requires start.args.n (omega arith) c.row.ensures c.before.before.rows_below.ensures
+    number_there start.requires start.args.n (omega arith) c.row.ensures c.before.before.rows-below.ensures
 
 pub has-row-spec : {M : Type 1} → statement M
 has-row-spec = tie.close (tie.spec rows-below-requires returns row-requires returns-2)

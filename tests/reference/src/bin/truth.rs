@@ -1,5 +1,5 @@
 //! Whether what the proved library lists is true: random histories by its calls, presses, asks and commits mixed, every listed line
-//! checked against each state by the reference (truth.rs), and what says nothing of states against other lines and the card's rules.
+//! checked against each state by the reference (truth.rs).
 //!
 //!     truth [SEED [HISTORIES]]      or TRUTH_SEED, TRUTH_HISTORIES in the environment
 //!

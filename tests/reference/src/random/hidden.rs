@@ -93,7 +93,7 @@ impl Random {
         task
     }
 
-    pub(super) fn shuffle<T>(&mut self, items: &mut [T]) {
+    fn shuffle<T>(&mut self, items: &mut [T]) {
         for last in (1..items.len()).rev() {
             items.swap(self.below(last + 1), last);
         }

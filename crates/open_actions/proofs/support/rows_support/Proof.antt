@@ -33,7 +33,7 @@ row_there :
     (c : tie.In-loop invariant-loop decreases-loop) → 4 * c.before.loop.i + 4 ≤ length (entry (ranged c.before)).args.state.now
 row_there c =
     let ranges = ranged c.before in
-    row_inside (entry ranges).pre.0 (bytes_small ranges) ranges.range-of.ensures c.before.before.before.rows_below.ensures c.loop-test.true
+    row_inside (entry ranges).pre.0 (bytes_small ranges) ranges.range-of.ensures c.before.before.before.rows-below.ensures c.loop-test.true
 
 place-of-requires : tie.Need-place-of-requires invariant-loop decreases-loop
 place-of-requires c κs = search rules
@@ -76,21 +76,21 @@ mul-o c = let there = row_there c.before.before.before in omega arith
 add-o : tie.Need-overflow-add-o invariant-loop decreases-loop
 add-o c =
     let turn = c.before.before.before in
-    let few = (ranged turn.before).before.place_of_lem.ensures.at_most in
+    let few = (ranged turn.before).before.place_of.ensures.at_most in
     let there = row_there turn in
     omega arith
 
 shared-slice-read-o : tie.Need-shared-slice-read-o invariant-loop decreases-loop
 shared-slice-read-o c =
     let turn = c.before.before.before.before in
-    let few = (ranged turn.before).before.place_of_lem.ensures.at_most in
+    let few = (ranged turn.before).before.place_of.ensures.at_most in
     let there = row_there turn in
     omega arith
 
 cast-o : tie.Need-overflow-cast-o invariant-loop decreases-loop
 cast-o c =
     let head = c.before.before.before.before.before in
-    omega (arith, c.shared-slice-known3.given (4 * head.loop.i + (ranged head).before.place_of_lem.result))
+    omega (arith, c.shared-slice-known3.given (4 * head.loop.i + (ranged head).before.place_of.result))
 
 add-i-2 : tie.Need-overflow-add-i-2 invariant-loop decreases-loop
 add-i-2 c = omega arith
@@ -101,7 +101,7 @@ loop-less-2 c = omega arith
 loop-again-2 : tie.Need-loop-preserved-2 invariant-loop decreases-loop
 loop-again-2 c =
     let head = c.before.before.before.before.before.before in
-    no_object head.loop.invariant (ranged head).before.place_of_lem.ensures c.before.before.if2.false c.if3.true
+    no_object head.loop.invariant (ranged head).before.place_of.ensures c.before.before.if2.false c.if3.true
 
 single-requires : tie.Need-single-requires invariant-loop decreases-loop
 single-requires c κs = omega arith
@@ -118,13 +118,13 @@ loop-less-3 c = omega arith
 loop-again-3 : tie.Need-loop-preserved-3 invariant-loop decreases-loop
 loop-again-3 c =
     let head = c.before.before.before.before.before.before.before.before in
-    row_joins head.loop.invariant (ranged head).before.place_of_lem.ensures c.before.before.before.before.if2.false
+    row_joins head.loop.invariant (ranged head).before.place_of.ensures c.before.before.before.before.if2.false
     (c.union.ensures ∙ ap (union_of _) c.before.single.ensures)
 
 returns-2 : tie.Need-returns-2 invariant-loop decreases-loop
 returns-2 c =
     let ranges = ranged c.before in
-    rows_after (entry ranges).pre.0 (bytes_small ranges) ranges.range-of.ensures c.before.before.before.rows_below.ensures
+    rows_after (entry ranges).pre.0 (bytes_small ranges) ranges.range-of.ensures c.before.before.before.rows-below.ensures
     c.loop-test.false c.before.loop.invariant
 
 pub rows-support-spec : {M : Type 1} → statement M

@@ -24,15 +24,12 @@ invariant-loop arities n table₀ first₀ p₀ table first p = Passed arities n
 abbrev decreases-loop : tie.decreases-loop
 decreases-loop arities n table₀ first₀ p₀ table first p = n - p
 
--- what is given, from the loop on; the loop, from the call of `stamp` in it; and that call, from the table behind it
+-- what is given, from the loop on; and the loop, from the call in it
 abbrev entry : tie.At-loop invariant-loop decreases-loop → tie.Start invariant-loop decreases-loop
 entry c = c.before.before
 
-abbrev in_loop : tie.After-table invariant-loop decreases-loop → tie.In-loop invariant-loop decreases-loop
+abbrev in_loop : tie.After-put-arity invariant-loop decreases-loop → tie.In-loop invariant-loop decreases-loop
 in_loop c = c.before.before
-
-abbrev calling : tie.After-table2 invariant-loop decreases-loop → tie.After-table invariant-loop decreases-loop
-calling c = c.before.before
 
 -- at most 60 properties
 few : (s : tie.Start invariant-loop decreases-loop) → sum (entries s.args.predicates.count 0 s.args.predicates.arities) ≤ 60
@@ -62,37 +59,41 @@ inside c = omega (arith, arity_is c, arities_room _ (few (entry c.before)) c.bef
 loop-holds : tie.Need-loop-init invariant-loop decreases-loop
 loop-holds c = record { inside = omega arith; sized = refl; passed = arities_start _ (few c.before) }
 
-array-read-arity : tie.Need-array-read-arity invariant-loop decreases-loop
-array-read-arity c = omega (arith, c.loop-test.true, (entry c.before).pre.few)
+slice-aggregate-put-arity : tie.Need-slice-aggregate-put-arity invariant-loop decreases-loop
+slice-aggregate-put-arity c = sym c.before.before.loop.invariant.sized
+
+array-read-put-arity : tie.Need-array-read-put-arity invariant-loop decreases-loop
+array-read-put-arity c = omega (arith, c.before.loop-test.true, (entry c.before.before).pre.few)
+
+put-arity-requires : tie.Need-put-arity-requires invariant-loop decreases-loop
+put-arity-requires c κs = omega (arith, inside c.before, c.before.before.loop.invariant.sized)
+
+array-read-wide : tie.Need-array-read-wide invariant-loop decreases-loop
+array-read-wide c = let tested = in_loop c.before in omega (arith, tested.loop-test.taken, (entry tested.before).pre.few)
 
 wide-requires : tie.Need-wide-requires invariant-loop decreases-loop
 wide-requires c κs = tt
 
-slice-aggregate-stamp : tie.Need-slice-aggregate-stamp invariant-loop decreases-loop
-slice-aggregate-stamp c = sym (in_loop c).before.loop.invariant.sized
-
-stamp-requires : tie.Need-stamp-requires invariant-loop decreases-loop
-stamp-requires c κs = omega (arith, inside (in_loop c), c.before.wide.ensures.0, (in_loop c).before.loop.invariant.sized)
-
 add-first : tie.Need-overflow-add-first invariant-loop decreases-loop
-add-first c = let k = calling c in omega (arith, inside (in_loop k), k.before.wide.ensures.0)
+add-first c = omega (arith, inside (in_loop c.before.before), c.wide.ensures.0)
 
 add-p : tie.Need-overflow-add-p invariant-loop decreases-loop
-add-p c = let tested = in_loop (calling c) in omega (arith, tested.loop-test.taken, (entry tested.before).pre.few)
+add-p c = let tested = in_loop c.before.before in omega (arith, tested.loop-test.taken, (entry tested.before).pre.few)
 
 loop-less : tie.Need-loop-smaller invariant-loop decreases-loop
-loop-less c = less_left (in_loop (calling c)).loop-test.taken
+loop-less c = less_left c.before.before.before.before.loop-test.true
 
 loop-again : tie.Need-loop-preserved invariant-loop decreases-loop
 loop-again c =
-    let tested = in_loop (calling c) in
+    let called = c.before.before in
+    let tested = in_loop called in
     let l = tested.before.loop in
     record {
       inside = omega (arith, tested.loop-test.taken);
-      sized = c.before.stamp.auto.0 ∙ l.inv.sized;
+      sized = called.put-arity.auto.0 ∙ l.inv.sized;
       passed =
-          arities_next _ (few (entry tested.before)) l.inv.passed (here tested) (arity_is tested) (calling c).before.wide.ensures.0
-          c.before.stamp.ensures;
+          arities_next _ (few (entry tested.before)) l.inv.passed (here tested) (arity_is tested) c.wide.ensures.0
+          called.put-arity.ensures;
     }
 
 returns : tie.Need-returns invariant-loop decreases-loop
@@ -108,10 +109,11 @@ property-arities-spec =
     invariant-loop
     decreases-loop
     loop-holds
-    array-read-arity
+    slice-aggregate-put-arity
+    array-read-put-arity
+    put-arity-requires
+    array-read-wide
     wide-requires
-    slice-aggregate-stamp
-    stamp-requires
     add-first
     add-p
     loop-less
