@@ -15,7 +15,7 @@ use state::{FILLER, has_row, row_number};
 pub const MOST_PARAMETERS: usize = 6;
 
 // Facts as the numbers of their rows; entries past the count are 0.
-#[derive(Drop)]
+#[derive(Clone, Copy)]
 pub struct Facts {
     pub count: usize,
     pub numbers: [u32; 8],

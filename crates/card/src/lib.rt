@@ -6,7 +6,7 @@ ghost use Rattle.card.specs.Represents.{refusal_number, blank_atom, atoms_for, b
 pub const OUTPUT_BYTES: usize = 65536;
 
 // A predicate with up to three arguments; those past the predicate's arity are no part of it.
-#[derive(Drop)]
+#[derive(Clone, Copy)]
 pub struct Atom {
     pub predicate: u8,
     pub first: u8,
@@ -15,32 +15,32 @@ pub struct Atom {
 }
 
 // Each list has its count beside it; entries past the count are no part of the list.
-#[derive(Drop)]
+#[derive(Clone, Copy)]
 pub struct AtomList {
     pub count: usize,
     pub atoms: [Atom; 8],
 }
 
-#[derive(Drop)]
+#[derive(Clone, Copy)]
 pub struct ArityList {
     pub count: usize,
     pub arities: [u8; 20],
 }
 
-#[derive(Drop)]
+#[derive(Clone, Copy)]
 pub struct SchemaList {
     pub count: usize,
     pub schemas: [Schema; 32],
 }
 
-#[derive(Drop)]
+#[derive(Clone, Copy)]
 pub struct FactList {
     pub count: usize,
     pub facts: [Atom; 512],
 }
 
 // An action schema.
-#[derive(Drop)]
+#[derive(Clone, Copy)]
 pub struct Schema {
     pub parameters: usize,
     pub preconditions: AtomList,
@@ -49,7 +49,7 @@ pub struct Schema {
 }
 
 // The three lists of a schema.
-#[derive(Drop)]
+#[derive(Clone, Copy)]
 pub enum ListField {
     Preconditions,
     Deletes,
@@ -57,7 +57,7 @@ pub enum ListField {
 }
 
 // A task (document 01: a table).
-#[derive(Drop)]
+#[derive(Clone, Copy)]
 pub struct Task {
     pub predicates: ArityList,
     pub objects: usize,
@@ -66,7 +66,7 @@ pub struct Task {
 }
 
 // Why a card or a table is refused: document 01's 1 to 14, in order.
-#[derive(Drop)]
+#[derive(Clone, Copy)]
 pub enum Refusal {
     CardEnds,
     PredicateRange,
@@ -107,13 +107,13 @@ pub fn refusal_number(refusal: Refusal) -> u8
 }
 
 // What reading a card answers: the verdict, and the task beside it, since an enum holds no array. Beside a refusal the task is blank.
-#[derive(Drop)]
+#[derive(Clone, Copy)]
 pub enum Verdict {
     Accepted,
     Refused(Refusal),
 }
 
-#[derive(Drop)]
+#[derive(Clone, Copy)]
 pub struct Decoded {
     pub verdict: Verdict,
     pub task: Task,

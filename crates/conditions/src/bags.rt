@@ -5,7 +5,7 @@ ghost use Rattle.properties.specs.Tables.{bag_at, HasRow};
 ghost use Rattle.conditions.specs.Comparing.{in_code, Differ};
 
 // How a condition stands to another (document 02, No. 2). One contains another if none of its counts is smaller (document 01).
-#[derive(Drop)]
+#[derive(Clone, Copy)]
 pub enum Comparison {
     // Each contains the other.
     Equal,

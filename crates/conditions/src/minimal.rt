@@ -8,7 +8,7 @@ use crate::bags::{Comparison, compare};
 use masks::{common, single, union};
 
 // The minimal conditions by their indices, ascending, with their number; and for each condition the mask of those that contain it.
-#[derive(Drop)]
+#[derive(Clone, Copy)]
 pub struct Minimal {
     pub count: usize,
     pub indices: [u8; 64],

@@ -2,7 +2,7 @@
 ghost use Rattle.input.specs.Reads.{FrontRead, Keeps};
 
 // What reading an input answers: how many bytes of the window were read, or that a read failed.
-#[derive(Drop)]
+#[derive(Clone, Copy)]
 pub enum Reading {
     Front(usize),
     Failed,

@@ -16,7 +16,7 @@ use prepared::{Prepared, analyse_space, enter_space, prepare, rows_at_most, writ
 use reader::decode;
 
 // What the listing call answers: the length of the section's text, or why there is none.
-#[derive(Drop)]
+#[derive(Clone, Copy)]
 pub enum Listed {
     Length(usize),
     CardRefused(Refusal),

@@ -17,7 +17,7 @@ use Rattle.laws.proofs.Bags.{bag_ext, less_less, less_empty, contains_at, contai
 use Rattle.laws.proofs.Bags.{length_single, single_by_place, less_single_sum}
 use Rattle.model.specs.Extension.{Move}
 use Rattle.model.proofs.Choices.{results_intro}
-use Rattle.model.proofs.OwnLists.{Closed}
+use Rattle.model.proofs.ListsPerStart.{Closed}
 
 -- the exchange rule of property i: it is removed and added
 abbrev pub exchange : ℕ → ℕ → Move

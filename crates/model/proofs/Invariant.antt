@@ -41,7 +41,7 @@ use Rattle.model.proofs.ListedSpace.{extension_of}
 use Rattle.model.proofs.ListedParts.{Extended}
 use Rattle.model.proofs.ClosingLines.{Capped}
 use Rattle.model.proofs.JoinedLists.{adjoin_all_has, adjoin_all_length}
-use Rattle.model.proofs.OwnLists.{own_list_at}
+use Rattle.model.proofs.ListsPerStart.{own_list_at}
 use Rattle.model.proofs.Chain.{chain, exchange, rest}
 use Rattle.model.proofs.Effect.{Effect, effect_on_parameter, effect_elsewhere, effect_on_predicate}
 use Rattle.model.proofs.ParameterRules.{length_bag_of, length_common, length_start, length_finish, moved_start, moved_finish, needed, deleted}

@@ -22,7 +22,7 @@ pub mod Effect
 pub mod RuleCount
 pub mod Choices
 pub mod JoinedLists
-pub mod OwnLists
+pub mod ListsPerStart
 pub mod TallyCounts
 pub mod Chain
 pub mod ListedSpace

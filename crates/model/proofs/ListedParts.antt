@@ -68,11 +68,11 @@ left_found p two later Outcome.wide e = nothing refl
 
 pub rescue_found : {t : Task} {u : Space} → Part t u → (rounds : ℕ) (hidden : List ℕ) → Found t (rescue t rounds u hidden)
 unfolding rescue analyse_property_space
-rescue_found p zero hidden = nothing refl
-rescue_found {t} {u} p (suc rounds) hidden =
+rescue_found {u = u} p zero hidden = nothing refl
+rescue_found {t = t} {u = u} p (suc rounds) hidden =
     let left = narrowed t u (without_hidden hidden u.properties) in
     let left_part = narrowed_part p hidden in
-    let again = rescue_found left_part rounds (analyse_property_space t left).hidden in
+    let again = rescue_found {u = left} left_part rounds (analyse_property_space t left).hidden in
     by_test (lost left)
     (λ e. nothing (cond_true (lost left) [] _ e))
     (λ e.

@@ -30,7 +30,7 @@ use Rattle.model.specs.Analysis.{Analysis}
 use Rattle.model.specs.Lines.{Line, space, state, limit, membership, exclusion, total, ceiling, count_of, largest}
 use Rattle.model.specs.Lines.{minimal, excluded, property_number, one_number, of_predicate}
 use Rattle.model.specs.Calls.{Standing, initial, history, state_of}
-use Rattle.model.specs.Truth.{◌isOn◌, ◌isSectionOf◌, gives_conditions, states_of, count_in, Allowed, Holds}
+use Rattle.model.specs.Truth.{◌is_on◌, ◌is_section_of◌, gives_conditions, states_of, count_in, Allowed, Holds}
 use Rattle.model.proofs.Valid.{Valid}
 use Rattle.model.proofs.Checked.{checked, checked_action}
 use Rattle.model.proofs.History.{Events, presses, event_induction}
@@ -39,7 +39,7 @@ use Rattle.model.proofs.Parts.{known_members, distinct_members}
 use Rattle.model.proofs.ListedSpace.{extension_of}
 use Rattle.model.proofs.ListedParts.{InListing, of_task, listing_enclosed, lists_own, with_condition}
 use Rattle.model.proofs.JoinedLists.{joined_has}
-use Rattle.model.proofs.OwnLists.{own_lists_length}
+use Rattle.model.proofs.ListsPerStart.{own_lists_length}
 use Rattle.model.proofs.SpaceFacts.{space_of}
 use Rattle.model.proofs.Sections.{OnSpace, on_space, on_limit, on_exclusion, on_nesting, total_from_property, on_ceiling, on_types, types_on, typed}
 use Rattle.model.proofs.Sections.{state_on, membership_on}

@@ -11,7 +11,7 @@ use Rattle.laws.specs.Bags.{Bag, contains, strictly_contains, listed}
 use Rattle.laws.proofs.Folds.{fold_as}
 use Rattle.model.specs.Extension.{Move, Outcome, neither, mixed, wide, Search, Extension, most_conditions, results, adjoin, hidden_by}
 use Rattle.model.specs.Extension.{ending, appending, starting, test, unless_ended, offer, try, visit, explore, extend_from, extend}
-use Rattle.model.proofs.OwnLists.{Tallied, offer_takes, onward_try, onward_visit, onward_explore}
+use Rattle.model.proofs.ListsPerStart.{Tallied, offer_takes, onward_try, onward_visit, onward_explore}
 
 -- ---- the former text: what the definitions of the same names said
 

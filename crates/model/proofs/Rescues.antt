@@ -30,7 +30,7 @@ use Rattle.model.specs.Extension.{ending, appending, starting, test, unless_ende
 use Rattle.model.specs.Analysis.{Analysis, moves_of, initial_conditions, kind_for, hidden_for, analyse_property_space, analyse_as, analyse}
 use Rattle.model.specs.Rescue.{without_hidden, narrowed, lost, rescued_as, rescue, if_mixed, rescues}
 use Rattle.model.proofs.JoinedLists.{adjoin_all_from}
-use Rattle.model.proofs.OwnLists.{onward_has, offer_takes, explore_keeps, explore_all, results_sized}
+use Rattle.model.proofs.ListsPerStart.{onward_has, offer_takes, explore_keeps, explore_all, results_sized}
 
 -- ---- a result that is mixed has a larger count at some place
 

@@ -24,7 +24,7 @@ use Rattle.model.specs.Rescue.{rescues}
 use Rattle.model.specs.Lines.{Line, space, state, limit, membership, exclusion, nesting, total, ceiling, types, count_of}
 use Rattle.model.specs.Lines.{largest, arity_of, limits, minimal, excluded, exclusions, surrounding, nestings, space_lines, section_lines}
 use Rattle.model.specs.Lines.{space_sections, totals, of_predicate, ceilings, types_of, type_lines, closing_lines, sections}
-use Rattle.model.specs.Truth.{◌isOn◌, ◌isSectionOf◌, gives_conditions, states_of}
+use Rattle.model.specs.Truth.{◌is_on◌, ◌is_section_of◌, gives_conditions, states_of}
 use Rattle.model.proofs.ListedSpace.{spaces_of_analysis}
 use Rattle.model.proofs.ListedParts.{InListing, with_condition, section_listing, section_conditions}
 use Rattle.model.proofs.ClosingLines.{TotalLine, total_of_property, Capped, types_line, types_present, ClosingLine, is_total, is_ceiling, is_types}

@@ -20,7 +20,7 @@ use Rattle.model.specs.Analysis.{initial_conditions}
 use Rattle.model.specs.Extension.{Move, Outcome, neither, mixed, wide, Search, Extension, most_conditions, adjoin, hidden_by}
 use Rattle.model.specs.Extension.{ending, appending, starting, test, unless_ended, offer, explore, extend_from, extend, joined}
 use Rattle.model.proofs.JoinedLists.{adjoin_there, adjoin_all_once, joined_last, joined_has, joined_from, joined_once, joined_one}
-use Rattle.model.proofs.OwnLists.{Onward, Tallied, offer_takes, explore_keeps, own_list_of, mixed_closed, wide_closed, wide_not_mixed}
+use Rattle.model.proofs.ListsPerStart.{Onward, Tallied, offer_takes, explore_keeps, own_list_of, mixed_closed, wide_closed, wide_not_mixed}
 
 -- ---- the stages of the searches of a space
 

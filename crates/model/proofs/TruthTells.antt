@@ -18,7 +18,7 @@ use Rattle.model.specs.Card.{Atom, Task, decode}
 use Rattle.model.specs.Strips.{State}
 use Rattle.model.specs.Spaces.{property, rescued}
 use Rattle.model.specs.Lines.{Line, space, state, limit, membership, exclusion, nesting, total, ceiling, types, sections}
-use Rattle.model.specs.Truth.{◌isOn◌, ◌isSectionOf◌, gives_conditions, states_of, count_in}
+use Rattle.model.specs.Truth.{◌is_on◌, ◌is_section_of◌, gives_conditions, states_of, count_in}
 use Rattle.model.specs.Truth.{StatesListed, NoneOutside, LimitsTrue, MembershipsTrue, ExclusionsTrue, TotalsTrue, CeilingsTrue, TypesTrue}
 use Rattle.model.specs.Vectors.{k1, k5, act}
 use Rattle.model.proofs.Vectors.{definitions_open}

@@ -22,12 +22,12 @@ use Rattle.model.specs.Lines.{Line, space, state, limit, membership, exclusion, 
 use Rattle.model.specs.Lines.{sections}
 
 -- a line stands in a section, a section in the listing of a task
-infix 5 ◌isOn◌
-abbrev pub ◌isOn◌ : Line → List Line → Type 0
+infix 5 ◌is_on◌
+abbrev pub ◌is_on◌ : Line → List Line → Type 0
 line is_on lines = Memᴰ line lines
 
-infix 5 ◌isSectionOf◌
-abbrev pub ◌isSectionOf◌ : List Line → Task → Type 0
+infix 5 ◌is_section_of◌
+abbrev pub ◌is_section_of◌ : List Line → Task → Type 0
 lines is_section_of t = Memᴰ lines (sections t)
 
 -- a space of this kind is listed with its conditions: P, and H, where a mixed space was rescued

@@ -21,7 +21,7 @@ use reader::decode;
 use state::well_formed;
 
 // The action after which the next one is asked for: its schema, the objects being lent beside it. With none given they are not looked at.
-#[derive(Drop)]
+#[derive(Clone, Copy)]
 pub enum Given {
     Nothing,
     Action(usize),
@@ -29,7 +29,7 @@ pub enum Given {
 
 // What the call answers: the schema and the number of objects of the next open action, the end, or why not. A refusal of the card is
 // handed through.
-#[derive(Drop)]
+#[derive(Clone, Copy)]
 pub enum Found {
     Action(usize, usize),
     End,
@@ -41,7 +41,7 @@ pub enum Found {
 }
 
 // The objects of the action stand beside the answer, since an enum holds no array. Those past their number are 0.
-#[derive(Drop)]
+#[derive(Clone, Copy)]
 pub struct NextOpen {
     pub found: Found,
     pub objects: [u8; MOST_PARAMETERS],

@@ -6,7 +6,7 @@ use crate::support::{Candidates, Supports};
 use masks::{is_member, single, union};
 
 // Whether the object leaves too little room, and the bound parameters that this depends on.
-#[derive(Drop)]
+#[derive(Clone, Copy)]
 pub(crate) struct Crowding {
     pub crowded: bool,
     pub culprits: u64,

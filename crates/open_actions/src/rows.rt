@@ -8,7 +8,7 @@ use card::Atom;
 use masks::is_member;
 
 // Numbers of rows, from the least one on and below the other one.
-#[derive(Drop)]
+#[derive(Clone, Copy)]
 pub(crate) struct Range {
     pub least: u32,
     pub past: u32,

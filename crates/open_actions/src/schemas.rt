@@ -18,7 +18,7 @@ use masks::all_below;
 const FEW: usize = 24;
 
 // A binding, or none; the places past the parameters are 0.
-#[derive(Drop)]
+#[derive(Clone, Copy)]
 struct Binding {
     found: bool,
     objects: [u8; MOST_PARAMETERS],

@@ -12,7 +12,7 @@ use masks::{common, is_empty, is_member, single, union};
 use strips::allows;
 
 // A binding is found, or there is none: the objects of the culprits, which are bound parameters, rule out every binding.
-#[derive(Drop)]
+#[derive(Clone, Copy)]
 pub(crate) struct Searched {
     pub found: bool,
     pub culprits: u64,

@@ -10,20 +10,20 @@ use masks::{all_below, common, single, union};
 use state::rows_below;
 
 // The objects with which an atom can be in the state, and the bound parameters that this depends on.
-#[derive(Drop)]
+#[derive(Clone, Copy)]
 pub(crate) struct Support {
     pub mask: u64,
     pub linked: u64,
 }
 
 // The same for each atom of a list.
-#[derive(Drop)]
+#[derive(Clone, Copy)]
 pub(crate) struct Supports {
     pub items: [Support; 8],
 }
 
 // The objects that are left to a parameter, and the bound parameters that took the others away.
-#[derive(Drop)]
+#[derive(Clone, Copy)]
 pub(crate) struct Candidates {
     pub mask: u64,
     pub culprits: u64,

@@ -27,7 +27,7 @@ use totals::enter_totals;
 
 // What is known of a task beside its tables: how many parameters its schemas have together, how many properties, the arity of each
 // property's predicate, and its spaces.
-#[derive(Drop)]
+#[derive(Clone, Copy)]
 pub struct Prepared {
     pub parameters: usize,
     pub properties: usize,
@@ -96,7 +96,7 @@ pub fn prepare(
 }
 
 // A space's own properties, and its analysis. Its conditions are in the table that was lent for them.
-#[derive(Drop)]
+#[derive(Clone, Copy)]
 pub struct Found {
     pub own: Own,
     pub analysed: Analysed,

@@ -23,7 +23,7 @@ const MOST_ATOMS: usize = 8;
 const MOST_ROW_BYTES: usize = 32;
 
 // Facts as rows of four bytes each, as a state has them: their number, and the rows one after the other. The places past them are 0.
-#[derive(Drop)]
+#[derive(Clone, Copy)]
 pub struct Rows {
     pub count: usize,
     pub rows: [u8; MOST_ROW_BYTES],
@@ -31,7 +31,7 @@ pub struct Rows {
 
 // What an action does to a state: the action, which is its schema and its objects with their number, the facts that go, and those that
 // newly come. What is handed in to be committed may hold anything.
-#[derive(Drop)]
+#[derive(Clone, Copy)]
 pub struct Changes {
     pub schema: usize,
     pub object_count: usize,
@@ -41,14 +41,14 @@ pub struct Changes {
 }
 
 // What asking answers: as applying the action would, and the changes beside it, since an enum holds no array. Beside a refusal they are blank.
-#[derive(Drop)]
+#[derive(Clone, Copy)]
 pub struct Previewed {
     pub applied: Applied,
     pub changes: Changes,
 }
 
 // What committing answers: as applying the action does, or that the changes are no longer those handed in (23).
-#[derive(Drop)]
+#[derive(Clone, Copy)]
 pub enum Committed {
     Answered(Applied),
     ChangesDiffer,

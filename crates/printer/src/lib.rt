@@ -16,7 +16,7 @@ use refusals::refused_line;
 
 // What became of an input: it could not be read; or the card at the front of the window, of so many bytes, was printed whole, or cut
 // off after so many of its sections were made.
-#[derive(Drop)]
+#[derive(Clone, Copy)]
 pub enum Printed {
     Unread,
     Whole(usize),

@@ -22,7 +22,7 @@ use prepared::{Prepared, analyse_space, enter_space, prepare, rows_at_most, writ
 use spaces::Spaces;
 
 // How far a listing was printed: how many of its sections were made, and whether all of it was written.
-#[derive(Drop)]
+#[derive(Clone, Copy)]
 pub struct Printing {
     pub sections: usize,
     pub written: bool,

@@ -4,7 +4,7 @@ ghost use Rattle.printer.specs.Shown.{Shows};
 
 use card::{Refusal, refusal_number};
 
-#[derive(Drop)]
+#[derive(Clone, Copy)]
 pub struct Line {
     pub bytes: [u8; 11],
     pub length: usize,

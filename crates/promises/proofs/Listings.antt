@@ -15,7 +15,7 @@ use Rattle.model.specs.Lines.{Line, sections}
 use Rattle.model.specs.Text.{text}
 use Rattle.model.specs.Calls.{output_bytes, initial, program, Standing, state_of}
 use Rattle.model.specs.Histories.{Event}
-use Rattle.model.specs.Truth.{◌isSectionOf◌, Holds}
+use Rattle.model.specs.Truth.{◌is_section_of◌, Holds}
 use Rattle.model.proofs.TextLines.{text_determines}
 use Rattle.model.proofs.SectionCalls.{written, section_calls, accepted_section}
 use Rattle.strips.specs.Answers.{applied_says, Matches}

@@ -13,7 +13,7 @@ ghost use Rattle.properties.specs.Tallies.{raised, tallied_rows, Talliable};
 use card::{ArityList, Atom, FactList};
 
 // How properties are numbered: how many there are, and the number of each predicate's first one.
-#[derive(Drop)]
+#[derive(Clone, Copy)]
 pub struct Numbering {
     pub count: usize,
     pub firsts: [usize; 20],

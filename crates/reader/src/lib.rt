@@ -43,7 +43,7 @@ fn role_count(card: &[u8], c: Cursor, present: bool) -> ByteRead
     }
 }
 
-#[derive(Drop)]
+#[derive(Clone, Copy)]
 pub struct SchemaRead {
     pub step: Step,
     pub schema: Schema,

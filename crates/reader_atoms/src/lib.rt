@@ -9,7 +9,7 @@ ghost use Rattle.reader_atoms.specs.Atoms.{bytes_of, has_bytes, above_bytes, bel
 use card::{Atom, AtomList, ListField, Refusal};
 use reader_bytes::{ByteRead, Cursor};
 
-#[derive(Drop)]
+#[derive(Clone, Copy)]
 pub enum AtomRead {
     Found(Atom, Cursor),
     Refused(Refusal),
@@ -146,7 +146,7 @@ fn has(list: AtomList, a: Atom) -> bool
 }
 
 // The atom before, on a list.
-#[derive(Drop)]
+#[derive(Clone, Copy)]
 pub enum Previous {
     Nothing,
     Atom(Atom),

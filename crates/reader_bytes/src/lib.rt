@@ -8,13 +8,13 @@ ghost use Rattle.reader_bytes.specs.Reads.{ByteReads, CountReads, refusal_of_byt
 use card::Refusal;
 
 // A place on the card.
-#[derive(Drop)]
+#[derive(Clone, Copy)]
 pub struct Cursor {
     pub at: usize,
 }
 
 // How a read ends: at a place on the card, or refused. It stands beside a value that an enum cannot hold, an array or a struct with one.
-#[derive(Drop)]
+#[derive(Clone, Copy)]
 pub enum Step {
     At(Cursor),
     Refused(Refusal),
@@ -32,7 +32,7 @@ impl Step {
     }
 }
 
-#[derive(Drop)]
+#[derive(Clone, Copy)]
 pub enum ByteRead {
     Byte(u8, Cursor),
     Refused(Refusal),
@@ -94,7 +94,7 @@ pub fn byte_between(card: &[u8], c: Cursor, low: u8, high: u8, refusal: Refusal)
     }
 }
 
-#[derive(Drop)]
+#[derive(Clone, Copy)]
 pub enum CountRead {
     Count(usize, Cursor),
     Refused(Refusal),

@@ -11,19 +11,19 @@ use card::{
 use reader_atoms::{AtomRead, Previous};
 use reader_bytes::{ByteRead, Cursor, Step};
 
-#[derive(Drop)]
+#[derive(Clone, Copy)]
 pub struct AtomsRead {
     pub step: Step,
     pub list: AtomList,
 }
 
-#[derive(Drop)]
+#[derive(Clone, Copy)]
 pub struct AritiesRead {
     pub step: Step,
     pub list: ArityList,
 }
 
-#[derive(Drop)]
+#[derive(Clone, Copy)]
 pub struct FactsRead {
     pub step: Step,
     pub list: FactList,

@@ -3,7 +3,7 @@ ghost use Rattle.std.specs.Prelude.{◌+◌, ◌≤◌, ◌<◌, true, ◌≡◌
 ghost use Rattle.sets.specs.Numbers.{rising, place, found, without, inserted, without_all, inserted_all, gap_closed, room_made, SetKept, Becomes};
 
 // Where a number stands on an ascending list, or where it would stand.
-#[derive(Drop)]
+#[derive(Clone, Copy)]
 pub enum Found {
     At(usize),
     Missing(usize),

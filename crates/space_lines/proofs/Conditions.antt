@@ -18,7 +18,7 @@ use Rattle.model.specs.Analysis.{Analysis, moves_of, initial_conditions, conditi
 use Rattle.model.specs.Rescue.{without_hidden, narrowed, lost, rescued_as, rescue}
 use Rattle.model.proofs.ListedSpace.{extension_of}
 use Rattle.model.proofs.JoinedLists.{joined_from, adjoin_all_from}
-use Rattle.model.proofs.OwnLists.{lists_sized}
+use Rattle.model.proofs.ListsPerStart.{lists_sized}
 use Rattle.properties.specs.Tables.{stride, rows, rows_before, bags_in, HasRows}
 use Rattle.properties.proofs.Rows.{length_rows}
 use Rattle.properties.proofs.RowTables.{rows_before_back}

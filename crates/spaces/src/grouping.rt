@@ -122,7 +122,7 @@ pub fn grouping(deletes: &[u8], adds: &[u8], count: usize, size: usize) -> [u8; 
 }
 
 // The labels of a grouping, ascending: for each space its lowest property. Places past their number are 0.
-#[derive(Drop)]
+#[derive(Clone, Copy)]
 pub struct Labels {
     pub count: usize,
     pub lowest: [u8; 60],

@@ -10,7 +10,7 @@ ghost use Rattle.spaces.specs.SpaceTable.{spaces_in};
 
 // The spaces of a task: their number; for each property, by number, the lowest property of its space; for each space, in order,
 // its lowest property and its members. Places past the number of properties or spaces are 0.
-#[derive(Drop)]
+#[derive(Clone, Copy)]
 pub struct Spaces {
     pub count: usize,
     pub groups: [u8; 60],

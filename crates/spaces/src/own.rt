@@ -3,7 +3,7 @@ ghost use Rattle.std.specs.Prelude.{◌≤◌, length};
 ghost use Rattle.spaces.specs.Own.{own_of, Owns};
 
 // The properties of a space, ascending, and their number. Places past it are 0.
-#[derive(Drop)]
+#[derive(Clone, Copy)]
 pub struct Own {
     pub count: usize,
     pub properties: [usize; 60],

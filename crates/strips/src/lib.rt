@@ -16,7 +16,7 @@ use sets::{insert_all, remove_all};
 use state::{MOST_FACTS, STATE_BYTES, load, store, well_formed};
 
 // What the opening call and applying an action answer: the number of facts, or why not. A refusal of the card is handed through.
-#[derive(Drop)]
+#[derive(Clone, Copy)]
 pub enum Applied {
     Count(usize),
     CardRefused(Refusal),
@@ -105,7 +105,7 @@ pub fn allows(schema: Schema, arities: &[u8], state: &[u8], count: usize, object
 
 // An action that may be applied: the arities of its card's predicates, and its schema, with the number of facts that the state has. Or why
 // it may not be applied; then the two are blank.
-#[derive(Drop)]
+#[derive(Clone, Copy)]
 pub struct Admitted {
     pub answer: Applied,
     pub predicates: ArityList,

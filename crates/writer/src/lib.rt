@@ -8,7 +8,7 @@ use output::write_task;
 use writer_checks::checking::{Checked, check_task};
 
 // What writing answers: the length, the refusal of a table that no card can carry, or that the output buffer is short.
-#[derive(Drop)]
+#[derive(Clone, Copy)]
 pub enum Writing {
     Written(usize),
     Refused(Refusal),

@@ -12,7 +12,7 @@ use crate::atoms::{is_below, is_known, is_same};
 use card::{Atom, AtomList, FactList, ListField, Refusal, Schema, SchemaList, Task};
 
 // What a check answers.
-#[derive(Drop)]
+#[derive(Clone, Copy)]
 pub enum Checked {
     Passed,
     Refused(Refusal),

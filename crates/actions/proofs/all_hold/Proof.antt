@@ -9,55 +9,46 @@ use Rattle.actions.proofs.Holding.{Passed, none_passed, atom_fails, atom_passes,
 use Rattle.actions.proofs.all_hold.Statement.{statement}
 use Rattle.actions.proofs.all_hold.Tie as tie
 
-abbrev invariant-loop : tie.invariant-loop
+abbrev invariant-loop : tie.invariant-loop-i
 invariant-loop arities state count objects list atoms i₀ i = Passed (holds_in count state objects) arities list i
 
-abbrev decreases-loop : tie.decreases-loop
+abbrev decreases-loop : tie.decreases-loop-i
 decreases-loop arities state count objects list atoms i₀ i = list.count - i
 
--- the start of the function, reached from the loop
-abbrev entry : tie.At-loop invariant-loop decreases-loop → tie.Start invariant-loop decreases-loop
-entry c = c.before.before.before.before
-
-loop-holds : tie.Need-loop-init invariant-loop decreases-loop
+loop-holds : tie.Need-loop-i-init invariant-loop decreases-loop
 loop-holds c = none_passed
 
-mul-atom : tie.Need-overflow-mul-atom invariant-loop decreases-loop
+mul-atom : tie.Need-offset_bounds-list-i invariant-loop decreases-loop
 mul-atom c = omega arith
 
-element-copy-out-atom : tie.Need-element-copy-out-atom invariant-loop decreases-loop
-element-copy-out-atom c = let few = (entry c.before).pre.0.few in omega arith
+element-copy-out-atom : tie.Need-bounds-list-i invariant-loop decreases-loop
+element-copy-out-atom c = let few = c.requires.0.few in omega arith
 
 holds-requires : tie.Need-holds-requires invariant-loop decreases-loop
 unfolding blank_atom
 holds-requires c κs =
-    let more = c.before in
-    let pre = (entry more.before).pre in
-    (pre.0.right, atom_known _ _ _ pre.0 _ more.loop-test.true, pre.1)
+    let pre = c.requires in
+    (pre.0.right, atom_known _ _ _ pre.0 _ c.loop-i-test.true, pre.1)
 
-returns : tie.Need-returns invariant-loop decreases-loop
+returns : tie.Need-returns-then-not-holds invariant-loop decreases-loop
 unfolding blank_atom
 returns c =
-    let held = c.before in
-    let more = held.before.before in
-    atom_fails more.before.loop.invariant more.loop-test.true held.holds.ensures (not-true _ c.if1.true)
+    atom_fails c.loop-i.invariant c.loop-i-test.true c.holds.ensures (c.if-not-holds.true)
 
-add-i : tie.Need-overflow-add-i invariant-loop decreases-loop
+add-i : tie.Need-overflow_add-i invariant-loop decreases-loop
 add-i c = omega arith
 
-loop-less : tie.Need-loop-smaller invariant-loop decreases-loop
+loop-less : tie.Need-loop-i-smaller invariant-loop decreases-loop
 loop-less c = omega arith
 
-loop-again : tie.Need-loop-preserved invariant-loop decreases-loop
+loop-again : tie.Need-loop-i-preserved invariant-loop decreases-loop
 unfolding blank_atom
 loop-again c =
-    let held = c.before in
-    let more = held.before.before in
-    atom_passes more.before.loop.invariant more.loop-test.true held.holds.ensures (not-false _ c.if1.false)
+    atom_passes c.loop-i.invariant c.loop-i-test.true c.holds.ensures (c.if-not-holds.false)
 
-returns-2 : tie.Need-returns-2 invariant-loop decreases-loop
-returns-2 c = all_passed c.before.loop.invariant c.loop-test.false
+returns-2 : tie.Need-returns invariant-loop decreases-loop
+returns-2 c = all_passed c.loop-i.invariant c.loop-i-test.false
 
-pub all-hold-spec : {M : Type 1} → statement M
-all-hold-spec =
+pub all_hold_spec : {M : Type 1} → statement M
+all_hold_spec =
     tie.close (tie.spec invariant-loop decreases-loop loop-holds mul-atom element-copy-out-atom holds-requires returns add-i loop-less loop-again returns-2)

@@ -4,15 +4,15 @@ use Rattle.actions.specs.Grounds.{holds_in}
 use Rattle.actions.proofs.holds.Statement.{statement}
 use Rattle.actions.proofs.holds.Tie as tie
 
-ground-requires : tie.Need-ground-requires
+ground-requires : tie.Need-ground-n-requires
 ground-requires c κs = search rules
 
-has-row-requires : tie.Need-has-row-requires
-has-row-requires c κs = c.before.before.before.before.requires.2
+has-row-requires : tie.Need-has_row-requires
+has-row-requires c κs = c.requires.2
 
 returns : tie.Need-returns
 unfolding holds_in
-returns c = rw c.before.ground.ensures at c.has_row.ensures
+returns c = rw c.ground-n.ensures at c.has_row.ensures
 
-pub holds-spec : {M : Type 1} → statement M
-holds-spec = tie.close (tie.spec ground-requires has-row-requires returns)
+pub holds_spec : {M : Type 1} → statement M
+holds_spec = tie.close (tie.spec ground-requires has-row-requires returns)

@@ -6,16 +6,16 @@ use Rattle.actions.specs.Grounds.{place_byte}
 use Rattle.actions.proofs.object.Statement.{statement}
 use Rattle.actions.proofs.object.Tie as tie
 
-shared-slice-read-result : tie.Need-shared-slice-read-result
-shared-slice-read-result c = c.before.before.requires c.before.if1.true
+shared-slice-read-result : tie.Need-bounds-objects-parameter
+shared-slice-read-result c = c.requires c.if-k-arity.true
 
-returns : tie.Need-returns
+returns : tie.Need-returns-then-k-arity
 unfolding place_byte
-returns c = sym (cond_true _ _ _ (le-leb _ _ c.before.if1.true))
+returns c = sym (cond_true _ _ _ (le-leb _ _ c.if-k-arity.true))
 
-returns-2 : tie.Need-returns-2
+returns-2 : tie.Need-returns-else-k-arity
 unfolding place_byte
-returns-2 c = sym (cond_false _ _ _ (lt-leb _ _ c.if1.false))
+returns-2 c = sym (cond_false _ _ _ (lt-leb _ _ c.if-k-arity.false))
 
-pub object-spec : {M : Type 1} → statement M
-object-spec = tie.close (tie.spec shared-slice-read-result returns returns-2)
+pub object_spec : {M : Type 1} → statement M
+object_spec = tie.close (tie.spec shared-slice-read-result returns returns-2)

@@ -6,13 +6,13 @@ use Rattle.actions.specs.Grounds.{place_byte}
 use Rattle.actions.proofs.place_byte.Statement.{statement}
 use Rattle.actions.proofs.place_byte.Tie as tie
 
-returns : tie.Need-returns
+returns : tie.Need-returns-then-k-arity
 unfolding place_byte
-returns c = sym (cond_true _ _ _ (le-leb _ _ c.if1.true))
+returns c = sym (cond_true _ _ _ (le-leb _ _ c.if-k-arity.true))
 
-returns-2 : tie.Need-returns-2
+returns-2 : tie.Need-returns-else-k-arity
 unfolding place_byte
-returns-2 c = sym (cond_false _ _ _ (lt-leb _ _ c.if1.false))
+returns-2 c = sym (cond_false _ _ _ (lt-leb _ _ c.if-k-arity.false))
 
-pub place-byte-spec : {M : Type 1} → statement M
-place-byte-spec = tie.close (tie.spec returns returns-2)
+pub place_byte_spec : {M : Type 1} → statement M
+place_byte_spec = tie.close (tie.spec returns returns-2)

@@ -12,5 +12,5 @@ returns : tie.Need-returns
 unfolding put_in schema_of
 returns c = c.grounded.ensures
 
-pub put-in-spec : {M : Type 1} → statement M
-put-in-spec = tie.close (tie.spec grounded-requires returns)
+pub put_in_spec : {M : Type 1} → statement M
+put_in_spec = tie.close (tie.spec grounded-requires returns)

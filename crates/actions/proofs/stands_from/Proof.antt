@@ -8,43 +8,40 @@ use Rattle.actions.proofs.Passing.{member_found, member_again, member_end}
 use Rattle.actions.proofs.stands_from.Statement.{statement}
 use Rattle.actions.proofs.stands_from.Tie as tie
 
-abbrev invariant-loop : tie.invariant-loop
+abbrev invariant-loop : tie.invariant-loop-i
 invariant-loop objects at o i₀ i = (i ≤ length objects) × (member o (drop i objects) ≡ member o (drop at objects))
 
-abbrev decreases-loop : tie.decreases-loop
+abbrev decreases-loop : tie.decreases-loop-i
 decreases-loop objects at o i₀ i = length objects - i
 
-loop-holds : tie.Need-loop-init invariant-loop decreases-loop
+loop-holds : tie.Need-loop-i-init invariant-loop decreases-loop
 loop-holds c = (c.requires, refl)
 
-shared-slice-read-if1 : tie.Need-shared-slice-read-if1 invariant-loop decreases-loop
+shared-slice-read-if1 : tie.Need-bounds-objects-i invariant-loop decreases-loop
 shared-slice-read-if1 c = omega arith
 
-returns : tie.Need-returns invariant-loop decreases-loop
+returns : tie.Need-returns-then-objects-i invariant-loop decreases-loop
 returns c =
-    let start = c.before.before.before.before in
-    let head = c.before.before.before.loop in
-    member_found start.args.o start.args.objects.now head.i _ head.invariant.1 (omega arith) c.if1.true
+    let head = c.loop-i in
+    member_found c.args.o c.args.objects.now head.i _ head.invariant.1 (omega arith) c.if-objects-i.true
 
-add-i : tie.Need-overflow-add-i invariant-loop decreases-loop
+add-i : tie.Need-overflow_add-i invariant-loop decreases-loop
 add-i c = omega arith
 
-loop-less : tie.Need-loop-smaller invariant-loop decreases-loop
+loop-less : tie.Need-loop-i-smaller invariant-loop decreases-loop
 loop-less c = omega arith
 
-loop-again : tie.Need-loop-preserved invariant-loop decreases-loop
+loop-again : tie.Need-loop-i-preserved invariant-loop decreases-loop
 loop-again c =
-    let start = c.before.before.before.before in
-    let head = c.before.before.before.loop in
-    (omega arith, member_again start.args.o start.args.objects.now head.i _ head.invariant.1 (omega arith) c.if1.false)
+    let head = c.loop-i in
+    (omega arith, member_again c.args.o c.args.objects.now head.i _ head.invariant.1 (omega arith) c.if-objects-i.false)
 
-returns-2 : tie.Need-returns-2 invariant-loop decreases-loop
+returns-2 : tie.Need-returns invariant-loop decreases-loop
 returns-2 c =
-    let start = c.before.before in
-    let head = c.before.loop in
-    member_end start.args.o start.args.objects.now head.i _ head.invariant.1 (omega arith)
+    let head = c.loop-i in
+    member_end c.args.o c.args.objects.now head.i _ head.invariant.1 (omega arith)
 
-pub stands-from-spec : {M : Type 1} → statement M
-stands-from-spec =
+pub stands_from_spec : {M : Type 1} → statement M
+stands_from_spec =
     tie.close
     (tie.spec invariant-loop decreases-loop loop-holds shared-slice-read-if1 returns add-i loop-less loop-again returns-2)

@@ -12,5 +12,5 @@ returns : tie.Need-returns
 unfolding taken_out schema_of
 returns c = c.grounded.ensures
 
-pub taken-out-spec : {M : Type 1} → statement M
-taken-out-spec = tie.close (tie.spec grounded-requires returns)
+pub taken_out_spec : {M : Type 1} → statement M
+taken_out_spec = tie.close (tie.spec grounded-requires returns)

@@ -44,7 +44,7 @@ returns c = value_code _ _ c.before.before.before.requires (ap applied_says c.be
 
 returns-2 : tie.Need-returns-2
 unfolding applied_says
-returns-2 c = same_code c.refusal_code.result c.refusal_code.type-inv c.refusal_code.ensures (ap applied_says c.before.before.applied2.given.1)
+returns-2 c = same_code c.refusal_code.result c.refusal_code.type_inv c.refusal_code.ensures (ap applied_says c.before.before.applied2.given.1)
 
 returns-3 : tie.Need-returns-3
 unfolding signed applied_says

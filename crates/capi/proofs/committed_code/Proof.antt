@@ -20,7 +20,7 @@ enum_told c = search rules
 returns : tie.Need-returns
 unfolding committed_says
 returns c =
-    same_code c.applied-code.result c.applied-code.type-inv c.applied-code.ensures (ap committed_says c.before.before.committed.given.1)
+    same_code c.applied-code.result c.applied-code.type_inv c.applied-code.ensures (ap committed_says c.before.before.committed.given.1)
 
 returns-2 : tie.Need-returns-2
 unfolding signed committed_says

@@ -32,7 +32,7 @@ returns c = value_code _ _ c.before.before.before.requires (ap listed_says c.bef
 
 returns-2 : tie.Need-returns-2
 unfolding listed_says
-returns-2 c = same_code c.refusal_code.result c.refusal_code.type-inv c.refusal_code.ensures (ap listed_says c.before.before.listed2.given.1)
+returns-2 c = same_code c.refusal_code.result c.refusal_code.type_inv c.refusal_code.ensures (ap listed_says c.before.before.listed2.given.1)
 
 returns-3 : tie.Need-returns-3
 unfolding signed listed_says

@@ -56,7 +56,7 @@ unfolding count_said bytes_said
 returns-3 c =
     let told = c.before.before in
     let start = told.before.before in (
-      same_code c.refusal_code.result c.refusal_code.type-inv c.refusal_code.ensures (ap count_said told.answer2.given.1),
+      same_code c.refusal_code.result c.refusal_code.type_inv c.refusal_code.ensures (ap count_said told.answer2.given.1),
       bytes_of start.args.next.objects start.args.found.now told.answer2.given.1,
     )
 

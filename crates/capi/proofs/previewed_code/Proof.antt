@@ -15,7 +15,7 @@ applied-code-requires c κs = search rules
 
 returns : tie.Need-returns
 returns c = (
-  same_code c.applied-code.result c.applied-code.type-inv c.applied-code.ensures refl,
+  same_code c.applied-code.result c.applied-code.type_inv c.applied-code.ensures refl,
   shown_refused _ _ _ (not_counted _ c.before.match.keys2).1,
 )
 
@@ -28,7 +28,7 @@ applied-code-requires-2 c κs = search rules
 returns-2 : tie.Need-returns-2
 returns-2 c =
     let told = c.before.before.before.before in (
-      same_code c.applied-code2.result c.applied-code2.type-inv c.applied-code2.ensures refl,
+      same_code c.applied-code2.result c.applied-code2.type_inv c.applied-code2.ensures refl,
       c.before.write-changes.ensures ∙ shown_counted _ _ _ told.enum_told.given.1,
     )
 

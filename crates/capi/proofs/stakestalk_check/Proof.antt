@@ -25,7 +25,7 @@ returns c =
 returns-2 : tie.Need-returns-2
 returns-2 c =
     let start = c.before.before.before.before.before.before in
-    same_code c.refusal_code.result c.refusal_code.type-inv c.refusal_code.ensures
+    same_code c.refusal_code.result c.refusal_code.type_inv c.refusal_code.ensures
     (checks_refused start.args.card.now c.before.before.before.before.decode.result c.before.before.before.before.decode.ensures
     _ c.before.before.verdict.given.1)
 

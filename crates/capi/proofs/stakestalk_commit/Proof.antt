@@ -24,7 +24,7 @@ returns c =
     let read = called.before.before in
     let start = read.before.before.before.before in
     let commits = given_so start.args.card.now start.args.state.now start.args.count read.changes-from.ensures called.commit.ensures in
-    (same_code c.committed-code.result c.committed-code.type-inv c.committed-code.ensures (sym commits.answer), commits.buffer)
+    (same_code c.committed-code.result c.committed-code.type_inv c.committed-code.ensures (sym commits.answer), commits.buffer)
 
 pub stakestalk-commit-spec : {M : Type 1} → statement M
 stakestalk-commit-spec =

@@ -18,7 +18,7 @@ same_length c = search rules
 returns : tie.Need-returns
 returns c =
     let done = c.before.before.before.initial.ensures in
-    (same_code c.applied-code.result c.applied-code.type-inv c.applied-code.ensures (sym done.answer), done.buffer)
+    (same_code c.applied-code.result c.applied-code.type_inv c.applied-code.ensures (sym done.answer), done.buffer)
 
 pub stakestalk-initial-spec : {M : Type 1} → statement M
 stakestalk-initial-spec =

@@ -39,7 +39,7 @@ next-open-code-requires c κs = found_small _ _ _ _ c.before.next-open.ensures
 returns : tie.Need-returns
 returns c =
     let called = c.before.before in (
-      same_code c.next-open-code.result c.next-open-code.type-inv c.next-open-code.ensures.0 (sym (number_answered (answered called))),
+      same_code c.next-open-code.result c.next-open-code.type_inv c.next-open-code.ensures.0 (sym (number_answered (answered called))),
       c.next-open-code.ensures.1 ∙ bytes_answered (entry called).args.found.now (answered called),
     )
 

@@ -17,7 +17,7 @@ previewed-code-requires c κs =
 returns : tie.Need-returns
 returns c =
     let asks = c.before.before.preview.ensures in (
-      same_code c.previewed-code.result c.previewed-code.type-inv c.previewed-code.ensures.0 (sym (number_asked asks)),
+      same_code c.previewed-code.result c.previewed-code.type_inv c.previewed-code.ensures.0 (sym (number_asked asks)),
       c.previewed-code.ensures.1 ∙ bytes_asked asks _,
     )
 

@@ -22,7 +22,7 @@ returns c =
     let start = c.before.before.before.before.before.before.before in
     let refused = rewrites_refused start.args.card.now c.before.before.before.before.decode.result
     c.before.before.before.before.decode.ensures _ c.before.before.verdict.given.1 start.args.out.now in (
-      same_code c.refusal_code.result c.refusal_code.type-inv c.refusal_code.ensures (ap (λ (call : Call). call.answer) refused),
+      same_code c.refusal_code.result c.refusal_code.type_inv c.refusal_code.ensures (ap (λ (call : Call). call.answer) refused),
       sym (ap (λ (call : Call). call.buffer) refused),
     )
 
@@ -45,7 +45,7 @@ returns-2 c =
     let accepted = rewrites_accepted start.args.card.now c.before.before.before.before.before.before.before.before.decode.result
     c.before.before.before.before.before.before.before.before.decode.ensures
     c.before.before.before.before.before.before.enum_told.given.1 start.args.out.now in (
-      same_code c.writing-code.result c.writing-code.type-inv c.writing-code.ensures
+      same_code c.writing-code.result c.writing-code.type_inv c.writing-code.ensures
           (ap (λ (call : Call). call.answer) accepted ∙ sym done.answer),
       done.buffer ∙ ap (λ (call : Call). call.buffer) (sym accepted),
     )

@@ -22,7 +22,7 @@ same_length c = search rules
 returns : tie.Need-returns
 returns c =
     let done = c.before.before.before.section.ensures in
-    (same_code c.listed-code.result c.listed-code.type-inv c.listed-code.ensures (sym done.answer), done.buffer)
+    (same_code c.listed-code.result c.listed-code.type_inv c.listed-code.ensures (sym done.answer), done.buffer)
 
 sub-section : tie.Need-overflow-sub-section
 sub-section c = search rules
@@ -53,7 +53,7 @@ returns-2 c =
     let room = c.before.before.before.before.before.if1.false in
     let called = c.before.before.before.section2 in
     let done = called.ensures in (
-      same_code c.listed-code2.result c.listed-code2.type-inv c.listed-code2.ensures
+      same_code c.listed-code2.result c.listed-code2.type_inv c.listed-code2.ensures
           (sym (done.answer ∙ first_answers start.args.number start.args.card.now start.args.out.now room)),
       first_leaves start.args.number start.args.card.now start.args.out.now room _ done.buffer called.auto.1.1.0,
     )

@@ -29,7 +29,7 @@ returns c = value_code _ _ c.before.before.before.requires (ap writing_says c.be
 
 returns-2 : tie.Need-returns-2
 unfolding writing_says
-returns-2 c = same_code c.refusal_code.result c.refusal_code.type-inv c.refusal_code.ensures (ap writing_says c.before.before.writing2.given.1)
+returns-2 c = same_code c.refusal_code.result c.refusal_code.type_inv c.refusal_code.ensures (ap writing_says c.before.before.writing2.given.1)
 
 returns-3 : tie.Need-returns-3
 unfolding signed writing_says

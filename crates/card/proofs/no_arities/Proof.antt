@@ -9,5 +9,5 @@ returns : tie.Need-returns
 unfolding arities_for padded blank_atom
 returns c = refl
 
-pub no-arities-spec : {M : Type 1} → statement M
-no-arities-spec = tie.close (tie.spec returns)
+pub no_arities_spec : {M : Type 1} → statement M
+no_arities_spec = tie.close (tie.spec returns)

@@ -8,5 +8,5 @@ returns : tie.Need-returns
 unfolding blank_atom
 returns c = refl
 
-pub no-atom-spec : {M : Type 1} → statement M
-no-atom-spec = tie.close (tie.spec returns)
+pub no_atom_spec : {M : Type 1} → statement M
+no_atom_spec = tie.close (tie.spec returns)

@@ -12,19 +12,19 @@ use Rattle.masks.proofs.all_below.Tie as tie
 fewer : {n : ℕ} → n ≤ 64 → (n ≡ 64 → ⊥) → n < 64
 fewer h e = omega arith
 
-returns : tie.Need-returns
+returns : tie.Need-returns-then-n-eq64
 unfolding all_below
-returns c = ap (λ (n : ℕ). 2 ^ n - 1) (sym c.if1.true)
+returns c = ap (λ (n : ℕ). 2 ^ n - 1) (sym c.if-n-eq64.true)
 
-shl-result : tie.Need-overflow-shl-result
+shl-result : tie.Need-overflow_shl-result
 shl-result c = search rules
 
-sub-result : tie.Need-overflow-sub-result
-sub-result c = subst (λ (k : ℕ). 1 ≤ k) (sym (one_shifted (fewer c.before.requires c.if1.false))) (pow_pos c.before.args.n)
+sub-result : tie.Need-overflow_sub-result
+sub-result c = subst (λ (k : ℕ). 1 ≤ k) (sym (one_shifted (fewer c.requires c.if-n-eq64.false))) (pow_pos c.args.n)
 
-returns-2 : tie.Need-returns-2
+returns-2 : tie.Need-returns
 unfolding all_below
-returns-2 c = ap (λ (n : ℕ). n - 1) (one_shifted (fewer c.before.requires c.if1.false))
+returns-2 c = ap (λ (n : ℕ). n - 1) (one_shifted (fewer c.requires c.if-n-eq64.false))
 
-pub all-below-spec : {M : Type 1} → statement M
-all-below-spec = tie.close (tie.spec returns shl-result sub-result returns-2)
+pub all_below_spec : {M : Type 1} → statement M
+all_below_spec = tie.close (tie.spec returns shl-result sub-result returns-2)

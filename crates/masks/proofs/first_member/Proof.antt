@@ -6,11 +6,11 @@ use Rattle.masks.proofs.Walking.{walk}
 use Rattle.masks.proofs.first_member.Statement.{statement}
 use Rattle.masks.proofs.first_member.Tie as tie
 
-cast-result : tie.Need-overflow-cast-result
+cast-result : tie.Need-overflow_cast-result
 cast-result c = omega (arith, trailing_le 64 c.args.mask)
 
 returns : tie.Need-returns
 returns c = (walk c.requires (search rules)).trailing
 
-pub first-member-spec : {M : Type 1} → statement M
-first-member-spec = tie.close (tie.spec cast-result returns)
+pub first_member_spec : {M : Type 1} → statement M
+first_member_spec = tie.close (tie.spec cast-result returns)

@@ -8,12 +8,12 @@ use Rattle.masks.specs.Sets.{is_member}
 use Rattle.masks.proofs.is_member.Statement.{statement}
 use Rattle.masks.proofs.is_member.Tie as tie
 
-shr-result : tie.Need-overflow-shr-result
+shr-result : tie.Need-overflow_shr-result
 shr-result c = search rules
 
 returns : tie.Need-returns
 unfolding is_member
 returns c = ap (λ (n : ℕ). eqb n 1) (and_mask (c.args.mask / 2 ^ c.args.o) 1)
 
-pub is-member-spec : {M : Type 1} → statement M
-is-member-spec = tie.close (tie.spec shr-result returns)
+pub is_member_spec : {M : Type 1} → statement M
+is_member_spec = tie.close (tie.spec shr-result returns)

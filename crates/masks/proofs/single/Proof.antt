@@ -6,12 +6,12 @@ use Rattle.masks.proofs.Operations.{one_shifted}
 use Rattle.masks.proofs.single.Statement.{statement}
 use Rattle.masks.proofs.single.Tie as tie
 
-shl-result : tie.Need-overflow-shl-result
+shl-result : tie.Need-overflow_shl-result
 shl-result c = search rules
 
 returns : tie.Need-returns
 unfolding single_of
 returns c = one_shifted c.requires
 
-pub single-spec : {M : Type 1} → statement M
-single-spec = tie.close (tie.spec shl-result returns)
+pub single_spec : {M : Type 1} → statement M
+single_spec = tie.close (tie.spec shl-result returns)

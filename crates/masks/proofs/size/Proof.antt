@@ -7,5 +7,5 @@ use Rattle.masks.proofs.size.Tie as tie
 returns : tie.Need-returns
 returns c = size_members (search rules)
 
-pub size-spec : {M : Type 1} → statement M
-size-spec = tie.close (tie.spec returns)
+pub size_spec : {M : Type 1} → statement M
+size_spec = tie.close (tie.spec returns)

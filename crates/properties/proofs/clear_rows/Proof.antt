@@ -13,64 +13,63 @@ record Cleared (before : List ℕ) (end : ℕ) (counts : List ℕ) (i : ℕ) : T
   inside : i ≤ end
   cleared : counts ≡ replicate i 0 ++ drop i before
 
-abbrev invariant-loop : tie.invariant-loop
+abbrev invariant-loop : tie.invariant-loop-i
 invariant-loop counts₀ rows end i₀ counts i = Cleared counts₀ end counts i
 
-abbrev decreases-loop : tie.decreases-loop
+abbrev decreases-loop : tie.decreases-loop-i
 decreases-loop counts₀ rows end i₀ counts i = end - i
 
 -- the table keeps its length
-kept : (c : tie.At-loop invariant-loop decreases-loop) → length c.loop.counts ≡ length c.before.args.counts.now
+kept : (c : tie.At-loop-i invariant-loop decreases-loop) → length c.loop-i.counts ≡ length c.args.counts.now
 kept c =
-    let before = c.before.args.counts.now in
-    let inside = c.loop.invariant.inside in
-    let room = c.before.requires in
-    ap length c.loop.invariant.cleared
-    ∙ length-append (replicate c.loop.i 0) (drop c.loop.i before)
-    ∙ omega (arith, length-replicate {A = ℕ} c.loop.i 0, length-drop c.loop.i before)
+    let before = c.args.counts.now in
+    let inside = c.loop-i.invariant.inside in
+    let room = c.requires in
+    ap length c.loop-i.invariant.cleared
+    ∙ length-append (replicate c.loop-i.i 0) (drop c.loop-i.i before)
+    ∙ omega (arith, length-replicate {A = ℕ} c.loop-i.i 0, length-drop c.loop-i.i before)
 
-mul-end : tie.Need-overflow-mul-end invariant-loop decreases-loop
+mul-end : tie.Need-overflow_mul-end invariant-loop decreases-loop
 mul-end c = let room = c.requires in omega arith
 
-loop-holds : tie.Need-loop-init invariant-loop decreases-loop
+loop-holds : tie.Need-loop-i-init invariant-loop decreases-loop
 loop-holds c = record { inside = omega arith; cleared = fill_none c.args.counts.now 0 }
 
-mul-counts : tie.Need-overflow-mul-counts invariant-loop decreases-loop
-mul-counts c = omega (arith, kept c.before, c.before.before.well_formed_lem.0.1)
+mul-counts : tie.Need-offset_bounds-counts-i invariant-loop decreases-loop
+mul-counts c = omega (arith, kept c.before, c.well_formed.0.1)
 
-slice-write-counts : tie.Need-slice-write-counts invariant-loop decreases-loop
+slice-write-counts : tie.Need-bounds-counts-i invariant-loop decreases-loop
 slice-write-counts c = omega (arith, kept c.before)
 
-add-i : tie.Need-overflow-add-i invariant-loop decreases-loop
+add-i : tie.Need-overflow_add-i invariant-loop decreases-loop
 add-i c = omega (arith, kept c.before)
 
-loop-less : tie.Need-loop-smaller invariant-loop decreases-loop
-loop-less c = less_left c.loop-test.true
+loop-less : tie.Need-loop-i-smaller invariant-loop decreases-loop
+loop-less c = less_left c.loop-i-test.true
 
-loop-again : tie.Need-loop-preserved invariant-loop decreases-loop
+loop-again : tie.Need-loop-i-preserved invariant-loop decreases-loop
 loop-again c =
-    let at = c.before.loop in
-    let room = c.before.before.requires in
+    let at = c.loop-i in
+    let room = c.requires in
     record {
       inside = omega arith;
       cleared =
           ap (λ (l : List ℕ). set l at.i 0) at.invariant.cleared
-          ∙ fill_more at.i 0 c.before.before.args.counts.now (omega arith);
+          ∙ fill_more at.i 0 c.args.counts.now (omega arith);
     }
 
-same_length : tie.Need-same-length invariant-loop decreases-loop
+same_length : tie.Need-shape_of-counts invariant-loop decreases-loop
 same_length c = kept c.before
 
 returns : tie.Need-returns invariant-loop decreases-loop
 returns c =
-    let s = c.before.before in
-    let at = c.before.loop in
+    let at = c.loop-i in
     let inside = at.invariant.inside in
-    let whole : at.i ≡ 60 * s.args.rows = omega arith in
-    at.invariant.cleared ∙ ap (λ (k : ℕ). replicate k 0 ++ drop k s.args.counts.now) whole
+    let whole : at.i ≡ 60 * c.args.rows = omega arith in
+    at.invariant.cleared ∙ ap (λ (k : ℕ). replicate k 0 ++ drop k c.args.counts.now) whole
 
-pub clear-rows-spec : {M : Type 1} → statement M
-clear-rows-spec =
+pub clear_rows_spec : {M : Type 1} → statement M
+clear_rows_spec =
     tie.close
     (tie.spec
     invariant-loop

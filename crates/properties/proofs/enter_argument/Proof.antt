@@ -11,43 +11,41 @@ use Rattle.properties.proofs.enter_argument.Tie as tie
 wide-requires : tie.Need-wide-requires
 wide-requires c κs = search rules
 
-mul-place : tie.Need-overflow-mul-place
+mul-place : tie.Need-overflow_mul-place
 mul-place c = search rules
 
-add-place : tie.Need-overflow-add-place
+add-place : tie.Need-overflow_add-place
 add-place c = search rules
 
-mul-counts : tie.Need-overflow-mul-counts
+mul-counts : tie.Need-offset_bounds-counts-place
 mul-counts c = search rules
 
-slice-read-counts : tie.Need-slice-read-counts
+slice-read-counts : tie.Need-bounds-counts-place
 slice-read-counts c = search rules
 
-add-counts : tie.Need-overflow-add-counts
+add-counts : tie.Need-overflow_add-counts
 add-counts c =
-    let s = c.before.before.before in
-    let e = c.before.wide.ensures.0 in
-    let small : get_or s.args.counts.now (60 * c.before.wide.result + s.args.property) 0 < 65535 =
-    subst (λ (o : ℕ). get_or s.args.counts.now (60 * o + s.args.property) 0 < 65535) (sym e) s.requires.1 in
+    let e = c.wide.ensures.0 in
+    let small : get_or c.args.counts.now (60 * c.wide.result + c.args.property) 0 < 65535 =
+    subst (λ (o : ℕ). get_or c.args.counts.now (60 * o + c.args.property) 0 < 65535) (sym e) c.requires.1 in
     omega arith
 
-mul-counts-2 : tie.Need-overflow-mul-counts-2
+mul-counts-2 : tie.Need-offset_bounds-counts-place-2
 mul-counts-2 c = search rules
 
-slice-write-counts : tie.Need-slice-write-counts
+slice-write-counts : tie.Need-bounds-counts-place-2
 slice-write-counts c = search rules
 
-same_length : tie.Need-same-length
+same_length : tie.Need-shape_of-counts
 same_length c = search rules
 
 returns : tie.Need-returns
 unfolding raised
 returns c =
-    let s = c.before.before.before in
-    ap (λ (o : ℕ). raised s.args.counts.now (60 * o + s.args.property)) c.before.wide.ensures.0
+    ap (λ (o : ℕ). raised c.args.counts.now (60 * o + c.args.property)) c.wide.ensures.0
 
-pub enter-argument-spec : {M : Type 1} → statement M
-enter-argument-spec =
+pub enter_argument_spec : {M : Type 1} → statement M
+enter_argument_spec =
     tie.close
     (tie.spec
     wide-requires

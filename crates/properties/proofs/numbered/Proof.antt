@@ -18,42 +18,42 @@ record Passed (arities : List ℕ) (n : ℕ) (firsts : List ℕ) (count p : ℕ)
   small : count ≤ 255 * p
   begun : Begun arities p firsts count
 
-abbrev invariant-loop : tie.invariant-loop
+abbrev invariant-loop : tie.invariant-loop-p
 invariant-loop arities n firsts₀ count₀ p₀ firsts count p = Passed arities n firsts count p
 
-abbrev decreases-loop : tie.decreases-loop
+abbrev decreases-loop : tie.decreases-loop-p
 decreases-loop arities n firsts₀ count₀ p₀ firsts count p = n - p
 
-loop-holds : tie.Need-loop-init invariant-loop decreases-loop
+loop-holds : tie.Need-loop-p-init invariant-loop decreases-loop
 loop-holds c = record { inside = omega arith; small = omega arith; begun = begin _ }
 
-mul-firsts : tie.Need-overflow-mul-firsts invariant-loop decreases-loop
+mul-firsts : tie.Need-offset_bounds-firsts-p invariant-loop decreases-loop
 mul-firsts c = omega arith
 
-array-write-firsts : tie.Need-array-write-firsts invariant-loop decreases-loop
+array-write-firsts : tie.Need-bounds-firsts-p invariant-loop decreases-loop
 array-write-firsts c = omega arith
 
-array-read-wide : tie.Need-array-read-wide invariant-loop decreases-loop
+array-read-wide : tie.Need-bounds-arities-p invariant-loop decreases-loop
 array-read-wide c = omega arith
 
-wide-requires : tie.Need-wide-requires invariant-loop decreases-loop
+wide-requires : tie.Need-wide-count-requires invariant-loop decreases-loop
 wide-requires c κs = search rules
 
-add-count : tie.Need-overflow-add-count invariant-loop decreases-loop
+add-count : tie.Need-overflow_add-count invariant-loop decreases-loop
 add-count c = omega arith
 
-add-p : tie.Need-overflow-add-p invariant-loop decreases-loop
+add-p : tie.Need-overflow_add-p invariant-loop decreases-loop
 add-p c = omega arith
 
-loop-less : tie.Need-loop-smaller invariant-loop decreases-loop
-loop-less c = less_left c.before.loop-test.true
+loop-less : tie.Need-loop-p-smaller invariant-loop decreases-loop
+loop-less c = less_left c.loop-p-test.true
 
-loop-again : tie.Need-loop-preserved invariant-loop decreases-loop
+loop-again : tie.Need-loop-p-preserved invariant-loop decreases-loop
 loop-again c =
-    let a = c.before.before.before.before.args.predicates in
-    let l : length c.before.before.before.before.args.predicates.arities ≡ 20 = search rules in
-    let here = c.before.before.loop in
-    let e : c.wide.result ≡ get_or a.arities here.p 0 = c.wide.ensures.0 in
+    let a = c.args.predicates in
+    let l : length c.args.predicates.arities ≡ 20 = search rules in
+    let here = c.loop-p in
+    let e : c.wide-count.result ≡ get_or a.arities here.p 0 = c.wide-count.ensures.0 in
     record {
       inside = omega arith;
       small = omega arith;
@@ -63,16 +63,16 @@ loop-again c =
 
 returns : tie.Need-returns invariant-loop decreases-loop
 returns c =
-    let a = c.before.before.before.args.predicates in
-    let l : length c.before.before.before.args.predicates.arities ≡ 20 = search rules in
-    let end = c.before.loop in
+    let a = c.args.predicates in
+    let l : length c.args.predicates.arities ≡ 20 = search rules in
+    let end = c.loop-p in
     let e : end.p ≡ a.count = omega arith in
     subst (λ (l : List ℕ). Numbers l (record { count = end.count; firsts = end.firsts }))
     (ap (λ (n : ℕ). take n a.arities) e ∙ sym (arities_within a (omega arith)))
     (finish a.arities end.p end.firsts end.count (omega arith) end.invariant.begun)
 
-pub numbered-spec : {M : Type 1} → statement M
-numbered-spec =
+pub numbered_spec : {M : Type 1} → statement M
+numbered_spec =
     tie.close
     (tie.spec
     invariant-loop

@@ -7,46 +7,40 @@ use borrow.Author.Rules.{rules}
 use Rattle.reader.proofs.facts.Statement.{statement}
 use Rattle.reader.proofs.facts.Tie as tie
 
-fact-count-requires : tie.Need-fact-count-requires
+fact-count-requires : tie.Need-fact_count-counted-requires
 fact-count-requires c κs = search rules
 
-enum-known-counted : tie.Need-enum-known-counted
+enum-known-counted : tie.Need-enum_known-counted
 enum-known-counted c = search rules
 
-enum_told : tie.Need-enum-told
+enum_told : tie.Need-enum_told-1
 enum_told c = search rules
 
 refusal-requires : tie.Need-refusal-requires
 refusal-requires c κs = search rules
 
-no-facts-requires : tie.Need-no-facts-requires
+no-facts-requires : tie.Need-no_facts-requires
 no-facts-requires c κs = search rules
 
-returns : tie.Need-returns
+returns : tie.Need-returns-in_default
 unfolding facts
 returns c =
-    let at-enum-told = c.before.before in
-    let at-fact-count = at-enum-told.before.before in
-    let none = count_refusal at-fact-count.fact_count_lem.ensures at-enum-told.enum_told.given.1 c.before.refusal.ensures in
+    let none = count_refusal c.fact_count-counted.ensures c.in_default.is c.refusal.ensures in
     refuses_beside (halts _ none) c.no_facts.ensures
 
 facts-requires : tie.Need-facts-requires
 facts-requires c κs =
-    let at-counted = c.before in
-    let at-fact-count = at-counted.before.before in
-    let w = at-fact-count.fact_count_lem.ensures in
-    let e = at-counted.counted.given.1 in
-    (count_held _ (count_found w e), count_within w e, at-fact-count.before.before.before.requires)
+    let w = c.fact_count-counted.ensures in
+    let e = c.in-Count.is in
+    (count_held _ (count_found w e), count_within w e, c.requires)
 
-returns-2 : tie.Need-returns-2
+returns-2 : tie.Need-returns
 unfolding facts
 returns-2 c =
-    let at-counted = c.before.before in
-    let at-fact-count = at-counted.before.before in
-    reads_as (goes _ (count_found at-fact-count.fact_count_lem.ensures at-counted.counted.given.1)) c.facts.ensures
+    reads_as (goes _ (count_found c.fact_count-counted.ensures c.in-Count.is)) c.facts.ensures
 
-pub facts-spec : {M : Type 1} → statement M
-facts-spec =
+pub facts_spec : {M : Type 1} → statement M
+facts_spec =
     tie.close
     (tie.spec
     fact-count-requires

@@ -10,127 +10,107 @@ use Rattle.reader.proofs.lists.Statement.{statement}
 use Rattle.reader.proofs.lists.Tie as tie
 
 -- what the lists are read by, from the first list on
-abbrev reading : tie.After-list → ListsRead
+abbrev reading : tie.After-list-read → ListsRead
 reading c =
-    let a = c.before.before.before.before.args in
+    let a = c.args in
     record {
       arities = a.arities.now;
       bits = a.map;
       parameters = a.parameters;
-      none_yet = atoms_of a.arities.now c.before.no_atoms.result;
+      none_yet = atoms_of a.arities.now c.no_atoms.result;
       bytes = drop a.c.at a.card.now;
     }
 
-no-atoms-requires : tie.Need-no-atoms-requires
+no-atoms-requires : tie.Need-no_atoms-requires
 no-atoms-requires c κs = search rules
 
-list-requires : tie.Need-list-requires
+list-requires : tie.Need-list-read-requires
 list-requires c κs =
-    (c.before.before.before.requires.0, c.before.before.before.requires.1, no_list_kept _ c.no_atoms.ensures)
+    (c.requires.0, c.requires.1, no_list_kept _ c.no_atoms.ensures)
 
-enum-known-step : tie.Need-enum-known-step
+enum-known-step : tie.Need-enum_known-step
 enum-known-step c = search rules
 
-enum_told : tie.Need-enum-told
+enum_told : tie.Need-enum_told-1
 enum_told c = search rules
 
 refusal-requires : tie.Need-refusal-requires
 refusal-requires c κs = search rules
 
-no-schema-requires : tie.Need-no-schema-requires
+no-schema-requires : tie.Need-no_schema-requires
 no-schema-requires c κs = search rules
 
-returns : tie.Need-returns
+returns : tie.Need-returns-in_default
 unfolding bit
 returns c =
-    let at-list = c.before.before.before.before in
-    let e = refusal_by at-list.list.ensures c.before.before.enum_told.given.1 c.before.refusal.ensures in
-    schema_refused_lem _ c.no-schema.ensures (preconditions_refused (reading at-list) e)
+    let e = refusal_by c.list-read.ensures c.in_default.is c.refusal.ensures in
+    schema_refused_lem _ c.no_schema.ensures (preconditions_refused (reading c.before.before.before) e)
 
-list-requires-2 : tie.Need-list-requires-2
+list-requires-2 : tie.Need-list-read-requires-2
 list-requires-2 c κs =
-    let at-list = c.before.before.before.before in
-    let start = at-list.before.before.before.before in
-    let w = at-list.list.ensures in
-    let e = c.before.before.step.given.1 in
-    (within_card w e, start.requires.1, list_kept _ _ _ _ w e)
+    let w = c.list-read.ensures in
+    let e = c.in-At.is in
+    (within_card w e, c.requires.1, list_kept _ _ _ _ w e)
 
-enum-known-step-2 : tie.Need-enum-known-step-2
+enum-known-step-2 : tie.Need-enum_known-step-in-At-step-2
 enum-known-step-2 c = search rules
 
-enum-told-2 : tie.Need-enum-told-2
+enum-told-2 : tie.Need-enum_told-in_default-step
 enum-told-2 c = search rules
 
-refusal-requires-2 : tie.Need-refusal-requires-2
+refusal-requires-2 : tie.Need-refusal-requires-in_default-step
 refusal-requires-2 c κs = search rules
 
-no-schema-requires-2 : tie.Need-no-schema-requires-2
+no-schema-requires-2 : tie.Need-no_schema-requires-in_default-step
 no-schema-requires-2 c κs = search rules
 
-returns-2 : tie.Need-returns-2
+returns-2 : tie.Need-returns-in_default-step
 unfolding bit
 returns-2 c =
-    let at-list2 = c.before.before.before.before in
-    let at-step = at-list2.before.before.before in
-    let at-list = at-step.before.before in
-    let p = accepted_by at-list.list.ensures at-step.step.given.1 in
-    let e = refusal_by at-list2.list2.ensures c.before.before.enum-told2.given.1 c.before.refusal2.ensures in
-    schema_refused_lem _ c.no-schema2.ensures (deletes_refused (reading at-list) p e)
+    let p = accepted_by c.list-read.ensures c.in-At.is in
+    let e = refusal_by c.list-read-2.ensures c.in_default-step.is c.refusal-in_default-step.ensures in
+    schema_refused_lem _ c.no_schema-in_default-step.ensures (deletes_refused (reading c.before.before.before.before.before.before) p e)
 
-list-requires-3 : tie.Need-list-requires-3
+list-requires-3 : tie.Need-list-read-requires-3
 list-requires-3 c κs =
-    let at-list2 = c.before.before.before.before in
-    let at-step = at-list2.before.before.before in
-    let at-list = at-step.before.before in
-    let start = at-list.before.before.before.before in
-    let w = at-list.list.ensures in
-    let e = at-step.step.given.1 in
-    (within_card at-list2.list2.ensures c.before.before.step2.given.1, start.requires.1, list_kept _ _ _ _ w e)
+    let w = c.list-read.ensures in
+    let e = c.in-At.is in
+    (within_card c.list-read-2.ensures c.in-At-step.is, c.requires.1, list_kept _ _ _ _ w e)
 
-enum-known-step-3 : tie.Need-enum-known-step-3
+enum-known-step-3 : tie.Need-enum_known-step-in-At-step-3
 enum-known-step-3 c = search rules
 
-enum-told-3 : tie.Need-enum-told-3
+enum-told-3 : tie.Need-enum_told-in_default-step-2
 enum-told-3 c = search rules
 
-refusal-requires-3 : tie.Need-refusal-requires-3
+refusal-requires-3 : tie.Need-refusal-requires-in_default-step-2
 refusal-requires-3 c κs = search rules
 
-no-schema-requires-3 : tie.Need-no-schema-requires-3
+no-schema-requires-3 : tie.Need-no_schema-requires-in_default-step-2
 no-schema-requires-3 c κs = search rules
 
-returns-3 : tie.Need-returns-3
+returns-3 : tie.Need-returns-in_default-step-2
 unfolding bit
 returns-3 c =
-    let at-list3 = c.before.before.before.before in
-    let at-step2 = at-list3.before.before.before in
-    let at-list2 = at-step2.before.before in
-    let at-step = at-list2.before.before.before in
-    let at-list = at-step.before.before in
-    let p = accepted_by at-list.list.ensures at-step.step.given.1 in
-    let d = accepted_by at-list2.list2.ensures at-step2.step2.given.1 in
-    let e = refusal_by at-list3.list3.ensures c.before.before.enum-told3.given.1 c.before.refusal3.ensures in
-    schema_refused_lem _ c.no-schema3.ensures (adds_refused (reading at-list) p d e)
+    let p = accepted_by c.list-read.ensures c.in-At.is in
+    let d = accepted_by c.list-read-2.ensures c.in-At-step.is in
+    let e = refusal_by c.list-read-3.ensures c.in_default-step-2.is c.refusal-in_default-step-2.ensures in
+    schema_refused_lem _ c.no_schema-in_default-step-2.ensures (adds_refused (reading c.before.before.before.before.before.before.before.before.before) p d e)
 
-returns-4 : tie.Need-returns-4
+returns-4 : tie.Need-returns
 unfolding bit schema_of
 returns-4 c =
-    let at-list3 = c.before.before.before.before in
-    let at-step2 = at-list3.before.before.before in
-    let at-list2 = at-step2.before.before in
-    let at-step = at-list2.before.before.before in
-    let at-list = at-step.before.before in
-    let w₁ = at-list.list.ensures in
-    let e₁ = at-step.step.given.1 in
-    let w₂ = at-list2.list2.ensures in
-    let e₂ = at-step2.step2.given.1 in
-    let w₃ = at-list3.list3.ensures in
-    let e₃ = c.before.before.step3.given.1 in
-    let read = lists_read (reading at-list) (accepted_by w₁ e₁) (accepted_by w₂ e₂) (accepted_by w₃ e₃) in
+    let w₁ = c.list-read.ensures in
+    let e₁ = c.in-At.is in
+    let w₂ = c.list-read-2.ensures in
+    let e₂ = c.in-At-step.is in
+    let w₃ = c.list-read-3.ensures in
+    let e₃ = c.in-At-step-2.is in
+    let read = lists_read (reading c.before.before.before.before.before.before.before.before) (accepted_by w₁ e₁) (accepted_by w₂ e₂) (accepted_by w₃ e₃) in
     accepts read (within_card w₃ e₃) (schema_kept _ _ (kept_as w₁ e₁) (kept_as w₂ e₂) (kept_as w₃ e₃))
 
-pub lists-spec : {M : Type 1} → statement M
-lists-spec =
+pub lists_spec : {M : Type 1} → statement M
+lists_spec =
     tie.close
     (tie.spec
     no-atoms-requires

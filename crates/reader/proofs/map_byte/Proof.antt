@@ -10,35 +10,35 @@ use borrow.Author.Rules.{rules}
 use Rattle.reader.proofs.map_byte.Statement.{statement}
 use Rattle.reader.proofs.map_byte.Tie as tie
 
-byte-requires : tie.Need-byte-requires
+byte-requires : tie.Need-byte-read-requires
 byte-requires c κs = search rules
 
-enum-known-read : tie.Need-enum-known-read
+enum-known-read : tie.Need-enum_known-read
 enum-known-read c = search rules
 
-enum_told : tie.Need-enum-told
+enum_told : tie.Need-enum_told-1
 enum_told c = search rules
 
-returns : tie.Need-returns
+returns : tie.Need-returns-in_default
 returns c =
-    let told = c.enum_told.given.1 in
-    passed_on told (byte_that_ends _ _ _ (byte_refused c.before.before.byte.ensures told))
+    let told = c.in_default.is in
+    passed_on told (byte_that_ends _ _ _ (byte_refused c.byte-read.ensures told))
 
-returns-2 : tie.Need-returns-2
+returns-2 : tie.Need-returns-in-0-to-15
 returns-2 c =
-    let w = c.before.before.before.before.byte.ensures in
-    let e = c.before.before.read.given.1 in
-    let below : c.before.before.read.given.0.0 < 16 = omega (arith, c.if1.true) in
+    let w = c.byte-read.ensures in
+    let e = c.in-Byte.is in
+    let below : c.in-Byte.map < 16 = omega (arith, c.in-0-to-15.if-map-lt16-own.true) in
     accepts (byte_that_passes _ _ _ (byte_read w e) (lt-ltb _ _ below)) (byte_within w e) refl
 
-returns-3 : tie.Need-returns-3
+returns-3 : tie.Need-returns-in_default-map
 unfolding refusal_number
 returns-3 c =
-    let w = c.before.before.before.before.byte.ensures in
-    let e = c.before.before.read.given.1 in
-    let above : 16 ≤ c.before.before.read.given.0.0 = omega (arith, c.if1.false) in
+    let w = c.byte-read.ensures in
+    let e = c.in-Byte.is in
+    let above : 16 ≤ c.in-Byte.map = omega (arith, c.in_default-map.if-map-lt16-own.false) in
     refuses (byte_that_fails _ _ _ (byte_read w e) (le-ltb _ _ above))
 
-pub map-byte-spec : {M : Type 1} → statement M
-map-byte-spec =
+pub map_byte_spec : {M : Type 1} → statement M
+map_byte_spec =
     tie.close (tie.spec byte-requires enum-known-read enum_told returns returns-2 returns-3)

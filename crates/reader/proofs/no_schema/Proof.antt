@@ -4,12 +4,12 @@ use borrow.Author.Rules.{rules}
 use Rattle.reader.proofs.no_schema.Statement.{statement}
 use Rattle.reader.proofs.no_schema.Tie as tie
 
-blank-schema-requires : tie.Need-blank-schema-requires
+blank-schema-requires : tie.Need-blank_schema-requires
 blank-schema-requires c κs = search rules
 
 returns : tie.Need-returns
 returns c =
-    λ i. record { step = Refused c.before.args.refusal; schema = c.blank-schema.ensures i }
+    λ i. record { step = Refused c.args.refusal; schema = c.blank_schema.ensures i }
 
-pub no-schema-spec : {M : Type 1} → statement M
-no-schema-spec = tie.close (tie.spec blank-schema-requires returns)
+pub no_schema_spec : {M : Type 1} → statement M
+no_schema_spec = tie.close (tie.spec blank-schema-requires returns)

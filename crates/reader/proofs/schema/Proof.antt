@@ -6,72 +6,62 @@ use borrow.Author.Rules.{rules}
 use Rattle.reader.proofs.schema.Statement.{statement}
 use Rattle.reader.proofs.schema.Tie as tie
 
-map-byte-requires : tie.Need-map-byte-requires
+map-byte-requires : tie.Need-map_byte-read-requires
 map-byte-requires c κs = search rules
 
-enum-known-read : tie.Need-enum-known-read
+enum-known-read : tie.Need-enum_known-read
 enum-known-read c = search rules
 
-enum_told : tie.Need-enum-told
+enum_told : tie.Need-enum_told-1
 enum_told c = search rules
 
 refusal-requires : tie.Need-refusal-requires
 refusal-requires c κs = search rules
 
-no-schema-requires : tie.Need-no-schema-requires
+no-schema-requires : tie.Need-no_schema-requires
 no-schema-requires c κs = search rules
 
-returns : tie.Need-returns
+returns : tie.Need-returns-in_default
 returns c =
-    let at-enum-told = c.before.before in
-    let at-map-byte = at-enum-told.before.before in
-    let e = byte_refusal at-map-byte.map-byte.ensures at-enum-told.enum_told.given.1 c.before.refusal.ensures in
-    schema_refused_lem _ c.no-schema.ensures (map_refused _ _ e)
+    let e = byte_refusal c.map_byte-read.ensures c.in_default.is c.refusal.ensures in
+    schema_refused_lem _ c.no_schema.ensures (map_refused _ _ e)
 
-role-count-requires : tie.Need-role-count-requires
-role-count-requires c κs = byte_within c.before.before.before.map-byte.ensures c.before.read.given.1
+role-count-requires : tie.Need-role_count-read-requires
+role-count-requires c κs = byte_within c.map_byte-read.ensures c.in-Byte.is
 
-enum-known-read-2 : tie.Need-enum-known-read-2
+enum-known-read-2 : tie.Need-enum_known-read-in-Byte-read-2
 enum-known-read-2 c = search rules
 
-enum-told-2 : tie.Need-enum-told-2
+enum-told-2 : tie.Need-enum_told-in_default-read
 enum-told-2 c = search rules
 
-refusal-requires-2 : tie.Need-refusal-requires-2
+refusal-requires-2 : tie.Need-refusal-requires-in_default-read
 refusal-requires-2 c κs = search rules
 
-no-schema-requires-2 : tie.Need-no-schema-requires-2
+no-schema-requires-2 : tie.Need-no_schema-requires-in_default-read
 no-schema-requires-2 c κs = search rules
 
-returns-2 : tie.Need-returns-2
+returns-2 : tie.Need-returns-in_default-read
 returns-2 c =
-    let at-role-count = c.before.before.before.before in
-    let at_read = at-role-count.before.before in
-    let at-map-byte = at_read.before.before in
-    let m = byte_read at-map-byte.map-byte.ensures at_read.read.given.1 in
-    let e = byte_refusal at-role-count.role-count.ensures c.before.before.enum-told2.given.1 c.before.refusal2.ensures in
-    schema_refused_lem _ c.no-schema2.ensures (roles_refused _ _ _ m (bit_zero _) e)
+    let m = byte_read c.map_byte-read.ensures c.in-Byte.is in
+    let e = byte_refusal c.role_count-read.ensures c.in_default-read.is c.refusal-in_default-read.ensures in
+    schema_refused_lem _ c.no_schema-in_default-read.ensures (roles_refused _ _ _ m (bit_zero _) e)
 
-cast-lists : tie.Need-overflow-cast-lists
+cast-lists : tie.Need-overflow_cast-roles
 cast-lists c = search rules
 
 lists-requires : tie.Need-lists-requires
 lists-requires c κs =
-    let at-role-count = c.before.before.before in
-    let at-map-byte = at-role-count.before.before.before.before in
-    (byte_within at-role-count.role-count.ensures c.before.read2.given.1, at-map-byte.before.before.before.requires)
+    (byte_within c.role_count-read.ensures c.in-Byte-read.is, c.requires)
 
-returns-3 : tie.Need-returns-3
+returns-3 : tie.Need-returns
 returns-3 c =
-    let at-role-count = c.before.before.before.before in
-    let at_read = at-role-count.before.before in
-    let at-map-byte = at_read.before.before in
-    let m = byte_read at-map-byte.map-byte.ensures at_read.read.given.1 in
-    let r = byte_read at-role-count.role-count.ensures c.before.before.read2.given.1 in
+    let m = byte_read c.map_byte-read.ensures c.in-Byte.is in
+    let r = byte_read c.role_count-read.ensures c.in-Byte-read.is in
     reads_as (head_read _ _ _ m (bit_zero _) _ r) c.lists.ensures
 
-pub schema-spec : {M : Type 1} → statement M
-schema-spec =
+pub schema_spec : {M : Type 1} → statement M
+schema_spec =
     tie.close
     (tie.spec
     map-byte-requires

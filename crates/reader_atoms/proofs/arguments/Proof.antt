@@ -8,116 +8,92 @@ use borrow.Author.Rules.{rules}
 use Rattle.reader_atoms.proofs.arguments.Statement.{statement}
 use Rattle.reader_atoms.proofs.arguments.Tie as tie
 
-byte-below-requires : tie.Need-byte-below-requires
+byte-below-requires : tie.Need-byte_below-read-requires
 byte-below-requires c κs = search rules
 
-enum-known-read : tie.Need-enum-known-read
+enum-known-read : tie.Need-enum_known-read
 enum-known-read c = search rules
 
-enum_told : tie.Need-enum-told
+enum_told : tie.Need-enum_told-1
 enum_told c = search rules
 
 refusal-requires : tie.Need-refusal-requires
 refusal-requires c κs = search rules
 
-returns : tie.Need-returns
+returns : tie.Need-returns-in_default
 returns c =
-    let at-byte-below = c.before.before.before in
-    let start = at-byte-below.before.before in
-    let none = byte_refusal at-byte-below.byte-below.ensures c.before.enum_told.given.1 c.refusal.ensures in
-    refuses (first_refused _ _ _ _ start.requires.0 none)
+    let none = byte_refusal c.byte_below-read.ensures c.in_default.is c.refusal.ensures in
+    refuses (first_refused _ _ _ _ c.requires.0 none)
 
-returns-2 : tie.Need-returns-2
+returns-2 : tie.Need-returns-then-arity-eq1
 returns-2 c =
-    let w = c.before.before.before.before.byte-below.ensures in
-    let e = c.before.before.read.given.1 in
-    one_argument _ _ _ _ (byte_within w e) c.if1.true (byte_read w e)
+    let w = c.byte_below-read.ensures in
+    let e = c.in-Byte.is in
+    one_argument _ _ _ _ (byte_within w e) c.if-arity-eq1.true (byte_read w e)
 
-byte-below-requires-2 : tie.Need-byte-below-requires-2
+byte-below-requires-2 : tie.Need-byte_below-read-requires-2
 byte-below-requires-2 c κs = search rules
 
-enum-known-read-2 : tie.Need-enum-known-read-2
+enum-known-read-2 : tie.Need-enum_known-read-in-Byte-read-2
 enum-known-read-2 c = search rules
 
-enum-told-2 : tie.Need-enum-told-2
+enum-told-2 : tie.Need-enum_told-in_default-read
 enum-told-2 c = search rules
 
-refusal-requires-2 : tie.Need-refusal-requires-2
+refusal-requires-2 : tie.Need-refusal-requires-in_default-read
 refusal-requires-2 c κs = search rules
 
-returns-3 : tie.Need-returns-3
+returns-3 : tie.Need-returns-in_default-read
 returns-3 c =
-    let at-byte-below2 = c.before.before.before in
-    let at-if1 = at-byte-below2.before in
-    let at_read = at-if1.before.before in
-    let at-byte-below = at_read.before.before in
-    let start = at-byte-below.before.before in
-    let w = at-byte-below.byte-below.ensures in
-    let e = at_read.read.given.1 in
-    let l : 2 ≤ start.args.arity = omega (arith, start.requires, at-if1.if1.false) in
-    let none = byte_refusal at-byte-below2.byte-below2.ensures c.before.enum-told2.given.1 c.refusal2.ensures in
+    let w = c.byte_below-read.ensures in
+    let e = c.in-Byte.is in
+    let l : 2 ≤ c.args.arity = omega (arith, c.requires, c.if-arity-eq1.false) in
+    let none = byte_refusal c.byte_below-read-2.ensures c.in_default-read.is c.refusal-in_default-read.ensures in
     refuses (second_refused _ _ _ _ l (byte_read w e) none)
 
-returns-4 : tie.Need-returns-4
+returns-4 : tie.Need-returns-then-arity-eq2
 returns-4 c =
-    let at-byte-below2 = c.before.before.before.before in
-    let at_read = at-byte-below2.before.before.before in
-    let at-byte-below = at_read.before.before in
-    let w = at-byte-below.byte-below.ensures in
-    let e = at_read.read.given.1 in
-    let w₂ = at-byte-below2.byte-below2.ensures in
-    let e₂ = c.before.before.read2.given.1 in
-    two_arguments _ _ _ _ (byte_within w₂ e₂) c.if2.true (byte_read w e) (byte_read w₂ e₂)
+    let w = c.byte_below-read.ensures in
+    let e = c.in-Byte.is in
+    let w₂ = c.byte_below-read-2.ensures in
+    let e₂ = c.in-Byte-read.is in
+    two_arguments _ _ _ _ (byte_within w₂ e₂) c.if-arity-eq2.true (byte_read w e) (byte_read w₂ e₂)
 
-byte-below-requires-3 : tie.Need-byte-below-requires-3
+byte-below-requires-3 : tie.Need-byte_below-read-requires-3
 byte-below-requires-3 c κs = search rules
 
-enum-known-read-3 : tie.Need-enum-known-read-3
+enum-known-read-3 : tie.Need-enum_known-read-in-Byte-read-3
 enum-known-read-3 c = search rules
 
-enum-told-3 : tie.Need-enum-told-3
+enum-told-3 : tie.Need-enum_told-in_default-read-2
 enum-told-3 c = search rules
 
-refusal-requires-3 : tie.Need-refusal-requires-3
+refusal-requires-3 : tie.Need-refusal-requires-in_default-read-2
 refusal-requires-3 c κs = search rules
 
-returns-5 : tie.Need-returns-5
+returns-5 : tie.Need-returns-in_default-read-2
 returns-5 c =
-    let at-if2 = c.before.before.before.before in
-    let at-read2 = at-if2.before.before in
-    let at-byte-below2 = at-read2.before.before in
-    let at-if1 = at-byte-below2.before in
-    let at_read = at-if1.before.before in
-    let at-byte-below = at_read.before.before in
-    let start = at-byte-below.before.before in
-    let w = at-byte-below.byte-below.ensures in
-    let e = at_read.read.given.1 in
-    let w₂ = at-byte-below2.byte-below2.ensures in
-    let e₂ = at-read2.read2.given.1 in
-    let l : 3 ≤ start.args.arity = omega (arith, start.requires, at-if1.if1.false, at-if2.if2.false) in
-    let w₃ = c.before.before.before.byte-below3.ensures in
-    refuses (third_refused _ _ _ _ l (byte_read w e) (byte_read w₂ e₂) (byte_refusal w₃ c.before.enum-told3.given.1 c.refusal3.ensures))
+    let w = c.byte_below-read.ensures in
+    let e = c.in-Byte.is in
+    let w₂ = c.byte_below-read-2.ensures in
+    let e₂ = c.in-Byte-read.is in
+    let l : 3 ≤ c.args.arity = omega (arith, c.requires, c.if-arity-eq1.false, c.if-arity-eq2.false) in
+    let w₃ = c.byte_below-read-3.ensures in
+    refuses (third_refused _ _ _ _ l (byte_read w e) (byte_read w₂ e₂) (byte_refusal w₃ c.in_default-read-2.is c.refusal-in_default-read-2.ensures))
 
-returns-6 : tie.Need-returns-6
+returns-6 : tie.Need-returns
 returns-6 c =
-    let at-if2 = c.before.before.before.before in
-    let at-read2 = at-if2.before.before in
-    let at-byte-below2 = at-read2.before.before in
-    let at-if1 = at-byte-below2.before in
-    let at_read = at-if1.before.before in
-    let at-byte-below = at_read.before.before in
-    let start = at-byte-below.before.before in
-    let w = at-byte-below.byte-below.ensures in
-    let e = at_read.read.given.1 in
-    let w₂ = at-byte-below2.byte-below2.ensures in
-    let e₂ = at-read2.read2.given.1 in
-    let w₃ = c.before.before.before.byte-below3.ensures in
-    let e₃ = c.before.read3.given.1 in
-    let l : start.args.arity ≡ 3 = omega (arith, start.requires, at-if1.if1.false, at-if2.if2.false) in
+    let w = c.byte_below-read.ensures in
+    let e = c.in-Byte.is in
+    let w₂ = c.byte_below-read-2.ensures in
+    let e₂ = c.in-Byte-read.is in
+    let w₃ = c.byte_below-read-3.ensures in
+    let e₃ = c.in-Byte-read-2.is in
+    let l : c.args.arity ≡ 3 = omega (arith, c.requires, c.if-arity-eq1.false, c.if-arity-eq2.false) in
     three_arguments _ _ _ _ (byte_within w₃ e₃) l (byte_read w e) (byte_read w₂ e₂) (byte_read w₃ e₃)
 
-pub arguments-spec : {M : Type 1} → statement M
-arguments-spec =
+pub arguments_spec : {M : Type 1} → statement M
+arguments_spec =
     tie.close
     (tie.spec
     byte-below-requires

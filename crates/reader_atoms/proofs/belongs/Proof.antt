@@ -6,36 +6,34 @@ use borrow.Author.Rules.{rules}
 use Rattle.reader_atoms.proofs.belongs.Statement.{statement}
 use Rattle.reader_atoms.proofs.belongs.Tie as tie
 
-enum_told : tie.Need-enum-told
+enum_told : tie.Need-enum_told-1
 enum_told c = search rules
 
-enum-told-2 : tie.Need-enum-told-2
+enum-told-2 : tie.Need-enum_told-in-Deletes
 enum-told-2 c = search rules
 
 has-requires : tie.Need-has-requires
 has-requires c κs = search rules
 
-enum-told-3 : tie.Need-enum-told-3
+enum-told-3 : tie.Need-enum_told-in-Adds
 enum-told-3 c = search rules
 
-has-requires-2 : tie.Need-has-requires-2
+has-requires-2 : tie.Need-has-requires-in-Adds
 has-requires-2 c κs = search rules
 
-returns : tie.Need-returns
+returns : tie.Need-returns-in-Preconditions
 returns c = search rules
 
-returns-2 : tie.Need-returns-2
+returns-2 : tie.Need-returns-in-Deletes
 returns-2 c =
-    let start = c.before.before.before in
-    c.has.ensures ∙ sym (ap (λ s. belongs_bytes s start.args.preconditions start.args.a) c.before.enum-told2.given.1)
+    c.has.ensures ∙ sym (ap (λ s. belongs_bytes s c.args.preconditions c.args.a) c.in-Deletes.is)
 
-returns-3 : tie.Need-returns-3
+returns-3 : tie.Need-returns-in-Adds
 returns-3 c =
-    let start = c.before.before.before in
-    ap not c.has2.ensures ∙ sym (ap (λ s. belongs_bytes s start.args.preconditions start.args.a) c.before.enum-told3.given.1)
+    ap not c.has-in-Adds.ensures ∙ sym (ap (λ s. belongs_bytes s c.args.preconditions c.args.a) c.in-Adds.is)
 
-pub belongs-spec : {M : Type 1} → statement M
-belongs-spec =
+pub belongs_spec : {M : Type 1} → statement M
+belongs_spec =
     tie.close
     (tie.spec
     enum_told

@@ -8,47 +8,43 @@ use borrow.Author.Rules.{rules}
 use Rattle.reader_atoms.proofs.fact.Statement.{statement}
 use Rattle.reader_atoms.proofs.fact.Tie as tie
 
-atom-requires : tie.Need-atom-requires
+atom-requires : tie.Need-atom-read-requires
 atom-requires c κs = search rules
 
-enum-known-read : tie.Need-enum-known-read
+enum-known-read : tie.Need-enum_known-read
 enum-known-read c = search rules
 
-enum_told : tie.Need-enum-told
+enum_told : tie.Need-enum_told-1
 enum_told c = search rules
 
-returns : tie.Need-returns
+returns : tie.Need-returns-in_default
 unfolding refusal_number
 returns c =
-    let told = c.enum_told.given.1 in
-    atom_passed_on told (fact_ends _ _ _ _ (atom_refused c.before.before.atom.ensures told))
+    let told = c.in_default.is in
+    atom_passed_on told (fact_ends _ _ _ _ (atom_refused c.atom-read.ensures told))
 
-is-above-requires : tie.Need-is-above-requires
+is-above-requires : tie.Need-is_above-requires
 is-above-requires c κs = search rules
 
-returns-2 : tie.Need-returns-2
+returns-2 : tie.Need-returns-then-is_above
 unfolding refusal_number
 returns-2 c =
-    let at-atom = c.before.before.before.before.before in
-    let start = at-atom.before.before.before in
-    let w = at-atom.atom.ensures in
-    let e = c.before.before.before.read.given.1 in
+    let w = c.atom-read.ensures in
+    let e = c.in-Found.is in
     let k = atom_kept w e in
-    let o = above_bytes_lem _ _ k _ start.requires.1 ∙ sym c.before.is-above.ensures ∙ c.if1.true in
+    let o = above_bytes_lem _ _ k _ c.requires.1 ∙ sym c.is_above.ensures ∙ c.if-is_above.true in
     accepts (fact_passes _ _ _ _ (atom_read w e) o) (atom_within w e) k
 
-returns-3 : tie.Need-returns-3
+returns-3 : tie.Need-returns-else-is_above
 unfolding refusal_number
 returns-3 c =
-    let at-atom = c.before.before.before.before.before in
-    let start = at-atom.before.before.before in
-    let w = at-atom.atom.ensures in
-    let e = c.before.before.before.read.given.1 in
-    let o = above_bytes_lem _ _ (atom_kept w e) _ start.requires.1 ∙ sym c.before.is-above.ensures ∙ c.if1.false in
+    let w = c.atom-read.ensures in
+    let e = c.in-Found.is in
+    let o = above_bytes_lem _ _ (atom_kept w e) _ c.requires.1 ∙ sym c.is_above.ensures ∙ c.if-is_above.false in
     refuses (fact_unordered _ _ _ _ (atom_read w e) o)
 
-pub fact-spec : {M : Type 1} → statement M
-fact-spec =
+pub fact_spec : {M : Type 1} → statement M
+fact_spec =
     tie.close
     (tie.spec
     atom-requires

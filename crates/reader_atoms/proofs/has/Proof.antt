@@ -9,51 +9,47 @@ use Rattle.reader_atoms.proofs.Orders.{has_from, has_first, has_last, has_found,
 use Rattle.reader_atoms.proofs.has.Statement.{statement}
 use Rattle.reader_atoms.proofs.has.Tie as tie
 
-abbrev invariant-loop : tie.invariant-loop
+abbrev invariant-loop : tie.invariant-loop-i
 invariant-loop a list count i₀ i = (i ≤ list.count) × (has_bytes list a ≡ has_from list a i)
 
-abbrev decreases-loop : tie.decreases-loop
+abbrev decreases-loop : tie.decreases-loop-i
 decreases-loop a list count i₀ i = list.count - i
 
-loop-holds : tie.Need-loop-init invariant-loop decreases-loop
+loop-holds : tie.Need-loop-i-init invariant-loop decreases-loop
 loop-holds c = (omega arith, has_first _ _)
 
-mul-b : tie.Need-overflow-mul-b invariant-loop decreases-loop
+mul-b : tie.Need-offset_bounds-list-i invariant-loop decreases-loop
 mul-b c = search rules
 
-element-copy-out-b : tie.Need-element-copy-out-b invariant-loop decreases-loop
+element-copy-out-b : tie.Need-bounds-list-i invariant-loop decreases-loop
 element-copy-out-b c = search rules
 
-is-same-requires : tie.Need-is-same-requires invariant-loop decreases-loop
+is-same-requires : tie.Need-is_same-requires invariant-loop decreases-loop
 is-same-requires c κs = search rules
 
-returns : tie.Need-returns invariant-loop decreases-loop
+returns : tie.Need-returns-then-is_same invariant-loop decreases-loop
 unfolding blank_atom
 returns c =
-    let at-loop-test = c.before.before.before in
-    let at-loop = at-loop-test.before in
-    let found = has_found _ _ _ at-loop-test.loop-test.true c.before.is_same.ensures c.if1.true in
-    sym (at-loop.loop.invariant.1 ∙ found)
+    let found = has_found _ _ _ c.loop-i-test.true c.is_same.ensures c.if-is_same.true in
+    sym (c.loop-i.invariant.1 ∙ found)
 
-add-i : tie.Need-overflow-add-i invariant-loop decreases-loop
+add-i : tie.Need-overflow_add-i invariant-loop decreases-loop
 add-i c = search rules
 
-loop-less : tie.Need-loop-smaller invariant-loop decreases-loop
+loop-less : tie.Need-loop-i-smaller invariant-loop decreases-loop
 loop-less c = search rules
 
-loop-again : tie.Need-loop-preserved invariant-loop decreases-loop
+loop-again : tie.Need-loop-i-preserved invariant-loop decreases-loop
 unfolding blank_atom
 loop-again c =
-    let at-loop-test = c.before.before.before in
-    let at-loop = at-loop-test.before in
-    let next = has_next _ _ _ at-loop-test.loop-test.true c.before.is_same.ensures c.if1.false in
-    (omega arith, at-loop.loop.invariant.1 ∙ next)
+    let next = has_next _ _ _ c.loop-i-test.true c.is_same.ensures c.if-is_same.false in
+    (omega arith, c.loop-i.invariant.1 ∙ next)
 
-returns-2 : tie.Need-returns-2 invariant-loop decreases-loop
-returns-2 c = sym (c.before.loop.invariant.1 ∙ has_last _ _ _ c.loop-test.false)
+returns-2 : tie.Need-returns invariant-loop decreases-loop
+returns-2 c = sym (c.loop-i.invariant.1 ∙ has_last _ _ _ c.loop-i-test.false)
 
-pub has-spec : {M : Type 1} → statement M
-has-spec =
+pub has_spec : {M : Type 1} → statement M
+has_spec =
     tie.close
     (tie.spec
     invariant-loop

@@ -13,10 +13,6 @@ use borrow.Author.Rules.{rules}
 use Rattle.reader_atoms.proofs.schema_atom.Statement.{statement}
 use Rattle.reader_atoms.proofs.schema_atom.Tie as tie
 
--- what is given, from the atom read on, and what the atom is read by
-abbrev entry : tie.After-atom → tie.Start
-entry c = c.before.before.before
-
 abbrev reading : tie.Start → FieldRead
 reading s =
     let a = s.args in
@@ -29,72 +25,61 @@ reading s =
       bytes = drop a.c.at a.card.now;
     }
 
-atom-requires : tie.Need-atom-requires
+atom-requires : tie.Need-atom-read-requires
 atom-requires c κs = search rules
 
-enum-known-read : tie.Need-enum-known-read
+enum-known-read : tie.Need-enum_known-read
 enum-known-read c = search rules
 
-enum_told : tie.Need-enum-told
+enum_told : tie.Need-enum_told-1
 enum_told c = search rules
 
-returns : tie.Need-returns
+returns : tie.Need-returns-in_default
 unfolding refusal_number
 returns c =
-    let at-atom = c.before.before in
-    let told = c.enum_told.given.1 in
-    atom_passed_on told (field_ends (reading (entry at-atom)) (atom_refused at-atom.atom.ensures told))
+    let told = c.in_default.is in
+    atom_passed_on told (field_ends (reading c.before.before.before.before) (atom_refused c.atom-read.ensures told))
 
-is-above-requires : tie.Need-is-above-requires
+is-above-requires : tie.Need-is_above-requires
 is-above-requires c κs = search rules
 
-returns-2 : tie.Need-returns-2
+returns-2 : tie.Need-returns-then-not-is_above
 unfolding refusal_number
 returns-2 c =
-    let at-atom = c.before.before.before.before.before in
-    let start = entry at-atom in
-    let w = at-atom.atom.ensures in
-    let e = c.before.before.before.read.given.1 in
-    let o = above_bytes_lem _ _ (atom_kept w e) _ start.pre.2 ∙ sym c.before.is-above.ensures ∙ not-true _ c.if1.true in
-    refuses (field_unordered (reading start) (atom_read w e) o)
+    let w = c.atom-read.ensures in
+    let e = c.in-Found.is in
+    let o = above_bytes_lem _ _ (atom_kept w e) _ c.requires.2 ∙ sym c.is_above.ensures ∙ c.if-not-is_above.true in
+    refuses (field_unordered (reading c.before.before.before.before.before.before) (atom_read w e) o)
 
 belongs-requires : tie.Need-belongs-requires
 belongs-requires c κs =
-    let start = c.before.before.before.before.before.before.before.before in
-    (start.requires.1.few, list_long start.requires.1)
+    (c.requires.1.few, list_long c.requires.1)
 
-refusal-of-requires : tie.Need-refusal-of-requires
+refusal-of-requires : tie.Need-refusal_of-requires
 refusal-of-requires c κs = search rules
 
-returns-3 : tie.Need-returns-3
+returns-3 : tie.Need-returns-then-not-belongs
 unfolding refusal_number
 returns-3 c =
-    let at-is-above = c.before.before.before.before in
-    let at_read = at-is-above.before.before in
-    let at-atom = at_read.before.before in
-    let start = entry at-atom in
-    let w = at-atom.atom.ensures in
-    let e = at_read.read.given.1 in
+    let w = c.atom-read.ensures in
+    let e = c.in-Found.is in
     let k = atom_kept w e in
-    let o = above_bytes_lem _ _ k _ start.pre.2 ∙ sym at-is-above.is-above.ensures ∙ not-false _ c.before.before.before.if1.false in
-    let t = belongs_bytes_lem _ _ _ _ k start.pre.1 ∙ sym c.before.before.belongs.ensures ∙ not-true _ c.before.if2.true in
-    refuses (field_strange (reading start) (atom_read w e) o t ∙ ap (λ r. refused (refusal_number r)) (sym c.refusal-of.ensures))
+    let o = above_bytes_lem _ _ k _ c.requires.2 ∙ sym c.is_above.ensures ∙ c.if-not-is_above.false in
+    let t = belongs_bytes_lem _ _ _ _ k c.requires.1 ∙ sym c.belongs.ensures ∙ c.if-not-belongs.true in
+    refuses (field_strange (reading c.before.before.before.before.before.before.before.before.before) (atom_read w e) o t ∙ ap (λ r. refused (refusal_number r)) (sym c.refusal_of.ensures))
 
-returns-4 : tie.Need-returns-4
+returns-4 : tie.Need-returns
 unfolding refusal_number
 returns-4 c =
-    let at_read = c.before.before.before.before.before in
-    let at-atom = at_read.before.before in
-    let start = entry at-atom in
-    let w = at-atom.atom.ensures in
-    let e = at_read.read.given.1 in
+    let w = c.atom-read.ensures in
+    let e = c.in-Found.is in
     let k = atom_kept w e in
-    let o = above_bytes_lem _ _ k _ start.pre.2 ∙ sym c.before.before.before.is-above.ensures ∙ not-false _ c.before.before.if1.false in
-    let t = belongs_bytes_lem _ _ _ _ k start.pre.1 ∙ sym c.before.belongs.ensures ∙ not-false _ c.if2.false in
-    accepts (field_passes (reading start) (atom_read w e) o t) (atom_within w e) k
+    let o = above_bytes_lem _ _ k _ c.requires.2 ∙ sym c.is_above.ensures ∙ c.if-not-is_above.false in
+    let t = belongs_bytes_lem _ _ _ _ k c.requires.1 ∙ sym c.belongs.ensures ∙ c.if-not-belongs.false in
+    accepts (field_passes (reading c.before.before.before.before.before.before.before.before) (atom_read w e) o t) (atom_within w e) k
 
-pub schema-atom-spec : {M : Type 1} → statement M
-schema-atom-spec =
+pub schema_atom_spec : {M : Type 1} → statement M
+schema_atom_spec =
     tie.close
     (tie.spec
     atom-requires

@@ -7,35 +7,35 @@ use Rattle.reader_bytes.proofs.Reading.{accepts, refuses, byte_read, byte_within
 use Rattle.reader_bytes.proofs.byte_below.Statement.{statement}
 use Rattle.reader_bytes.proofs.byte_below.Tie as tie
 
-byte-requires : tie.Need-byte-requires
+byte-requires : tie.Need-byte-read-requires
 byte-requires c κs = search rules
 
-enum-known-read : tie.Need-enum-known-read
+enum-known-read : tie.Need-enum_known-read
 enum-known-read c = search rules
 
-enum_told : tie.Need-enum-told
+enum_told : tie.Need-enum_told-1
 enum_told c = search rules
 
-returns : tie.Need-returns
+returns : tie.Need-returns-in_default
 returns c =
-    passed_on c.enum_told.given.1 (byte_that_ends _ _ _ (byte_refused c.before.before.byte.ensures c.enum_told.given.1))
+    passed_on c.in_default.is (byte_that_ends _ _ _ (byte_refused c.byte-read.ensures c.in_default.is))
 
-cast-if1 : tie.Need-overflow-cast-if1
+cast-if1 : tie.Need-overflow_cast-b
 cast-if1 c = search rules
 
-returns-2 : tie.Need-returns-2
+returns-2 : tie.Need-returns-then-b-bound
 returns-2 c =
-    let e = c.before.before.read.given.1 in
-    let w = c.before.before.before.before.byte.ensures in
-    accepts (byte_that_passes _ _ _ (byte_read w e) (lt-ltb _ _ c.if1.true)) (byte_within w e) refl
+    let e = c.in-Byte.is in
+    let w = c.byte-read.ensures in
+    accepts (byte_that_passes _ _ _ (byte_read w e) (lt-ltb _ _ c.if-b-bound.true)) (byte_within w e) refl
 
-returns-3 : tie.Need-returns-3
+returns-3 : tie.Need-returns-else-b-bound
 returns-3 c =
-    let e = c.before.before.read.given.1 in
-    let w = c.before.before.before.before.byte.ensures in
-    refuses (byte_that_fails _ _ _ (byte_read w e) (le-ltb _ _ c.if1.false))
+    let e = c.in-Byte.is in
+    let w = c.byte-read.ensures in
+    refuses (byte_that_fails _ _ _ (byte_read w e) (le-ltb _ _ c.if-b-bound.false))
 
-pub byte-below-spec : {M : Type 1} → statement M
-byte-below-spec =
+pub byte_below_spec : {M : Type 1} → statement M
+byte_below_spec =
     tie.close
     (tie.spec byte-requires enum-known-read enum_told returns cast-if1 returns-2 returns-3)

@@ -7,37 +7,35 @@ use Rattle.reader_bytes.proofs.Reading.{accepts, refuses, byte_read, byte_within
 use Rattle.reader_bytes.proofs.byte_between.Statement.{statement}
 use Rattle.reader_bytes.proofs.byte_between.Tie as tie
 
-byte-requires : tie.Need-byte-requires
+byte-requires : tie.Need-byte-read-requires
 byte-requires c κs = search rules
 
-enum-known-read : tie.Need-enum-known-read
+enum-known-read : tie.Need-enum_known-read
 enum-known-read c = search rules
 
-enum_told : tie.Need-enum-told
+enum_told : tie.Need-enum_told-1
 enum_told c = search rules
 
-returns : tie.Need-returns
+returns : tie.Need-returns-in_default
 returns c =
-    passed_on c.enum_told.given.1 (byte_that_ends _ _ _ (byte_refused c.before.before.byte.ensures c.enum_told.given.1))
+    passed_on c.in_default.is (byte_that_ends _ _ _ (byte_refused c.byte-read.ensures c.in_default.is))
 
-returns-2 : tie.Need-returns-2
+returns-2 : tie.Need-returns-then-b-low
 returns-2 c =
-    let w = c.before.before.before.before.byte.ensures in
-    refuses (byte_that_fails _ _ _ (byte_read w c.before.before.read.given.1) (between_below _ _ _ c.if1.true))
+    let w = c.byte-read.ensures in
+    refuses (byte_that_fails _ _ _ (byte_read w c.in-Byte.is) (between_below _ _ _ c.if-b-low.true))
 
-returns-3 : tie.Need-returns-3
+returns-3 : tie.Need-returns-then-b-high
 returns-3 c =
-    let at_byte = c.before.before.before.before.before in
-    let w = at_byte.byte.ensures in
-    let e = c.before.before.before.read.given.1 in
-    accepts (byte_that_passes _ _ _ (byte_read w e) (between_intro _ _ _ c.before.if1.false c.if2.true)) (byte_within w e) refl
+    let w = c.byte-read.ensures in
+    let e = c.in-Byte.is in
+    accepts (byte_that_passes _ _ _ (byte_read w e) (between_intro _ _ _ c.if-b-low.false c.if-b-high.true)) (byte_within w e) refl
 
-returns-4 : tie.Need-returns-4
+returns-4 : tie.Need-returns-else-b-high
 returns-4 c =
-    let at_byte = c.before.before.before.before.before in
-    let w = at_byte.byte.ensures in
-    let e = c.before.before.before.read.given.1 in
-    refuses (byte_that_fails _ _ _ (byte_read w e) (between_above _ _ _ c.if2.false))
+    let w = c.byte-read.ensures in
+    let e = c.in-Byte.is in
+    refuses (byte_that_fails _ _ _ (byte_read w e) (between_above _ _ _ c.if-b-high.false))
 
-pub byte-between-spec : {M : Type 1} → statement M
-byte-between-spec = tie.close (tie.spec byte-requires enum-known-read enum_told returns returns-2 returns-3 returns-4)
+pub byte_between_spec : {M : Type 1} → statement M
+byte_between_spec = tie.close (tie.spec byte-requires enum-known-read enum_told returns returns-2 returns-3 returns-4)

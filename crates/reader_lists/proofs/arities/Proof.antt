@@ -12,69 +12,64 @@ use borrow.Author.Rules.{rules}
 use Rattle.reader_lists.proofs.arities.Statement.{statement}
 use Rattle.reader_lists.proofs.arities.Tie as tie
 
-abbrev invariant-loop : tie.invariant-loop
+abbrev invariant-loop : tie.invariant-loop-i
 invariant-loop card count list₀ at₀ i₀ list at i =
     Plain (λ b. b) (λ b. b) 0 20 (byte_that (between 1 3) 2) count (drop at₀ card) card list.arities i at
 
-abbrev decreases-loop : tie.decreases-loop
+abbrev decreases-loop : tie.decreases-loop-i
 decreases-loop card count list₀ at₀ i₀ list at i = count - i
 
-no-arities-requires : tie.Need-no-arities-requires invariant-loop decreases-loop
+no-arities-requires : tie.Need-no_arities-list-requires invariant-loop decreases-loop
 no-arities-requires c κs = search rules
 
-loop-holds : tie.Need-loop-init invariant-loop decreases-loop
+loop-holds : tie.Need-loop-i-init invariant-loop decreases-loop
 loop-holds c =
-    plain_starts c.before.before.requires.0 c.before.before.requires.1 refl (blank_arities c.no-arities.ensures)
+    plain_starts c.requires.0 c.requires.1 refl (blank_arities c.no_arities-list.ensures)
 
-byte-between-requires : tie.Need-byte-between-requires invariant-loop decreases-loop
+byte-between-requires : tie.Need-byte_between-read-requires invariant-loop decreases-loop
 byte-between-requires c κs = search rules
 
-enum-known-read : tie.Need-enum-known-read invariant-loop decreases-loop
+enum-known-read : tie.Need-enum_known-read invariant-loop decreases-loop
 enum-known-read c = search rules
 
-enum_told : tie.Need-enum-told invariant-loop decreases-loop
+enum_told : tie.Need-enum_told-1 invariant-loop decreases-loop
 enum_told c = search rules
 
 refusal-requires : tie.Need-refusal-requires invariant-loop decreases-loop
 refusal-requires c κs = search rules
 
-no-arities-requires-2 : tie.Need-no-arities-requires-2 invariant-loop decreases-loop
+no-arities-requires-2 : tie.Need-no_arities-requires invariant-loop decreases-loop
 no-arities-requires-2 c κs = search rules
 
-returns : tie.Need-returns invariant-loop decreases-loop
+returns : tie.Need-returns-in_default invariant-loop decreases-loop
 unfolding refusal_number
 returns c =
-    let at-byte-between = c.before.before.before.before in
-    let at-loop-test = at-byte-between.before in
-    let at-loop = at-loop-test.before in
-    let no-arity = byte_refusal at-byte-between.byte-between.ensures c.before.before.enum_told.given.1 c.before.refusal.ensures in
-    refuses_beside (plain_stops at-loop.loop.invariant at-loop-test.loop-test.true no-arity) c.no-arities2.ensures
+    let no-arity = byte_refusal c.byte_between-read.ensures c.in_default.is c.refusal.ensures in
+    refuses_beside (plain_stops c.loop-i.invariant c.loop-i-test.true no-arity) c.no_arities.ensures
 
-element-write-list : tie.Need-element-write-list invariant-loop decreases-loop
+element-write-list : tie.Need-bounds-list-i invariant-loop decreases-loop
 element-write-list c = omega arith
 
-add-i : tie.Need-overflow-add-i invariant-loop decreases-loop
+add-i : tie.Need-overflow_add-i invariant-loop decreases-loop
 add-i c = omega arith
 
-loop-less : tie.Need-loop-smaller invariant-loop decreases-loop
+loop-less : tie.Need-loop-i-smaller invariant-loop decreases-loop
 loop-less c = omega arith
 
-loop-again : tie.Need-loop-preserved invariant-loop decreases-loop
+loop-again : tie.Need-loop-i-preserved invariant-loop decreases-loop
 unfolding refusal_number
 loop-again c =
-    let at-loop-test = c.before.before.before.before in
-    let at-loop = at-loop-test.before in
-    let w = c.before.before.before.byte-between.ensures in
-    let e = c.before.read.given.1 in
-    plain_goes_on at-loop.loop.invariant at-loop-test.loop-test.true (byte_read w e) (byte_within w e) refl
+    let w = c.byte_between-read.ensures in
+    let e = c.in-Byte.is in
+    plain_goes_on c.loop-i.invariant c.loop-i-test.true (byte_read w e) (byte_within w e) refl
 
-returns-2 : tie.Need-returns-2 invariant-loop decreases-loop
+returns-2 : tie.Need-returns invariant-loop decreases-loop
 returns-2 c =
-    let i = c.before.loop.invariant in
-    arities_filled i.within c.loop-test.false _ i.filling
+    let i = c.loop-i.invariant in
+    arities_filled i.within c.loop-i-test.false _ i.filling
 
-pub arities-spec : {M : Type 1} → statement M
-arities-spec =
+pub arities_spec : {M : Type 1} → statement M
+arities_spec =
     tie.close
     (tie.spec
     invariant-loop

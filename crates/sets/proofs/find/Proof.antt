@@ -24,37 +24,34 @@ at_place : (n i : ℕ) (ns : List ℕ) → rising 0 ns ≡ true → i ≡ place 
 at_place n i ns e p h =
     member_at_place n 0 ns e (subst (λ (k : ℕ). k < length ns) p h) ∙ ap (λ (k : ℕ). eqb (get_or ns k 0) n) (sym p)
 
-place-requires : tie.Need-place-requires
+place-requires : tie.Need-place-i-requires
 place-requires c κs = search rules
 
-returns : tie.Need-returns
+returns : tie.Need-returns-then-numbers-i
 returns c =
-    let start = c.before.before.before in
-    found_by start.args.n c.before.place.result start.args.numbers.now false c.before.place.ensures
-    (member_past_end start.args.n start.args.numbers.now
-    (subst (λ (k : ℕ). length start.args.numbers.now ≤ k) c.before.place.ensures c.if1.true))
+    found_by c.args.n c.place-i.result c.args.numbers.now false c.place-i.ensures
+    (member_past_end c.args.n c.args.numbers.now
+    (subst (λ (k : ℕ). length c.args.numbers.now ≤ k) c.place-i.ensures c.if-numbers-i.true))
 
-mul-if2 : tie.Need-overflow-mul-if2
+mul-if2 : tie.Need-offset_bounds-numbers-i
 mul-if2 c = search rules
 
-shared-slice-read-if2 : tie.Need-shared-slice-read-if2
+shared-slice-read-if2 : tie.Need-bounds-numbers-i
 shared-slice-read-if2 c = search rules
 
-returns-2 : tie.Need-returns-2
+returns-2 : tie.Need-returns-then-numbers-i-2
 returns-2 c =
-    let start = c.before.before.before.before.before in
-    let there = c.before.before.before.place in
-    found_by start.args.n there.result start.args.numbers.now true there.ensures
-    (at_place start.args.n there.result start.args.numbers.now start.requires there.ensures (search rules)
-    ∙ eq-eqb _ _ c.if2.true)
+    let there = c.place-i in
+    found_by c.args.n there.result c.args.numbers.now true there.ensures
+    (at_place c.args.n there.result c.args.numbers.now c.requires there.ensures (search rules)
+    ∙ eq-eqb _ _ c.if-numbers-i-2.true)
 
-returns-3 : tie.Need-returns-3
+returns-3 : tie.Need-returns-else-numbers-i-2
 returns-3 c =
-    let start = c.before.before.before.before.before in
-    let there = c.before.before.before.place in
-    found_by start.args.n there.result start.args.numbers.now false there.ensures
-    (at_place start.args.n there.result start.args.numbers.now start.requires there.ensures (search rules)
-    ∙ ne_eqb _ _ c.if2.false)
+    let there = c.place-i in
+    found_by c.args.n there.result c.args.numbers.now false there.ensures
+    (at_place c.args.n there.result c.args.numbers.now c.requires there.ensures (search rules)
+    ∙ ne_eqb _ _ c.if-numbers-i-2.false)
 
 pub find_spec : {M : Type 1} → statement M
 find_spec =

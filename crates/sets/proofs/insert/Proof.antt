@@ -15,77 +15,64 @@ use Rattle.sets.proofs.Changing.{part_front, found_there, found_missing, inserte
 use Rattle.sets.proofs.insert.Statement.{statement}
 use Rattle.sets.proofs.insert.Tie as tie
 
--- the start of the function, reached from the search for the number
-abbrev entry : tie.After-find → tie.Start
-entry c = c.before.before.before.before
-
 -- the numbers of the set
 abbrev list : tie.Start → List ℕ
 list s = take s.args.count s.args.numbers.now
 
 -- the answer, of the set
-answered : (c : tie.After-find) → c.find.result ≡ found (entry c).args.n (list (entry c))
-answered c = c.find.ensures ∙ ap (found (entry c).args.n) (part_front (entry c).args.count _)
+answered : (c : tie.After-find-there) → c.find-there.result ≡ found c.args.n (list c.before.before.before)
+answered c = c.find-there.ensures ∙ ap (found c.args.n) (part_front c.args.count _)
 
-sub-find : tie.Need-overflow-sub-find
+sub-find : tie.Need-slice_bounds-find-count
 sub-find c = search rules
 
-part-find-start : tie.Need-slice-bounds-find-start
+part-find-start : tie.Need-slice_bounds-find-start
 part-find-start c = search rules
 
-part-find-end : tie.Need-slice-bounds-find-end
+part-find-end : tie.Need-slice_bounds-find-end
 part-find-end c = search rules
 
-find-requires : tie.Need-find-requires
+find-requires : tie.Need-find-there-requires
 find-requires c κs =
-    let start = c.before.before.before in
-    ap (rising 0) (part_front start.args.count _) ∙ start.requires.1.ascends
+    ap (rising 0) (part_front c.args.count _) ∙ c.requires.1.ascends
 
-enum-known-there : tie.Need-enum-known-there
+enum-known-there : tie.Need-enum_known-there
 enum-known-there c = search rules
 
-enum_told : tie.Need-enum-told
+enum_told : tie.Need-enum_told-1
 enum_told c = search rules
 
-same_length : tie.Need-same-length
+same_length : tie.Need-shape_of-numbers-in_default
 same_length c = search rules
 
-returns : tie.Need-returns
+returns : tie.Need-returns-in_default
 returns c =
-    let looked = c.before.before in
-    inserted_again _ _ _ (entry looked).requires.1 (found_there _ _ _ _ (answered looked) c.enum_told.given.1).0
+    inserted_again _ _ _ c.requires.1 (found_there _ _ _ _ (answered c.before) c.in_default.is).0
 
--- where the number was not found
-abbrev given : tie.After-there → tie.Start
-given c = entry c.before.before
+told : (c : tie.In-Missing)
+    → (member c.args.n (list c.before.before.before.before) ≡ false) × (c.in-Missing.at ≡ place c.args.n (list c.before.before.before.before))
+told c = found_missing _ _ _ _ (answered c.before) c.in-Missing.is
 
-told : (c : tie.After-there)
-    → (member (given c).args.n (list (given c)) ≡ false) × (c.there.given.0.0 ≡ place (given c).args.n (list (given c)))
-told c = found_missing _ _ _ _ (answered c.before.before) c.there.given.1
-
-make-room-requires : tie.Need-make-room-requires
+make-room-requires : tie.Need-make_room-requires
 make-room-requires c κs =
-    let there = c.before.before in
-    let start = given there in
-    let size = length-take-le start.args.count start.args.numbers.now (le_of_lt start.pre.0) in
-    let inside = place_within start.args.n (list start) in
-    let at = (told there).1 in
-    (omega arith, start.pre.0)
+    let size = length-take-le c.args.count c.args.numbers.now (le_of_lt c.requires.0) in
+    let inside = place_within c.args.n (list c.before.before.before.before.before) in
+    let at = (told c.before).1 in
+    (omega arith, c.requires.0)
 
-add-result : tie.Need-overflow-add-result
+add-result : tie.Need-overflow_add-result
 add-result c = search rules
 
-same-length-2 : tie.Need-same-length-2
+same-length-2 : tie.Need-shape_of-numbers
 same-length-2 c = search rules
 
-returns-2 : tie.Need-returns-2
+returns-2 : tie.Need-returns
 returns-2 c =
-    let there = c.before.before.before.before.before in
-    let pre = (given there).requires in
-    inserted_new _ _ _ pre.1 _ _ pre.0 (told there).0 (told there).1 c.before.before.make-room.ensures
+    let pre = c.requires in
+    inserted_new _ _ _ pre.1 _ _ pre.0 (told c.before.before.before.before).0 (told c.before.before.before.before).1 c.make_room.ensures
 
-pub insert-spec : {M : Type 1} → statement M
-insert-spec =
+pub insert_spec : {M : Type 1} → statement M
+insert_spec =
     tie.close
     (tie.spec sub-find part-find-start part-find-end find-requires enum-known-there enum_told same_length returns make-room-requires add-result
     same-length-2 returns-2)

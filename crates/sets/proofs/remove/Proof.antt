@@ -13,78 +13,66 @@ use Rattle.sets.proofs.Changing.{part_front, found_there, found_missing, there_w
 use Rattle.sets.proofs.remove.Statement.{statement}
 use Rattle.sets.proofs.remove.Tie as tie
 
--- the start of the function, reached from the search for the number
-abbrev entry : tie.After-find → tie.Start
-entry c = c.before.before.before.before
-
 -- the numbers of the set
 abbrev list : tie.Start → List ℕ
 list s = take s.args.count s.args.numbers.now
 
 -- the answer, of the set
-answered : (c : tie.After-find) → c.find.result ≡ found (entry c).args.n (list (entry c))
-answered c = c.find.ensures ∙ ap (found (entry c).args.n) (part_front (entry c).args.count _)
+answered : (c : tie.After-find-there) → c.find-there.result ≡ found c.args.n (list c.before.before.before)
+answered c = c.find-there.ensures ∙ ap (found c.args.n) (part_front c.args.count _)
 
-sub-find : tie.Need-overflow-sub-find
+sub-find : tie.Need-slice_bounds-find-count
 sub-find c = search rules
 
-part-find-start : tie.Need-slice-bounds-find-start
+part-find-start : tie.Need-slice_bounds-find-start
 part-find-start c = search rules
 
-part-find-end : tie.Need-slice-bounds-find-end
+part-find-end : tie.Need-slice_bounds-find-end
 part-find-end c = search rules
 
-find-requires : tie.Need-find-requires
+find-requires : tie.Need-find-there-requires
 find-requires c κs =
-    let start = c.before.before.before in
-    ap (rising 0) (part_front start.args.count _) ∙ start.requires.ascends
+    ap (rising 0) (part_front c.args.count _) ∙ c.requires.ascends
 
-enum-known-there : tie.Need-enum-known-there
+enum-known-there : tie.Need-enum_known-there
 enum-known-there c = search rules
 
-enum_told : tie.Need-enum-told
+enum_told : tie.Need-enum_told-1
 enum_told c = search rules
 
-same_length : tie.Need-same-length
+same_length : tie.Need-shape_of-numbers-in_default
 same_length c = search rules
 
-returns : tie.Need-returns
+returns : tie.Need-returns-in_default
 returns c =
-    let looked = c.before.before in
-    removed_missing _ _ _ (entry looked).requires (found_missing _ _ _ _ (answered looked) c.enum_told.given.1).0
+    removed_missing _ _ _ c.requires (found_missing _ _ _ _ (answered c.before) c.in_default.is).0
 
--- where the number was found
-abbrev given : tie.After-there → tie.Start
-given c = entry c.before.before
+told : (c : tie.In-At)
+    → (member c.args.n (list c.before.before.before.before) ≡ true) × (c.in-At.at ≡ place c.args.n (list c.before.before.before.before))
+told c = found_there _ _ _ _ (answered c.before) c.in-At.is
 
-told : (c : tie.After-there)
-    → (member (given c).args.n (list (given c)) ≡ true) × (c.there.given.0.0 ≡ place (given c).args.n (list (given c)))
-told c = found_there _ _ _ _ (answered c.before.before) c.there.given.1
-
-within : (c : tie.After-there) → c.there.given.0.0 < (given c).args.count
+within : (c : tie.In-At) → c.in-At.at < c.args.count
 within c =
-    let start = given c in
-    let size = length-take-le start.args.count start.args.numbers.now start.pre.few in
+    let size = length-take-le c.args.count c.args.numbers.now c.requires.few in
     let inside = there_within _ _ (told c).0 in
     let at = (told c).1 in
     omega arith
 
-close-gap-requires : tie.Need-close-gap-requires
-close-gap-requires c κs = let there = c.before.before in (within there, (given there).requires.few)
+close-gap-requires : tie.Need-close_gap-requires
+close-gap-requires c κs = (within c.before, c.requires.few)
 
-sub-result : tie.Need-overflow-sub-result
-sub-result c = let h = within c.before.before.before.before.before in omega arith
+sub-result : tie.Need-overflow_sub-result
+sub-result c = let h = within c.before.before.before.before in omega arith
 
-same-length-2 : tie.Need-same-length-2
+same-length-2 : tie.Need-shape_of-numbers
 same-length-2 c = search rules
 
-returns-2 : tie.Need-returns-2
+returns-2 : tie.Need-returns
 returns-2 c =
-    let there = c.before.before.before.before.before in
-    removed_there _ _ _ (given there).requires _ _ (told there).0 (told there).1 c.before.before.close-gap.ensures
+    removed_there _ _ _ c.requires _ _ (told c.before.before.before.before).0 (told c.before.before.before.before).1 c.close_gap.ensures
 
-pub remove-spec : {M : Type 1} → statement M
-remove-spec =
+pub remove_spec : {M : Type 1} → statement M
+remove_spec =
     tie.close
     (tie.spec sub-find part-find-start part-find-end find-requires enum-known-there enum_told same_length returns close-gap-requires sub-result
     same-length-2 returns-2)

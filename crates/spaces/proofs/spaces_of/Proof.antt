@@ -25,75 +25,66 @@ known narrow room full e = record {
   known = λ c. subst (λ (l : List ℕ). get_or l c 0 < 60) (sym e) (groups_known narrow room c);
 }
 
-grouping-requires : tie.Need-grouping-requires
+grouping-requires : tie.Need-grouping-groups-requires
 grouping-requires c κs = search rules
 
-slice-aggregate-labels-of : tie.Need-slice-aggregate-labels-of
+slice-aggregate-labels-of : tie.Need-slice_bounds-labels_of-end
 slice-aggregate-labels-of c = search rules
 
-labels-of-requires : tie.Need-labels-of-requires
+labels-of-requires : tie.Need-labels_of-labels-requires
 labels-of-requires c κs = search rules
 
-slice-aggregate-initial-members : tie.Need-slice-aggregate-initial-members
+slice-aggregate-initial-members : tie.Need-slice_bounds-initial_members-end
 slice-aggregate-initial-members c = search rules
 
-initial-members-requires : tie.Need-initial-members-requires
+initial-members-requires : tie.Need-initial_members-initial-requires
 initial-members-requires c κs =
-    let found = c.before.before.before.before in
-    let start = found.before.before.before.before.before in
-    let size : length found.grouping.result ≡ 60 = search rules in
-    (known start.requires.0.0 start.requires.1.0 size found.grouping.ensures, (start.requires.0.1, start.requires.1.1))
+    let size : length c.grouping-groups.result ≡ 60 = search rules in
+    (known c.requires.0.0 c.requires.1.0 size c.grouping-groups.ensures, (c.requires.0.1, c.requires.1.1))
 
-slice-aggregate-close : tie.Need-slice-aggregate-close
+slice-aggregate-close : tie.Need-slice_bounds-close-end
 slice-aggregate-close c = search rules
 
-close-requires : tie.Need-close-requires
+close-requires : tie.Need-close-closed-requires
 close-requires c κs =
-    let found = c.before.before.before.before.before.before in
-    let start = found.before.before.before.before.before in
-    let size : length found.grouping.result ≡ 60 = search rules in
-    (known start.requires.0.0 start.requires.1.0 size found.grouping.ensures, (start.requires.0.1, start.requires.1.0))
+    let size : length c.grouping-groups.result ≡ 60 = search rules in
+    (known c.requires.0.0 c.requires.1.0 size c.grouping-groups.ensures, (c.requires.0.1, c.requires.1.0))
 
-slice-aggregate-by-number : tie.Need-slice-aggregate-by-number
+slice-aggregate-by-number : tie.Need-slice_bounds-by_number-end
 slice-aggregate-by-number c = search rules
 
-slice-aggregate-by-number-2 : tie.Need-slice-aggregate-by-number-2
+slice-aggregate-by-number-2 : tie.Need-slice_bounds-by_number-end-2
 slice-aggregate-by-number-2 c = search rules
 
-by-number-requires : tie.Need-by-number-requires
+by-number-requires : tie.Need-by_number-members-requires
 unfolding labelled
 by-number-requires c κs =
-    let found = c.before.before.before.before.before.before.before in
-    let groups = found.before.before.grouping.result in
-    let start = found.before.before.before.before.before.before.before in
-    let labels = found.labels-of.ensures in
-    let few = keep_few (λ x. eqb (get_or groups x 0) x) start.args.size in
-    let size = ap length labels.1 ∙ length_padded 60 0 (labelled start.args.size groups) (omega arith) in (
+    let groups = c.grouping-groups.result in
+    let labels = c.labels_of-labels.ensures in
+    let few = keep_few (λ x. eqb (get_or groups x 0) x) c.args.size in
+    let size = ap length labels.1 ∙ length_padded 60 0 (labelled c.args.size groups) (omega arith) in (
       (omega arith, omega arith),
       (
-        omega (arith, c.before.before.close.type-inv),
-        λ k. subst (λ (l : List ℕ). get_or l k 0 < 60) (sym labels.1) (labelled_known start.args.size start.requires.0.0 groups k),
+        omega (arith, c.close-closed.type_inv),
+        λ k. subst (λ (l : List ℕ). get_or l k 0 < 60) (sym labels.1) (labelled_known c.args.size c.requires.0.0 groups k),
       ),
     )
 
 returns : tie.Need-returns
 returns c =
-    let closed = c.before.before.before in
-    let labels = closed.before.before.before.before.before in
-    let groups = labels.before.before in
-    let a = groups.before.before.before.before.before.args in
+    let a = c.args in
     spaces_found a.size a.parameters a.objects a.preconditions.now a.deletes.now a.adds.now a.counts.now
-    groups.grouping.ensures labels.labels-of.ensures.0 labels.labels-of.ensures.1
-    (c.by_number.ensures
-    ∙ ap (λ (masks : List ℕ). padded 60 0 (map (λ l. get_or masks l 0) (take labels.labels-of.result.count labels.labels-of.result.lowest)))
-    (closed.close.ensures
+    c.grouping-groups.ensures c.labels_of-labels.ensures.0 c.labels_of-labels.ensures.1
+    (c.by_number-members.ensures
+    ∙ ap (λ (masks : List ℕ). padded 60 0 (map (λ l. get_or masks l 0) (take c.labels_of-labels.result.count c.labels_of-labels.result.lowest)))
+    (c.close-closed.ensures
     ∙ ap
-    (rounds_in groups.grouping.result a.objects a.size a.parameters a.preconditions.now a.deletes.now a.adds.now
-    labels.labels-of.result.count)
-    closed.before.before.initial_members.ensures))
+    (rounds_in c.grouping-groups.result a.objects a.size a.parameters a.preconditions.now a.deletes.now a.adds.now
+    c.labels_of-labels.result.count)
+    c.initial_members-initial.ensures))
 
-pub spaces-of-spec : {M : Type 1} → statement M
-spaces-of-spec =
+pub spaces_of_spec : {M : Type 1} → statement M
+spaces_of_spec =
     tie.close
     (tie.spec
     grouping-requires

@@ -6,13 +6,13 @@ use Rattle.state.specs.Rows.{place_right}
 use Rattle.state.proofs.place_right.Statement.{statement}
 use Rattle.state.proofs.place_right.Tie as tie
 
-returns : tie.Need-returns
+returns : tie.Need-returns-then-k-arity
 unfolding place_right
-returns c = sym (cond_true _ _ _ (le-leb _ _ c.if1.true))
+returns c = sym (cond_true _ _ _ (le-leb _ _ c.if-k-arity.true))
 
-returns-2 : tie.Need-returns-2
+returns-2 : tie.Need-returns-else-k-arity
 unfolding place_right
-returns-2 c = sym (cond_false _ _ _ (lt-leb _ _ c.if1.false))
+returns-2 c = sym (cond_false _ _ _ (lt-leb _ _ c.if-k-arity.false))
 
-pub place-right-spec : {M : Type 1} → statement M
-place-right-spec = tie.close (tie.spec returns returns-2)
+pub place_right_spec : {M : Type 1} → statement M
+place_right_spec = tie.close (tie.spec returns returns-2)

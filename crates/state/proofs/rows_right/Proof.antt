@@ -9,64 +9,57 @@ use Rattle.state.proofs.RightRows.{rows_start, rows_end, rows_wrong, rows_low, r
 use Rattle.state.proofs.rows_right.Statement.{statement}
 use Rattle.state.proofs.rows_right.Tie as tie
 
-abbrev invariant-loop : tie.invariant-loop
+abbrev invariant-loop : tie.invariant-loop-i
 invariant-loop state count arities objects least₀ i₀ least i =
     (i ≤ count) × (rows_in arities objects least (count - i) (drop (4 * i) state) ≡ rows_in arities objects 0 count state)
 
-abbrev decreases-loop : tie.decreases-loop
+abbrev decreases-loop : tie.decreases-loop-i
 decreases-loop state count arities objects least₀ i₀ least i = count - i
 
-loop-holds : tie.Need-loop-init invariant-loop decreases-loop
+loop-holds : tie.Need-loop-i-init invariant-loop decreases-loop
 loop-holds c =
     (omega arith, rows_start _ _ _ _)
 
-row-right-requires : tie.Need-row-right-requires invariant-loop decreases-loop
-row-right-requires c κs = (omega arith, c.before.before.before.before.requires.1)
+row-right-requires : tie.Need-row_right-requires invariant-loop decreases-loop
+row-right-requires c κs = (omega arith, c.requires.1)
 
-returns : tie.Need-returns invariant-loop decreases-loop
+returns : tie.Need-returns-then-not-row_right invariant-loop decreases-loop
 returns c =
-    let tested = c.before in
-    let more = tested.before in
-    rows_wrong _ _ _ _ more.before.loop.invariant.1 more.loop-test.true (sym tested.row-right.ensures ∙ not-true _ c.if1.true)
+    rows_wrong _ _ _ _ c.loop-i.invariant.1 c.loop-i-test.true (sym c.row_right.ensures ∙ c.if-not-row_right.true)
 
-row-requires : tie.Need-row-requires invariant-loop decreases-loop
+row-requires : tie.Need-row-n-requires invariant-loop decreases-loop
 row-requires c κs = omega arith
 
-cast-n : tie.Need-overflow-cast-n invariant-loop decreases-loop
+cast-n : tie.Need-overflow_cast-n invariant-loop decreases-loop
 cast-n c = omega arith
 
-returns-2 : tie.Need-returns-2 invariant-loop decreases-loop
+returns-2 : tie.Need-returns-then-n-least invariant-loop decreases-loop
 returns-2 c =
-    let read = c.before in
-    let tested = read.before.before in
-    let more = tested.before in
-    rows_low _ _ _ _ more.before.loop.invariant.1 more.loop-test.true
-    (sym tested.row-right.ensures ∙ not-false _ read.before.if1.false) read.row.ensures c.if2.true
+    rows_low _ _ _ _ c.loop-i.invariant.1 c.loop-i-test.true
+    (sym c.row_right.ensures ∙ c.if-not-row_right.false) c.row-n.ensures c.if-n-least.true
 
-add-least : tie.Need-overflow-add-least invariant-loop decreases-loop
+add-least : tie.Need-overflow_add-least invariant-loop decreases-loop
 add-least c = omega arith
 
-add-i : tie.Need-overflow-add-i invariant-loop decreases-loop
+add-i : tie.Need-overflow_add-i invariant-loop decreases-loop
 add-i c = omega arith
 
-loop-less : tie.Need-loop-smaller invariant-loop decreases-loop
+loop-less : tie.Need-loop-i-smaller invariant-loop decreases-loop
 loop-less c = omega arith
 
-loop-again : tie.Need-loop-preserved invariant-loop decreases-loop
+loop-again : tie.Need-loop-i-preserved invariant-loop decreases-loop
 loop-again c =
-    let read = c.before in
-    let tested = read.before.before in
-    let more = tested.before in (
+    (
       omega arith,
-      rows_again _ _ _ _ more.before.loop.invariant.1 more.loop-test.true
-          (sym tested.row-right.ensures ∙ not-false _ read.before.if1.false) read.row.ensures c.if2.false,
+      rows_again _ _ _ _ c.loop-i.invariant.1 c.loop-i-test.true
+          (sym c.row_right.ensures ∙ c.if-not-row_right.false) c.row-n.ensures c.if-n-least.false,
     )
 
-returns-3 : tie.Need-returns-3 invariant-loop decreases-loop
+returns-3 : tie.Need-returns invariant-loop decreases-loop
 returns-3 c =
-    rows_end _ _ _ _ c.loop-test.false ∙ c.before.loop.invariant.1
+    rows_end _ _ _ _ c.loop-i-test.false ∙ c.loop-i.invariant.1
 
-pub rows-right-spec : {M : Type 1} → statement M
-rows-right-spec =
+pub rows_right_spec : {M : Type 1} → statement M
+rows_right_spec =
     tie.close
     (tie.spec invariant-loop decreases-loop loop-holds row-right-requires returns row-requires cast-n returns-2 add-least add-i loop-less loop-again returns-3)

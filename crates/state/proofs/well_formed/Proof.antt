@@ -5,21 +5,20 @@ use borrow.Author.Rules.{rules}
 use Rattle.state.proofs.well_formed.Statement.{statement}
 use Rattle.state.proofs.well_formed.Tie as tie
 
-returns : tie.Need-returns
-returns c = small_buffer _ _ _ _ c.if1.true
+returns : tie.Need-returns-then-state-lt-STATE_BYTES
+returns c = small_buffer _ _ _ _ c.if-state-lt-STATE_BYTES.true
 
-returns-2 : tie.Need-returns-2
-returns-2 c = large_count _ _ _ _ c.before.if1.false c.if2.true
+returns-2 : tie.Need-returns-then-count-gt-MOST_FACTS
+returns-2 c = large_count _ _ _ _ c.if-state-lt-STATE_BYTES.false c.if-count-gt-MOST_FACTS.true
 
-rows-right-requires : tie.Need-rows-right-requires
+rows-right-requires : tie.Need-rows_right-requires
 rows-right-requires c κs = search rules
 
-returns-3 : tie.Need-returns-3
+returns-3 : tie.Need-returns
 returns-3 c =
-    let start = c.before.before.before.before.before in
     c.rows_right.ensures
-    ∙ well_formed_rows start.args.arities.now start.args.objects start.args.state.now start.args.count start.requires
-    (λ i. (c.before.before.before.before.shared-slice-known.given i).fits) c.before.before.if1.false c.before.if2.false
+    ∙ well_formed_rows c.args.arities.now c.args.objects c.args.state.now c.args.count c.requires
+    (λ i. (c.shared_slice_known-1.given i).fits) c.if-state-lt-STATE_BYTES.false c.if-count-gt-MOST_FACTS.false
 
-pub well-formed-spec : {M : Type 1} → statement M
-well-formed-spec = tie.close (tie.spec returns returns-2 rows-right-requires returns-3)
+pub well_formed_spec : {M : Type 1} → statement M
+well_formed_spec = tie.close (tie.spec returns returns-2 rows-right-requires returns-3)

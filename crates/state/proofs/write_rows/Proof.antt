@@ -10,53 +10,48 @@ use Rattle.state.proofs.Writing.{rows_written, rows_length}
 use Rattle.state.proofs.write_rows.Statement.{statement}
 use Rattle.state.proofs.write_rows.Tie as tie
 
-abbrev invariant-loop : tie.invariant-loop
+abbrev invariant-loop : tie.invariant-loop-i
 invariant-loop state₀ numbers i₀ state i = (i ≤ length numbers) × (length state ≡ length state₀) × (state ≡ flat_map row_bytes (take i numbers) ++ drop (4 * i) state₀)
 
-abbrev decreases-loop : tie.decreases-loop
+abbrev decreases-loop : tie.decreases-loop-i
 decreases-loop state₀ numbers i₀ state i = length numbers - i
 
-loop-holds : tie.Need-loop-init invariant-loop decreases-loop
+loop-holds : tie.Need-loop-i-init invariant-loop decreases-loop
 unfolding flat_map
 loop-holds c = (omega arith, refl, refl)
 
-mul-write-row : tie.Need-overflow-mul-write-row invariant-loop decreases-loop
+mul-write-row : tie.Need-offset_bounds-numbers-i invariant-loop decreases-loop
 mul-write-row c = omega arith
 
-shared-slice-read-write-row : tie.Need-shared-slice-read-write-row invariant-loop decreases-loop
+shared-slice-read-write-row : tie.Need-bounds-numbers-i invariant-loop decreases-loop
 shared-slice-read-write-row c = omega arith
 
-write-row-requires : tie.Need-write-row-requires invariant-loop decreases-loop
+write-row-requires : tie.Need-write_row-requires invariant-loop decreases-loop
 write-row-requires c κs = omega arith
 
-add-i : tie.Need-overflow-add-i invariant-loop decreases-loop
+add-i : tie.Need-overflow_add-i invariant-loop decreases-loop
 add-i c = omega arith
 
-loop-less : tie.Need-loop-smaller invariant-loop decreases-loop
+loop-less : tie.Need-loop-i-smaller invariant-loop decreases-loop
 loop-less c = omega arith
 
-loop-again : tie.Need-loop-preserved invariant-loop decreases-loop
+loop-again : tie.Need-loop-i-preserved invariant-loop decreases-loop
 loop-again c =
-    let written = c.before.before in
-    let in-loop = written.before.before.before in
-    let head = in-loop.before in
-    let start = head.before.before.before in
-    let more = rows_written _ _ head.loop.invariant.2 in-loop.loop-test.true written.write-row.ensures in
-    (omega arith, rows_length start.args.numbers.now _ _ (head.loop.i + 1) more (omega arith) start.requires, more)
+    let more = rows_written _ _ c.loop-i.invariant.2 c.loop-i-test.true c.write_row.ensures in
+    (omega arith, rows_length c.args.numbers.now _ _ (c.loop-i.i + 1) more (omega arith) c.requires, more)
 
-same_length : tie.Need-same-length invariant-loop decreases-loop
-same_length c = c.before.loop.invariant.1
+same_length : tie.Need-shape_of-state invariant-loop decreases-loop
+same_length c = c.loop-i.invariant.1
 
 returns : tie.Need-returns invariant-loop decreases-loop
 returns c =
-    let start = c.before.before.before.before in
-    let head = c.before.loop in
-    let all : head.i ≡ length start.args.numbers.now = omega arith in
-    head.invariant.2 ∙ ap (λ (k : ℕ). flat_map row_bytes (take k start.args.numbers.now) ++ drop (4 * k) start.args.state.now) all
-    ∙ ap (λ (l : List ℕ). flat_map row_bytes l ++ drop (4 * length start.args.numbers.now) start.args.state.now)
-    (take-length start.args.numbers.now)
+    let head = c.loop-i in
+    let all : head.i ≡ length c.args.numbers.now = omega arith in
+    head.invariant.2 ∙ ap (λ (k : ℕ). flat_map row_bytes (take k c.args.numbers.now) ++ drop (4 * k) c.args.state.now) all
+    ∙ ap (λ (l : List ℕ). flat_map row_bytes l ++ drop (4 * length c.args.numbers.now) c.args.state.now)
+    (take-length c.args.numbers.now)
 
-pub write-rows-spec : {M : Type 1} → statement M
-write-rows-spec =
+pub write_rows_spec : {M : Type 1} → statement M
+write_rows_spec =
     tie.close
     (tie.spec invariant-loop decreases-loop loop-holds mul-write-row shared-slice-read-write-row write-row-requires add-i loop-less loop-again same_length returns)

@@ -9,68 +9,68 @@ use Rattle.conditions.proofs.Compared.{Covering, covering_start, covering_next, 
 use Rattle.conditions.proofs.bags.covers_from.Statement.{statement}
 use Rattle.conditions.proofs.bags.covers_from.Tie as tie
 
-abbrev invariant-loop : tie.invariant-loop
+abbrev invariant-loop : tie.invariant-loop-k
 invariant-loop table size i j place first second k₀ k = Covering (bag_at size table i) (bag_at size table j) place k
 
-abbrev decreases-loop : tie.decreases-loop
+abbrev decreases-loop : tie.decreases-loop-k
 decreases-loop table size i j place first second k₀ k = size - k
 
-mul-first : tie.Need-overflow-mul-first invariant-loop decreases-loop
+mul-first : tie.Need-overflow_mul-first invariant-loop decreases-loop
 mul-first c = search rules
 
-mul-second : tie.Need-overflow-mul-second invariant-loop decreases-loop
+mul-second : tie.Need-overflow_mul-second invariant-loop decreases-loop
 mul-second c = search rules
 
-loop-holds : tie.Need-loop-init invariant-loop decreases-loop
+loop-holds : tie.Need-loop-k-init invariant-loop decreases-loop
 loop-holds c = covering_start (omega (arith, c.requires.2, length_bag_at c.requires.0))
 
-add-if1 : tie.Need-overflow-add-if1 invariant-loop decreases-loop
+add-if1 : tie.Need-overflow_add-first invariant-loop decreases-loop
 add-if1 c = search rules
 
-mul-if1 : tie.Need-overflow-mul-if1 invariant-loop decreases-loop
+mul-if1 : tie.Need-offset_bounds-table-first invariant-loop decreases-loop
 mul-if1 c = search rules
 
-shared-slice-read-if1 : tie.Need-shared-slice-read-if1 invariant-loop decreases-loop
+shared-slice-read-if1 : tie.Need-bounds-table-first invariant-loop decreases-loop
 shared-slice-read-if1 c = search rules
 
-add-if1-2 : tie.Need-overflow-add-if1-2 invariant-loop decreases-loop
+add-if1-2 : tie.Need-overflow_add-second invariant-loop decreases-loop
 add-if1-2 c = search rules
 
-mul-if1-2 : tie.Need-overflow-mul-if1-2 invariant-loop decreases-loop
+mul-if1-2 : tie.Need-offset_bounds-table-second invariant-loop decreases-loop
 mul-if1-2 c = search rules
 
-shared-slice-read-if1-2 : tie.Need-shared-slice-read-if1-2 invariant-loop decreases-loop
+shared-slice-read-if1-2 : tie.Need-bounds-table-second invariant-loop decreases-loop
 shared-slice-read-if1-2 c = search rules
 
-returns : tie.Need-returns invariant-loop decreases-loop
+returns : tie.Need-returns-then-table-first invariant-loop decreases-loop
 returns c =
-    let h = c.before.before.before.before.before.requires in
-    let l = c.before.before.before.before.loop in
-    let k = c.before.before.before.loop-test.true in
+    let h = c.requires in
+    let l = c.loop-k in
+    let k = c.loop-k-test.true in
     covering_fails l.invariant (length_bag_at h.0 ∙ sym (length_bag_at h.1)) (omega (arith, k, length_bag_at h.0))
-    (omega (arith, c.if1.true, get_d_bag_at h.0 l.k k, get_d_bag_at h.1 l.k k))
+    (omega (arith, c.if-table-first.true, get_d_bag_at h.0 l.k k, get_d_bag_at h.1 l.k k))
 
-add-k : tie.Need-overflow-add-k invariant-loop decreases-loop
+add-k : tie.Need-overflow_step-k invariant-loop decreases-loop
 add-k c = search rules
 
-loop-less : tie.Need-loop-smaller invariant-loop decreases-loop
+loop-less : tie.Need-loop-k-smaller invariant-loop decreases-loop
 loop-less c = search rules
 
-loop-again : tie.Need-loop-preserved invariant-loop decreases-loop
+loop-again : tie.Need-loop-k-preserved invariant-loop decreases-loop
 loop-again c =
-    let h = c.before.before.before.before.before.requires in
-    let l = c.before.before.before.before.loop in
-    let k = c.before.before.before.loop-test.true in
+    let h = c.requires in
+    let l = c.loop-k in
+    let k = c.loop-k-test.true in
     covering_next l.invariant (length_bag_at h.0 ∙ sym (length_bag_at h.1)) (omega (arith, k, length_bag_at h.0))
-    (omega (arith, c.if1.false, get_d_bag_at h.0 l.k k, get_d_bag_at h.1 l.k k))
+    (omega (arith, c.if-table-first.false, get_d_bag_at h.0 l.k k, get_d_bag_at h.1 l.k k))
 
-returns-2 : tie.Need-returns-2 invariant-loop decreases-loop
+returns-2 : tie.Need-returns invariant-loop decreases-loop
 returns-2 c =
-    let h = c.before.before.requires in
-    covering_ends c.before.loop.invariant (length_bag_at h.0 ∙ sym (length_bag_at h.1)) (omega (arith, c.loop-test.false, length_bag_at h.0))
+    let h = c.requires in
+    covering_ends c.loop-k.invariant (length_bag_at h.0 ∙ sym (length_bag_at h.1)) (omega (arith, c.loop-k-test.false, length_bag_at h.0))
 
-pub covers-from-spec : {M : Type 1} → statement M
-covers-from-spec =
+pub covers_from_spec : {M : Type 1} → statement M
+covers_from_spec =
     tie.close
     (tie.spec invariant-loop decreases-loop mul-first mul-second loop-holds add-if1 mul-if1 shared-slice-read-if1 add-if1-2 mul-if1-2 shared-slice-read-if1-2
     returns add-k loop-less loop-again returns-2)

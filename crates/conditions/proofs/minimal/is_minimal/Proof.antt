@@ -10,7 +10,7 @@ common-requires : tie.Need-common-requires
 common-requires c κs = search rules
 
 returns : tie.Need-returns
-returns c = ap (λ (m : ℕ). eqb m c.before.args.contained) c.common.ensures
+returns c = ap (λ (m : ℕ). eqb m c.args.contained) c.common.ensures
 
-pub is-minimal-spec : {M : Type 1} → statement M
-is-minimal-spec = tie.close (tie.spec common-requires returns)
+pub is_minimal_spec : {M : Type 1} → statement M
+is_minimal_spec = tie.close (tie.spec common-requires returns)

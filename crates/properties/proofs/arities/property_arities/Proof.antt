@@ -18,18 +18,11 @@ record Passed (arities : List ℕ) (n : ℕ) (table : List ℕ) (first p : ℕ) 
   sized : length table ≡ 60
   passed : ArityPassed (entries n 0 arities) p first table
 
-abbrev invariant-loop : tie.invariant-loop
+abbrev invariant-loop : tie.invariant-loop-p
 invariant-loop arities n table₀ first₀ p₀ table first p = Passed arities n table first p
 
-abbrev decreases-loop : tie.decreases-loop
+abbrev decreases-loop : tie.decreases-loop-p
 decreases-loop arities n table₀ first₀ p₀ table first p = n - p
-
--- what is given, from the loop on; and the loop, from the call in it
-abbrev entry : tie.At-loop invariant-loop decreases-loop → tie.Start invariant-loop decreases-loop
-entry c = c.before.before
-
-abbrev in_loop : tie.After-put-arity invariant-loop decreases-loop → tie.In-loop invariant-loop decreases-loop
-in_loop c = c.before.before
 
 -- at most 60 properties
 few : (s : tie.Start invariant-loop decreases-loop) → sum (entries s.args.predicates.count 0 s.args.predicates.arities) ≤ 60
@@ -37,73 +30,71 @@ unfolding arities_of
 few s = sum_arities _ s.requires
 
 -- the number of arities
-counted : (c : tie.At-loop invariant-loop decreases-loop)
-    → length (entries (entry c).args.predicates.count 0 (entry c).args.predicates.arities) ≡ (entry c).args.predicates.count
-counted c = length_entries _ 0 (entry c).args.predicates.arities
+counted : (c : tie.At-loop-p invariant-loop decreases-loop)
+    → length (entries c.args.predicates.count 0 c.args.predicates.arities) ≡ c.args.predicates.count
+counted c = length_entries _ 0 c.args.predicates.arities
 
-here : (c : tie.In-loop invariant-loop decreases-loop)
-    → c.before.loop.p < length (entries (entry c.before).args.predicates.count 0 (entry c.before).args.predicates.arities)
-here c = omega (arith, counted c.before, c.loop-test.true)
+here : (c : tie.In-loop-p invariant-loop decreases-loop)
+    → c.loop-p.p < length (entries c.args.predicates.count 0 c.args.predicates.arities)
+here c = omega (arith, counted c.before, c.loop-p-test.true)
 
 -- the next arity
-arity_is : (c : tie.In-loop invariant-loop decreases-loop)
-    → get_or (entry c.before).args.predicates.arities c.before.loop.p 0
-    ≡ get_or (entries (entry c.before).args.predicates.count 0 (entry c.before).args.predicates.arities) c.before.loop.p 0
-arity_is c = sym (get_d_entries _ 0 _ _ c.loop-test.true)
+arity_is : (c : tie.In-loop-p invariant-loop decreases-loop)
+    → get_or c.args.predicates.arities c.loop-p.p 0
+    ≡ get_or (entries c.args.predicates.count 0 c.args.predicates.arities) c.loop-p.p 0
+arity_is c = sym (get_d_entries _ 0 _ _ c.loop-p-test.true)
 
 -- has room
-inside : (c : tie.In-loop invariant-loop decreases-loop)
-    → c.before.loop.first + get_or (entry c.before).args.predicates.arities c.before.loop.p 0 ≤ 60
-inside c = omega (arith, arity_is c, arities_room _ (few (entry c.before)) c.before.loop.invariant.passed (here c))
+inside : (c : tie.In-loop-p invariant-loop decreases-loop)
+    → c.loop-p.first + get_or c.args.predicates.arities c.loop-p.p 0 ≤ 60
+inside c = omega (arith, arity_is c, arities_room _ (few c.before.before.before) c.loop-p.invariant.passed (here c))
 
-loop-holds : tie.Need-loop-init invariant-loop decreases-loop
+loop-holds : tie.Need-loop-p-init invariant-loop decreases-loop
 loop-holds c = record { inside = omega arith; sized = refl; passed = arities_start _ (few c.before) }
 
-slice-aggregate-put-arity : tie.Need-slice-aggregate-put-arity invariant-loop decreases-loop
-slice-aggregate-put-arity c = sym c.before.before.loop.invariant.sized
+slice-aggregate-put-arity : tie.Need-slice_bounds-put_arity-end invariant-loop decreases-loop
+slice-aggregate-put-arity c = sym c.loop-p.invariant.sized
 
-array-read-put-arity : tie.Need-array-read-put-arity invariant-loop decreases-loop
-array-read-put-arity c = omega (arith, c.before.loop-test.true, (entry c.before.before).pre.few)
+array-read-put-arity : tie.Need-bounds-arities-p invariant-loop decreases-loop
+array-read-put-arity c = omega (arith, c.loop-p-test.true, c.requires.few)
 
-put-arity-requires : tie.Need-put-arity-requires invariant-loop decreases-loop
-put-arity-requires c κs = omega (arith, inside c.before, c.before.before.loop.invariant.sized)
+put-arity-requires : tie.Need-put_arity-requires invariant-loop decreases-loop
+put-arity-requires c κs = omega (arith, inside c.before, c.loop-p.invariant.sized)
 
-array-read-wide : tie.Need-array-read-wide invariant-loop decreases-loop
-array-read-wide c = let tested = in_loop c.before in omega (arith, tested.loop-test.taken, (entry tested.before).pre.few)
+array-read-wide : tie.Need-bounds-arities-p-in-loop-p invariant-loop decreases-loop
+array-read-wide c = omega (arith, c.loop-p-test.true, c.requires.few)
 
-wide-requires : tie.Need-wide-requires invariant-loop decreases-loop
+wide-requires : tie.Need-wide-first-requires invariant-loop decreases-loop
 wide-requires c κs = tt
 
-add-first : tie.Need-overflow-add-first invariant-loop decreases-loop
-add-first c = omega (arith, inside (in_loop c.before.before), c.wide.ensures.0)
+add-first : tie.Need-overflow_add-first invariant-loop decreases-loop
+add-first c = omega (arith, inside c.before.before.before.before, c.wide-first.ensures.0)
 
-add-p : tie.Need-overflow-add-p invariant-loop decreases-loop
-add-p c = let tested = in_loop c.before.before in omega (arith, tested.loop-test.taken, (entry tested.before).pre.few)
+add-p : tie.Need-overflow_add-p invariant-loop decreases-loop
+add-p c = omega (arith, c.loop-p-test.true, c.requires.few)
 
-loop-less : tie.Need-loop-smaller invariant-loop decreases-loop
-loop-less c = less_left c.before.before.before.before.loop-test.true
+loop-less : tie.Need-loop-p-smaller invariant-loop decreases-loop
+loop-less c = less_left c.loop-p-test.true
 
-loop-again : tie.Need-loop-preserved invariant-loop decreases-loop
+loop-again : tie.Need-loop-p-preserved invariant-loop decreases-loop
 loop-again c =
-    let called = c.before.before in
-    let tested = in_loop called in
-    let l = tested.before.loop in
+    let l = c.loop-p in
     record {
-      inside = omega (arith, tested.loop-test.taken);
-      sized = called.put-arity.auto.0 ∙ l.inv.sized;
+      inside = omega (arith, c.loop-p-test.true);
+      sized = c.put_arity.auto.table ∙ l.invariant.sized;
       passed =
-          arities_next _ (few (entry tested.before)) l.inv.passed (here tested) (arity_is tested) c.wide.ensures.0
-          called.put-arity.ensures;
+          arities_next _ (few c.before.before.before.before.before.before.before) l.invariant.passed (here c.before.before.before.before) (arity_is c.before.before.before.before) c.wide-first.ensures.0
+          c.put_arity.ensures;
     }
 
 returns : tie.Need-returns invariant-loop decreases-loop
 unfolding arities_of
 returns c =
-    let l = c.before.loop in
-    arities_end _ (few (entry c.before)) l.invariant.passed (omega (arith, counted c.before, c.loop-test.false))
+    let l = c.loop-p in
+    arities_end _ (few c.before.before.before) l.invariant.passed (omega (arith, counted c.before, c.loop-p-test.false))
 
-pub property-arities-spec : {M : Type 1} → statement M
-property-arities-spec =
+pub property_arities_spec : {M : Type 1} → statement M
+property_arities_spec =
     tie.close
     (tie.spec
     invariant-loop

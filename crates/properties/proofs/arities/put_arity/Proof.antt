@@ -13,68 +13,61 @@ record Put (before : List ℕ) (first arity n : ℕ) (table : List ℕ) (i : ℕ
   inside : i ≤ n
   is : table ≡ stamped first i arity before
 
-abbrev invariant-loop : tie.invariant-loop
+abbrev invariant-loop : tie.invariant-loop-i
 invariant-loop table₀ first arity n i₀ table i = Put table₀ first arity n table i
 
-abbrev decreases-loop : tie.decreases-loop
+abbrev decreases-loop : tie.decreases-loop-i
 decreases-loop table₀ first arity n i₀ table i = n - i
 
--- what is given, from the loop on
-abbrev entry : tie.At-loop invariant-loop decreases-loop → tie.Start invariant-loop decreases-loop
-entry c = c.before.before.before
-
 -- the table keeps its length
-kept : (c : tie.At-loop invariant-loop decreases-loop) → length c.loop.table ≡ length (entry c).args.table.now
+kept : (c : tie.At-loop-i invariant-loop decreases-loop) → length c.loop-i.table ≡ length c.args.table.now
 kept c =
-    let s = entry c in
-    ap length c.loop.invariant.is
-    ∙ length_stamped s.args.first s.args.arity s.args.table.now c.loop.i
-    (omega (arith, c.loop.invariant.inside, c.before.wide.ensures.0, s.pre))
+    ap length c.loop-i.invariant.is
+    ∙ length_stamped c.args.first c.args.arity c.args.table.now c.loop-i.i
+    (omega (arith, c.loop-i.invariant.inside, c.wide-n.ensures.0, c.requires))
 
-wide-requires : tie.Need-wide-requires invariant-loop decreases-loop
+wide-requires : tie.Need-wide-n-requires invariant-loop decreases-loop
 wide-requires c κs = tt
 
-loop-holds : tie.Need-loop-init invariant-loop decreases-loop
+loop-holds : tie.Need-loop-i-init invariant-loop decreases-loop
 loop-holds c =
-    let a = c.before.before.args in
+    let a = c.args in
     record { inside = omega arith; is = stamp_none a.first a.arity a.table.now }
 
-add-table : tie.Need-overflow-add-table invariant-loop decreases-loop
-add-table c = omega (arith, c.loop-test.true, c.before.before.wide.ensures.0, (entry c.before).pre)
+add-table : tie.Need-overflow_add-table invariant-loop decreases-loop
+add-table c = omega (arith, c.loop-i-test.true, c.wide-n.ensures.0, c.requires)
 
-slice-write-table : tie.Need-slice-write-table invariant-loop decreases-loop
-slice-write-table c = omega (arith, c.loop-test.true, c.before.before.wide.ensures.0, (entry c.before).pre, kept c.before)
+slice-write-table : tie.Need-bounds-table-first invariant-loop decreases-loop
+slice-write-table c = omega (arith, c.loop-i-test.true, c.wide-n.ensures.0, c.requires, kept c.before)
 
-add-i : tie.Need-overflow-add-i invariant-loop decreases-loop
-add-i c = omega (arith, c.loop-test.true, c.before.before.wide.ensures.1)
+add-i : tie.Need-overflow_add-i invariant-loop decreases-loop
+add-i c = omega (arith, c.loop-i-test.true, c.wide-n.ensures.1)
 
-loop-less : tie.Need-loop-smaller invariant-loop decreases-loop
-loop-less c = less_left c.loop-test.true
+loop-less : tie.Need-loop-i-smaller invariant-loop decreases-loop
+loop-less c = less_left c.loop-i-test.true
 
-loop-again : tie.Need-loop-preserved invariant-loop decreases-loop
+loop-again : tie.Need-loop-i-preserved invariant-loop decreases-loop
 loop-again c =
-    let s = entry c.before in
-    let at = c.before.loop in
+    let at = c.loop-i in
     record {
-      inside = omega (arith, c.loop-test.true);
+      inside = omega (arith, c.loop-i-test.true);
       is =
-          ap (λ (l : List ℕ). set l (s.args.first + at.i) s.args.arity) at.invariant.is
-          ∙ stamp_next s.args.first s.args.arity s.args.table.now at.i
-          (omega (arith, c.loop-test.true, c.before.before.wide.ensures.0, s.pre));
+          ap (λ (l : List ℕ). set l (c.args.first + at.i) c.args.arity) at.invariant.is
+          ∙ stamp_next c.args.first c.args.arity c.args.table.now at.i
+          (omega (arith, c.loop-i-test.true, c.wide-n.ensures.0, c.requires));
     }
 
-same_length : tie.Need-same-length invariant-loop decreases-loop
+same_length : tie.Need-shape_of-table invariant-loop decreases-loop
 same_length c = kept c.before
 
 returns : tie.Need-returns invariant-loop decreases-loop
 returns c =
-    let s = entry c.before in
-    let at = c.before.loop in
-    let all : at.i ≡ s.args.arity = omega (arith, c.loop-test.false, at.invariant.inside, c.before.before.wide.ensures.0) in
-    at.invariant.is ∙ ap (λ (n : ℕ). stamped s.args.first n s.args.arity s.args.table.now) all
+    let at = c.loop-i in
+    let all : at.i ≡ c.args.arity = omega (arith, c.loop-i-test.false, at.invariant.inside, c.wide-n.ensures.0) in
+    at.invariant.is ∙ ap (λ (n : ℕ). stamped c.args.first n c.args.arity c.args.table.now) all
 
-pub put-arity-spec : {M : Type 1} → statement M
-put-arity-spec =
+pub put_arity_spec : {M : Type 1} → statement M
+put_arity_spec =
     tie.close
     (tie.spec
     invariant-loop

@@ -11,37 +11,35 @@ use Rattle.properties.proofs.parameters.enter_argument.Tie as tie
 wide-requires : tie.Need-wide-requires
 wide-requires c κs = search rules
 
-mul-place : tie.Need-overflow-mul-place
+mul-place : tie.Need-overflow_mul-place
 mul-place c = search rules
 
-add-place : tie.Need-overflow-add-place
+add-place : tie.Need-overflow_add-place
 add-place c = search rules
 
-slice-read-table : tie.Need-slice-read-table
+slice-read-table : tie.Need-bounds-table-place
 slice-read-table c = search rules
 
-add-table : tie.Need-overflow-add-table
+add-table : tie.Need-overflow_add-table
 add-table c =
-    let s = c.before.before.before in
-    let e = c.before.wide.ensures.0 in
-    let small : get_or s.args.table.now (60 * c.before.wide.result + s.args.property) 0 < 255 =
-    subst (λ (o : ℕ). get_or s.args.table.now (60 * o + s.args.property) 0 < 255) (sym e) s.requires.1 in
+    let e = c.wide.ensures.0 in
+    let small : get_or c.args.table.now (60 * c.wide.result + c.args.property) 0 < 255 =
+    subst (λ (o : ℕ). get_or c.args.table.now (60 * o + c.args.property) 0 < 255) (sym e) c.requires.1 in
     omega arith
 
-slice-write-table : tie.Need-slice-write-table
+slice-write-table : tie.Need-bounds-table-place-2
 slice-write-table c = search rules
 
-same_length : tie.Need-same-length
+same_length : tie.Need-shape_of-table
 same_length c = search rules
 
 returns : tie.Need-returns
 unfolding raised
 returns c =
-    let s = c.before.before.before in
-    ap (λ (o : ℕ). raised s.args.table.now (60 * o + s.args.property)) c.before.wide.ensures.0
+    ap (λ (o : ℕ). raised c.args.table.now (60 * o + c.args.property)) c.wide.ensures.0
 
-pub enter-argument-spec : {M : Type 1} → statement M
-enter-argument-spec =
+pub enter_argument_spec : {M : Type 1} → statement M
+enter_argument_spec =
     tie.close
     (tie.spec
     wide-requires

@@ -26,145 +26,121 @@ record Passed (before : List ℕ) (parameters : ℕ) (atoms : AtomList) (predica
   inside : i ≤ atoms.count
   holds : BagTable (bag_of (properties_from 0 (arities_of predicates)) (take i (atoms_of (arities_of predicates) atoms))) parameters before table
 
-abbrev invariant-loop : tie.invariant-loop
+abbrev invariant-loop : tie.invariant-loop-i
 invariant-loop table₀ parameters atoms predicates firsts n i₀ table i = Passed table₀ parameters atoms predicates table i
 
-abbrev decreases-loop : tie.decreases-loop
+abbrev decreases-loop : tie.decreases-loop-i
 decreases-loop table₀ parameters atoms predicates firsts n i₀ table i = n - i
 
 -- what is given, from the table emptied; that, from the loop on; the loop, from the atom that a turn takes; and this, from its predicate's arity
-abbrev given : tie.After-clear-rows invariant-loop decreases-loop → tie.Start invariant-loop decreases-loop
+abbrev given : tie.After-clear_rows invariant-loop decreases-loop → tie.Start invariant-loop decreases-loop
 given c = c.before.before.before
 
-abbrev clearing : tie.At-loop invariant-loop decreases-loop → tie.After-clear-rows invariant-loop decreases-loop
-clearing c = c.before.before.before
-
-abbrev entry : tie.At-loop invariant-loop decreases-loop → tie.Start invariant-loop decreases-loop
-entry c = given (clearing c)
-
-abbrev in_loop : tie.After-a invariant-loop decreases-loop → tie.At-loop invariant-loop decreases-loop
-in_loop c = c.before.before
-
-abbrev taken : tie.After-wide2 invariant-loop decreases-loop → tie.After-a invariant-loop decreases-loop
-taken c = c.before.before.before
-
 -- the rows of all parameters are in the table that was emptied
-room : (c : tie.At-loop invariant-loop decreases-loop) → 60 * (entry c).args.parameters ≤ length (clearing c).clear-rows.new.0
-room c = omega (arith, (entry c).requires.1.1.1, (clearing c).clear-rows.auto.0)
+room : (c : tie.At-loop-i invariant-loop decreases-loop) → 60 * c.args.parameters ≤ length c.clear_rows.new.table
+room c = omega (arith, c.requires.1.1.1, c.clear_rows.auto.table)
 
 -- the atom that a turn takes is known
-there : (c : tie.After-a invariant-loop decreases-loop)
-    → known (arities_of (entry (in_loop c)).args.t4) (entry (in_loop c)).args.parameters
-    (atom_of (arities_of (entry (in_loop c)).args.t4) (get_or (entry (in_loop c)).args.t3.atoms (in_loop c).loop.i blank_atom))
+there : (c : tie.After-a-1 invariant-loop decreases-loop)
+    → known (arities_of c.args.predicates) c.args.parameters
+    (atom_of (arities_of c.args.predicates) (get_or c.args.atoms.atoms c.loop-i.i blank_atom))
     ≡ true
 unfolding atoms_of
 there c =
-    let s = entry (in_loop c) in
-    atom_known _ _ _ _ s.pre.1.0.atoms_known _ c.before.loop-test.true
+    atom_known _ _ _ _ c.requires.1.0.atoms_known _ c.loop-i-test.true
 
-here : (c : tie.After-a invariant-loop decreases-loop)
-    → ((get_or (entry (in_loop c)).args.t3.atoms (in_loop c).loop.i blank_atom).predicate < length (arities_of (entry (in_loop c)).args.t4))
-    × Placed (entry (in_loop c)).args.t4 (entry (in_loop c)).args.t5
-    (get_or (entry (in_loop c)).args.t3.atoms (in_loop c).loop.i blank_atom).predicate
-here c = let s = entry (in_loop c) in known_placed _ _ s.pre.0 s.pre.1.1.0 _ _ (there c)
+here : (c : tie.After-a-1 invariant-loop decreases-loop)
+    → ((get_or c.args.atoms.atoms c.loop-i.i blank_atom).predicate < length (arities_of c.args.predicates))
+    × Placed c.args.predicates c.args.firsts
+    (get_or c.args.atoms.atoms c.loop-i.i blank_atom).predicate
+here c = known_placed _ _ c.requires.0 c.requires.1.1.0 _ _ (there c)
 
 -- no more atoms are passed than there are
-few : (c : tie.At-loop invariant-loop decreases-loop) → length (take c.loop.i (atoms_of (arities_of (entry c).args.t4) (entry c).args.t3)) < 255
+few : (c : tie.At-loop-i invariant-loop decreases-loop) → length (take c.loop-i.i (atoms_of (arities_of c.args.predicates) c.args.atoms)) < 255
 few c =
-    let s = entry c in
-    let all = length_atoms (arities_of s.args.t4) s.args.t3 in
-    omega (arith, all, s.pre.1.0.few, length-take c.loop.i (atoms_of (arities_of s.args.t4) s.args.t3))
+    let all = length_atoms (arities_of c.args.predicates) c.args.atoms in
+    omega (arith, all, c.requires.1.0.few, length-take c.loop-i.i (atoms_of (arities_of c.args.predicates) c.args.atoms))
 
-clear-rows-requires : tie.Need-clear-rows-requires invariant-loop decreases-loop
-clear-rows-requires c κs = c.before.before.requires.1.1.1
+clear-rows-requires : tie.Need-clear_rows-requires invariant-loop decreases-loop
+clear-rows-requires c κs = c.requires.1.1.1
 
-loop-holds : tie.Need-loop-init invariant-loop decreases-loop
+loop-holds : tie.Need-loop-i-init invariant-loop decreases-loop
 loop-holds c =
-    let cleared = c.before.before in
-    let s = given cleared in
     record {
       inside = omega arith;
-      holds = none_entered _ _ cleared.clear-rows.ensures (arities_of s.args.t4) (sum_arities _ s.pre.0) s.pre.1.1.1;
+      holds = none_entered _ _ c.clear_rows.ensures (arities_of c.args.predicates) (sum_arities _ c.requires.0) c.requires.1.1.1;
     }
 
-mul-a : tie.Need-overflow-mul-a invariant-loop decreases-loop
-mul-a c = omega (arith, (entry c.before).pre.1.0.few)
+mul-a : tie.Need-offset_bounds-atoms-i invariant-loop decreases-loop
+mul-a c = omega (arith, c.requires.1.0.few)
 
-element-copy-out-a : tie.Need-element-copy-out-a invariant-loop decreases-loop
-element-copy-out-a c = omega (arith, (entry c.before).pre.1.0.few)
+element-copy-out-a : tie.Need-bounds-atoms-i invariant-loop decreases-loop
+element-copy-out-a c = omega (arith, c.requires.1.0.few)
 
-wide-requires : tie.Need-wide-requires invariant-loop decreases-loop
+wide-requires : tie.Need-wide-p-requires invariant-loop decreases-loop
 wide-requires c κs = tt
 
-element-copy-out-wide : tie.Need-element-copy-out-wide invariant-loop decreases-loop
+element-copy-out-wide : tie.Need-bounds-predicates-p invariant-loop decreases-loop
 unfolding blank_atom
-element-copy-out-wide c = subst (λ (n : ℕ). n < 20) (sym c.wide.ensures.0) (here c.before).1.below
+element-copy-out-wide c = subst (λ (n : ℕ). n < 20) (sym c.wide-p.ensures.0) (here c.before).1.below
 
-wide-requires-2 : tie.Need-wide-requires-2 invariant-loop decreases-loop
+wide-requires-2 : tie.Need-wide-arity-requires invariant-loop decreases-loop
 wide-requires-2 c κs = tt
 
-array-read-enter-atom : tie.Need-array-read-enter-atom invariant-loop decreases-loop
+array-read-enter-atom : tie.Need-bounds-firsts-p invariant-loop decreases-loop
 unfolding blank_atom
-array-read-enter-atom c = subst (λ (n : ℕ). n < 20) (sym c.before.before.before.wide.ensures.0) (here (taken c.before)).1.below
+array-read-enter-atom c = subst (λ (n : ℕ). n < 20) (sym c.wide-p.ensures.0) (here c.before.before.before.before).1.below
 
-mul-enter-atom : tie.Need-overflow-mul-enter-atom invariant-loop decreases-loop
+mul-enter-atom : tie.Need-offset_bounds-firsts-p invariant-loop decreases-loop
 mul-enter-atom c = omega (arith, array-read-enter-atom c)
 
-enter-atom-requires : tie.Need-enter-atom-requires invariant-loop decreases-loop
+enter-atom-requires : tie.Need-enter_atom-requires invariant-loop decreases-loop
 unfolding blank_atom
 enter-atom-requires c κs =
-    let read = c.before in
-    let loop = in_loop (taken read) in
-    let predicate-is = read.before.before.wide.ensures.0 in
-    let arity_is = read.wide2.ensures.0 in (
-      arity_asked (here (taken read)).1 predicate-is arity_is,
-      atom_fits (entry loop).pre.0 _ _ _ loop.loop.inv.holds (room loop) (few loop) (there (taken read)) (here (taken read)) predicate-is
+    let predicate-is = c.wide-p.ensures.0 in
+    let arity_is = c.wide-arity.ensures.0 in (
+      arity_asked (here c.before.before.before.before).1 predicate-is arity_is,
+      atom_fits c.requires.0 _ _ _ c.loop-i.invariant.holds (room c.before.before.before.before.before.before) (few c.before.before.before.before.before.before) (there c.before.before.before.before) (here c.before.before.before.before) predicate-is
           arity_is,
     )
 
-add-i : tie.Need-overflow-add-i invariant-loop decreases-loop
+add-i : tie.Need-overflow_add-i invariant-loop decreases-loop
 add-i c =
-    let tested = (taken c.before.before.before.before).before in
-    let h = tested.loop-test.taken in
-    omega (arith, (entry tested.before).pre.1.0.few)
+    let h = c.loop-i-test.true in
+    omega (arith, c.requires.1.0.few)
 
-loop-less : tie.Need-loop-smaller invariant-loop decreases-loop
-loop-less c = less_left c.before.before.before.before.before.before.before.before.loop-test.true
+loop-less : tie.Need-loop-i-smaller invariant-loop decreases-loop
+loop-less c = less_left c.loop-i-test.true
 
-loop-again : tie.Need-loop-preserved invariant-loop decreases-loop
+loop-again : tie.Need-loop-i-preserved invariant-loop decreases-loop
 unfolding blank_atom atoms_of
 loop-again c =
-    let called = c.before.before in
-    let read = called.before.before in
-    let loop = in_loop (taken read) in
-    let s = entry loop in
-    let arities = arities_of s.args.t4 in
+    let arities = arities_of c.args.predicates in
     record {
       inside = omega arith;
       holds =
           subst
-          (λ (l : List model.Atom). BagTable (bag_of (properties_from 0 arities) l) s.args.parameters (clearing loop).clear-rows.last.0
-          called.enter-atom.new.0)
-          (sym (atoms_next arities _ _ _ (taken read).before.loop-test.true)
-          ∙ ap (λ (k : ℕ). take k (atoms_of arities s.args.t3)) (sym (add-one loop.loop.i)))
-          (atom_counted s.pre.0 _ _ _ loop.loop.inv.holds (room loop) (few loop) (there (taken read)) (here (taken read))
-          read.before.before.wide.ensures.0 read.wide2.ensures.0 _ called.enter-atom.ensures);
+          (λ (l : List model.Atom). BagTable (bag_of (properties_from 0 arities) l) c.args.parameters c.clear_rows.new.table
+          c.enter_atom.new.table)
+          (sym (atoms_next arities _ _ _ c.loop-i-test.true)
+          ∙ ap (λ (k : ℕ). take k (atoms_of arities c.args.atoms)) (sym (add-one c.loop-i.i)))
+          (atom_counted c.requires.0 _ _ _ c.loop-i.invariant.holds (room c.before.before.before.before.before.before.before.before.before) (few c.before.before.before.before.before.before.before.before.before) (there c.before.before.before.before.before.before.before) (here c.before.before.before.before.before.before.before)
+          c.wide-p.ensures.0 c.wide-arity.ensures.0 _ c.enter_atom.ensures);
     }
 
-same_length : tie.Need-same-length invariant-loop decreases-loop
-same_length c = c.before.loop.invariant.holds.kept ∙ (clearing c.before).clear-rows.kept.0
+same_length : tie.Need-shape_of-table invariant-loop decreases-loop
+same_length c = c.loop-i.invariant.holds.kept ∙ c.clear_rows.auto.table
 
 returns : tie.Need-returns invariant-loop decreases-loop
 unfolding bags_over
 returns c =
-    let s = entry c.before in
-    let arities = arities_of s.args.t4 in
-    let many = length_atoms arities s.args.t3 in
-    all_entered _ _ (clearing c.before).clear-rows.ensures (properties_from 0 arities) (atoms_of arities s.args.t3) c.before.loop.i
-    (omega (arith, c.loop-test.false, many)) c.before.loop.invariant.holds
+    let arities = arities_of c.args.predicates in
+    let many = length_atoms arities c.args.atoms in
+    all_entered _ _ c.clear_rows.ensures (properties_from 0 arities) (atoms_of arities c.args.atoms) c.loop-i.i
+    (omega (arith, c.loop-i-test.false, many)) c.loop-i.invariant.holds
 
-pub enter-list-spec : {M : Type 1} → statement M
-enter-list-spec =
+pub enter_list_spec : {M : Type 1} → statement M
+enter_list_spec =
     tie.close
     (tie.spec
     invariant-loop

@@ -32,33 +32,20 @@ record Passed (predicates : ArityList) (schemas : SchemaList) (count i : ℕ) (p
   deletes_passed : BagsPassed (those predicates schemas) (properties_from 0 (arities_of predicates)) (λ s. s.deletes) i deletes d
   adds_passed : BagsPassed (those predicates schemas) (properties_from 0 (arities_of predicates)) (λ s. s.adds) i adds a
 
-abbrev invariant-loop : tie.invariant-loop
+abbrev invariant-loop : tie.invariant-loop-i
 invariant-loop predicates preconditions₀ deletes₀ adds₀ schemas firsts m count₀ i₀ preconditions deletes adds count i =
     Passed predicates schemas count i preconditions₀ deletes₀ adds₀ preconditions deletes adds
 
-abbrev decreases-loop : tie.decreases-loop
+abbrev decreases-loop : tie.decreases-loop-i
 decreases-loop predicates preconditions₀ deletes₀ adds₀ schemas firsts m count₀ i₀ preconditions deletes adds count i = m - i
-
--- what is given, from the numbering of the properties; this, from the loop on; and the loop, from the call in it
-abbrev entry : tie.After-numbered invariant-loop decreases-loop → tie.Start invariant-loop decreases-loop
-entry c = c.before.before.before.before
-
-abbrev numbering : tie.At-loop invariant-loop decreases-loop → tie.After-numbered invariant-loop decreases-loop
-numbering c = c.before.before
-
-abbrev called : tie.After-struct-known invariant-loop decreases-loop → tie.After-enter-schema invariant-loop decreases-loop
-called c = c.before.before.before.before.before.before.before
-
-abbrev in_loop : tie.After-enter-schema invariant-loop decreases-loop → tie.In-loop invariant-loop decreases-loop
-in_loop c = c.before.before.before.before.before
 
 -- what the loop is given for a table
 abbrev Given : tie.Start invariant-loop decreases-loop → (model.Schema → List model.Atom) → List ℕ → Type 0
 Given s list before =
-    BagsGiven (those s.args.predicates s.args.t2) (properties_from 0 (arities_of s.args.predicates)) list before
+    BagsGiven (those s.args.predicates s.args.schemas) (properties_from 0 (arities_of s.args.predicates)) list before
 
 given : (s : tie.Start invariant-loop decreases-loop) (list : model.Schema → List model.Atom) (before : List ℕ)
-    → 60 * parameters_in (those s.args.predicates s.args.t2) ≤ length before → Given s list before
+    → 60 * parameters_in (those s.args.predicates s.args.schemas) ≤ length before → Given s list before
 given s list before room = record { few = few_properties s.args.predicates s.requires.0; room = room }
 
 given_preconditions : (s : tie.Start invariant-loop decreases-loop) → Given s (λ q. q.preconditions) s.args.preconditions.now
@@ -71,151 +58,142 @@ given_adds : (s : tie.Start invariant-loop decreases-loop) → Given s (λ q. q.
 given_adds s = given s (λ q. q.adds) s.args.adds.now s.requires.1.1.adds_room
 
 -- the schema that a turn takes, of the code and of the model
-taken : tie.In-loop invariant-loop decreases-loop → Schema
-taken c = get_or (entry (numbering c.before)).args.t2.schemas c.before.loop.i no_schema
+taken : tie.In-loop-i invariant-loop decreases-loop → Schema
+taken c = get_or c.args.schemas.schemas c.loop-i.i no_schema
 
 blank : tie.Start invariant-loop decreases-loop → model.Schema
 blank s = schema_of (arities_of s.args.predicates) no_schema
 
-here : (c : tie.In-loop invariant-loop decreases-loop)
-    → c.before.loop.i < length (those (entry (numbering c.before)).args.predicates (entry (numbering c.before)).args.t2)
-here c = let s = entry (numbering c.before) in omega (arith, c.loop-test.true, length_schemas (arities_of s.args.predicates) s.args.t2)
+here : (c : tie.In-loop-i invariant-loop decreases-loop)
+    → c.loop-i.i < length (those c.args.predicates c.args.schemas)
+here c = omega (arith, c.loop-i-test.true, length_schemas (arities_of c.args.predicates) c.args.schemas)
 
-same : (c : tie.In-loop invariant-loop decreases-loop)
-    → get_or (those (entry (numbering c.before)).args.predicates (entry (numbering c.before)).args.t2) c.before.loop.i
-    (blank (entry (numbering c.before)))
-    ≡ schema_of (arities_of (entry (numbering c.before)).args.predicates) (taken c)
+same : (c : tie.In-loop-i invariant-loop decreases-loop)
+    → get_or (those c.args.predicates c.args.schemas) c.loop-i.i
+    (blank c.before.before.before.before.before.before.before)
+    ≡ schema_of (arities_of c.args.predicates) (taken c)
 unfolding taken blank
-same c = let s = entry (numbering c.before) in schema_read (arities_of s.args.predicates) s.args.t2 c.loop-test.true
+same c = schema_read (arities_of c.args.predicates) c.args.schemas c.loop-i-test.true
 
 -- its parameters
-size_is : (c : tie.In-loop invariant-loop decreases-loop)
+size_is : (c : tie.In-loop-i invariant-loop decreases-loop)
     → (taken c).parameters
-    ≡ get_or (sizes_of (those (entry (numbering c.before)).args.predicates (entry (numbering c.before)).args.t2))
-    c.before.loop.i 0
+    ≡ get_or (sizes_of (those c.args.predicates c.args.schemas))
+    c.loop-i.i 0
 unfolding schema_of
-size_is c = ap (λ (q : model.Schema). q.parameters) (sym (same c)) ∙ size_at _ (blank (entry (numbering c.before))) (here c)
+size_is c = ap (λ (q : model.Schema). q.parameters) (sym (same c)) ∙ size_at _ (blank c.before.before.before.before.before.before.before) (here c)
 
-inside : (c : tie.In-loop invariant-loop decreases-loop)
-    → c.before.loop.i
-    < length (sizes_of (those (entry (numbering c.before)).args.predicates (entry (numbering c.before)).args.t2))
+inside : (c : tie.In-loop-i invariant-loop decreases-loop)
+    → c.loop-i.i
+    < length (sizes_of (those c.args.predicates c.args.schemas))
 inside c = sizes_long _ (here c)
 
-few : (c : tie.In-loop invariant-loop decreases-loop) → c.before.loop.count + (taken c).parameters ≤ 192
+few : (c : tie.In-loop-i invariant-loop decreases-loop) → c.loop-i.count + (taken c).parameters ≤ 192
 unfolding parameters_in sizes_of
 few c =
-    let s = entry (numbering c.before) in
     omega (
       arith,
-      count_within _ c.before.loop.invariant.counted (inside c) (size_is c),
-      small_few (arities_of s.args.predicates) s.args.t2 (right_small s.pre.1.0),
+      count_within _ c.loop-i.invariant.counted (inside c) (size_is c),
+      small_few (arities_of c.args.predicates) c.args.schemas (right_small c.requires.1.0),
     )
 
 -- room for its rows in a table
-room : (c : tie.In-loop invariant-loop decreases-loop) {list : model.Schema → List model.Atom} {before table : List ℕ}
-    → Given (entry (numbering c.before)) list before
-    → BagsPassed (those (entry (numbering c.before)).args.predicates (entry (numbering c.before)).args.t2)
-    (properties_from 0 (arities_of (entry (numbering c.before)).args.predicates)) list c.before.loop.i before table
-    → 60 * c.before.loop.count + 60 * (taken c).parameters ≤ length table
+room : (c : tie.In-loop-i invariant-loop decreases-loop) {list : model.Schema → List model.Atom} {before table : List ℕ}
+    → Given c.before.before.before.before.before.before.before list before
+    → BagsPassed (those c.args.predicates c.args.schemas)
+    (properties_from 0 (arities_of c.args.predicates)) list c.loop-i.i before table
+    → 60 * c.loop-i.count + 60 * (taken c).parameters ≤ length table
 unfolding schema_of
 room c {table = table} g p =
-    subst (λ (q : model.Schema). 60 * c.before.loop.count + 60 * q.parameters ≤ length table) (same c)
-    (bags_room g p c.before.loop.invariant.counted (blank (entry (numbering c.before))) (here c))
+    subst (λ (q : model.Schema). 60 * c.loop-i.count + 60 * q.parameters ≤ length table) (same c)
+    (bags_room g p c.loop-i.invariant.counted (blank c.before.before.before.before.before.before.before) (here c))
 
-numbered-requires : tie.Need-numbered-requires invariant-loop decreases-loop
-numbered-requires c κs = c.before.before.before.requires.0.few
+numbered-requires : tie.Need-numbered-numbers-requires invariant-loop decreases-loop
+numbered-requires c κs = c.requires.0.few
 
-loop-holds : tie.Need-loop-init invariant-loop decreases-loop
+loop-holds : tie.Need-loop-i-init invariant-loop decreases-loop
 loop-holds c =
-    let s = entry c.before in
     record {
       counted = count_start _;
-      preconditions_passed = bags_start (given_preconditions s);
-      deletes_passed = bags_start (given_deletes s);
-      adds_passed = bags_start (given_adds s);
+      preconditions_passed = bags_start (given_preconditions c.before.before.before.before.before);
+      deletes_passed = bags_start (given_deletes c.before.before.before.before.before);
+      adds_passed = bags_start (given_adds c.before.before.before.before.before);
     }
 
-mul-schema : tie.Need-overflow-mul-schema invariant-loop decreases-loop
-mul-schema c = let few = (entry (numbering c.before)).pre.1.0.few in omega arith
+mul-schema : tie.Need-offset_bounds-schemas-i invariant-loop decreases-loop
+mul-schema c = let few = c.requires.1.0.few in omega arith
 
-element-copy-out-schema : tie.Need-element-copy-out-schema invariant-loop decreases-loop
-element-copy-out-schema c = let few = (entry (numbering c.before)).pre.1.0.few in omega arith
+element-copy-out-schema : tie.Need-bounds-schemas-i invariant-loop decreases-loop
+element-copy-out-schema c = let few = c.requires.1.0.few in omega arith
 
-mul-enter-schema : tie.Need-overflow-mul-enter-schema invariant-loop decreases-loop
-mul-enter-schema c = let tested = c.before.before.before.before in omega (arith, few tested)
+mul-enter-schema : tie.Need-overflow_mul-count invariant-loop decreases-loop
+mul-enter-schema c = omega (arith, few c.before.before.before.before)
 
-enter-schema-requires : tie.Need-enter-schema-requires invariant-loop decreases-loop
+enter-schema-requires : tie.Need-enter_schema-requires invariant-loop decreases-loop
 unfolding taken
 enter-schema-requires c κs =
-    let tested = c.before.before.before.before in
-    let loop = tested.before in
-    let s = entry (numbering loop) in (
-      s.pre.0,
+    (
+      c.requires.0,
       (
-        s.pre.1.0.Each-right _ no_schema tested.loop-test.true,
+        c.requires.1.0.each_right _ no_schema c.loop-i-test.true,
         (
-          (numbering loop).numbered.ensures.firsts,
+          c.numbered-numbers.ensures.firsts,
           record {
-            preconditions_room = room tested (given_preconditions s) loop.loop.invariant.preconditions_passed;
-            deletes_room = room tested (given_deletes s) loop.loop.invariant.deletes_passed;
-            adds_room = room tested (given_adds s) loop.loop.invariant.adds_passed;
+            preconditions_room = room c.before.before.before.before (given_preconditions c.before.before.before.before.before.before.before.before.before.before.before) c.loop-i.invariant.preconditions_passed;
+            deletes_room = room c.before.before.before.before (given_deletes c.before.before.before.before.before.before.before.before.before.before.before) c.loop-i.invariant.deletes_passed;
+            adds_room = room c.before.before.before.before (given_adds c.before.before.before.before.before.before.before.before.before.before.before) c.loop-i.invariant.adds_passed;
           },
         ),
       ),
     )
 
-add-count : tie.Need-overflow-add-count invariant-loop decreases-loop
+add-count : tie.Need-overflow_add-count invariant-loop decreases-loop
 unfolding taken
-add-count c = omega (arith, few (in_loop (called c)))
+add-count c = omega (arith, few c.before.before.before.before.before.before.before.before.before.before.before.before)
 
-add-i : tie.Need-overflow-add-i invariant-loop decreases-loop
+add-i : tie.Need-overflow_add-i invariant-loop decreases-loop
 add-i c =
-    let tested = in_loop (called c) in
-    omega (arith, tested.loop-test.taken, (entry (numbering tested.before)).pre.1.0.few)
+    omega (arith, c.loop-i-test.true, c.requires.1.0.few)
 
-loop-less : tie.Need-loop-smaller invariant-loop decreases-loop
-loop-less c = less_left c.before.before.before.before.before.before.before.before.before.before.before.before.loop-test.true
+loop-less : tie.Need-loop-i-smaller invariant-loop decreases-loop
+loop-less c = less_left c.loop-i-test.true
 
-loop-again : tie.Need-loop-preserved invariant-loop decreases-loop
+loop-again : tie.Need-loop-i-preserved invariant-loop decreases-loop
 unfolding taken
 loop-again c =
-    let tested = in_loop (called c) in
-    let loop = tested.before in
-    let s = entry (numbering loop) in
-    let inv = loop.loop.inv in
-    let written = as_schema (sym (same tested)) (called c).enter-schema.ensures in
+    let inv = c.loop-i.invariant in
+    let written = as_schema (sym (same c.before.before.before.before.before.before.before.before.before.before.before.before)) c.enter_schema.ensures in
     record {
-      counted = count_next _ inv.counted (inside tested) (size_is tested);
+      counted = count_next _ inv.counted (inside c.before.before.before.before.before.before.before.before.before.before.before.before) (size_is c.before.before.before.before.before.before.before.before.before.before.before.before);
       preconditions_passed =
-          bags_next (given_preconditions s) inv.preconditions_passed inv.counted (blank s) (here tested) written.preconditions_are;
-      deletes_passed = bags_next (given_deletes s) inv.deletes_passed inv.counted (blank s) (here tested) written.deletes_are;
-      adds_passed = bags_next (given_adds s) inv.adds_passed inv.counted (blank s) (here tested) written.adds_are;
+          bags_next (given_preconditions c.before.before.before.before.before.before.before.before.before.before.before.before.before.before.before.before.before.before.before) inv.preconditions_passed inv.counted (blank c.before.before.before.before.before.before.before.before.before.before.before.before.before.before.before.before.before.before.before) (here c.before.before.before.before.before.before.before.before.before.before.before.before) written.preconditions_are;
+      deletes_passed = bags_next (given_deletes c.before.before.before.before.before.before.before.before.before.before.before.before.before.before.before.before.before.before.before) inv.deletes_passed inv.counted (blank c.before.before.before.before.before.before.before.before.before.before.before.before.before.before.before.before.before.before.before) (here c.before.before.before.before.before.before.before.before.before.before.before.before) written.deletes_are;
+      adds_passed = bags_next (given_adds c.before.before.before.before.before.before.before.before.before.before.before.before.before.before.before.before.before.before.before) inv.adds_passed inv.counted (blank c.before.before.before.before.before.before.before.before.before.before.before.before.before.before.before.before.before.before.before) (here c.before.before.before.before.before.before.before.before.before.before.before.before) written.adds_are;
     }
 
-same_length : tie.Need-same-length invariant-loop decreases-loop
-same_length c = bags_kept (given_preconditions (entry (numbering c.before))) c.before.loop.invariant.preconditions_passed
+same_length : tie.Need-shape_of-preconditions invariant-loop decreases-loop
+same_length c = bags_kept (given_preconditions c.before.before.before.before.before.before.before) c.loop-i.invariant.preconditions_passed
 
-same-length-2 : tie.Need-same-length-2 invariant-loop decreases-loop
-same-length-2 c = bags_kept (given_deletes (entry (numbering c.before))) c.before.loop.invariant.deletes_passed
+same-length-2 : tie.Need-shape_of-deletes invariant-loop decreases-loop
+same-length-2 c = bags_kept (given_deletes c.before.before.before.before.before.before.before) c.loop-i.invariant.deletes_passed
 
-same-length-3 : tie.Need-same-length-3 invariant-loop decreases-loop
-same-length-3 c = bags_kept (given_adds (entry (numbering c.before))) c.before.loop.invariant.adds_passed
+same-length-3 : tie.Need-shape_of-adds invariant-loop decreases-loop
+same-length-3 c = bags_kept (given_adds c.before.before.before.before.before.before.before) c.loop-i.invariant.adds_passed
 
 returns : tie.Need-returns invariant-loop decreases-loop
 unfolding parameters_in sizes_of
 returns c =
-    let s = entry (numbering c.before) in
-    let inv = c.before.loop.invariant in
-    let all = length_schemas (arities_of s.args.predicates) s.args.t2 in
+    let inv = c.loop-i.invariant in
+    let all = length_schemas (arities_of c.args.predicates) c.args.schemas in
     record {
-      counted = count_end _ inv.counted (omega (arith, c.loop-test.false, all, length_sizes (those s.args.predicates s.args.t2)));
-      preconditions_are = bags_end (given_preconditions s) inv.preconditions_passed (omega (arith, c.loop-test.false, all));
-      deletes_are = bags_end (given_deletes s) inv.deletes_passed (omega (arith, c.loop-test.false, all));
-      adds_are = bags_end (given_adds s) inv.adds_passed (omega (arith, c.loop-test.false, all));
+      counted = count_end _ inv.counted (omega (arith, c.loop-i-test.false, all, length_sizes (those c.args.predicates c.args.schemas)));
+      preconditions_are = bags_end (given_preconditions c.before.before.before.before.before.before.before) inv.preconditions_passed (omega (arith, c.loop-i-test.false, all));
+      deletes_are = bags_end (given_deletes c.before.before.before.before.before.before.before) inv.deletes_passed (omega (arith, c.loop-i-test.false, all));
+      adds_are = bags_end (given_adds c.before.before.before.before.before.before.before) inv.adds_passed (omega (arith, c.loop-i-test.false, all));
     }
 
-pub parameter-bags-spec : {M : Type 1} → statement M
-parameter-bags-spec =
+pub parameter_bags_spec : {M : Type 1} → statement M
+parameter_bags_spec =
     tie.close
     (tie.spec
     invariant-loop

@@ -19,78 +19,68 @@ use Rattle.properties.proofs.parameters.parameters_of.Tie as tie
 sizes : SchemaList → List ℕ
 sizes l = map (λ s. s.parameters) (entries l.count blank_schema l.schemas)
 
-abbrev invariant-loop : tie.invariant-loop
+abbrev invariant-loop : tie.invariant-loop-i
 invariant-loop schemas m parameters₀ i₀ parameters i = Counted (sizes schemas) i parameters
 
-abbrev decreases-loop : tie.decreases-loop
+abbrev decreases-loop : tie.decreases-loop-i
 decreases-loop schemas m parameters₀ i₀ parameters i = m - i
-
--- what is given, from the loop on; and the loop, from the schema that a turn takes
-abbrev entry : tie.At-loop invariant-loop decreases-loop → tie.Start invariant-loop decreases-loop
-entry c = c.before
-
-abbrev in_loop : tie.After-struct-known invariant-loop decreases-loop → tie.In-loop invariant-loop decreases-loop
-in_loop c = c.before.before
 
 -- they are those of the model's schemas, whatever the arities
 sizes_are : (arities : List ℕ) (l : SchemaList) → sum (sizes l) ≡ parameters_in (schemas_of arities l)
 unfolding sizes parameters_in schemas_of schema_of
 sizes_are arities l = ap sum (sym (map-map (λ s. s.parameters) (schema_of arities) (entries l.count blank_schema l.schemas)))
 
-many : (s : tie.Start invariant-loop decreases-loop) → length (sizes s.args.t1) ≡ s.args.t1.count
+many : (s : tie.Start invariant-loop decreases-loop) → length (sizes s.args.schemas) ≡ s.args.schemas.count
 unfolding sizes
 many s =
-    let l = s.args.t1 in length_table (λ s. s.parameters) l.count blank_schema l.schemas
+    let l = s.args.schemas in length_table (λ s. s.parameters) l.count blank_schema l.schemas
 
 -- the schema that a turn takes
-here : (c : tie.In-loop invariant-loop decreases-loop) → c.before.loop.i < length (sizes (entry c.before).args.t1)
-here c = omega (arith, c.loop-test.true, many (entry c.before))
+here : (c : tie.In-loop-i invariant-loop decreases-loop) → c.loop-i.i < length (sizes c.args.schemas)
+here c = omega (arith, c.loop-i-test.true, many c.before.before)
 
-size_is : (c : tie.In-loop invariant-loop decreases-loop)
-    → (get_or (entry c.before).args.t1.schemas c.before.loop.i no_schema).parameters
-    ≡ get_or (sizes (entry c.before).args.t1) c.before.loop.i 0
+size_is : (c : tie.In-loop-i invariant-loop decreases-loop)
+    → (get_or c.args.schemas.schemas c.loop-i.i no_schema).parameters
+    ≡ get_or (sizes c.args.schemas) c.loop-i.i 0
 unfolding sizes blank_schema
 size_is c =
-    let l = (entry c.before).args.t1 in
-    default_alike (λ s. s.parameters) no_schema blank_schema refl l.schemas c.before.loop.i
-    ∙ sym (item_at (λ s. s.parameters) l.count blank_schema l.schemas c.before.loop.i c.loop-test.true)
+    let l = c.args.schemas in
+    default_alike (λ s. s.parameters) no_schema blank_schema refl l.schemas c.loop-i.i
+    ∙ sym (item_at (λ s. s.parameters) l.count blank_schema l.schemas c.loop-i.i c.loop-i-test.true)
 
-loop-holds : tie.Need-loop-init invariant-loop decreases-loop
+loop-holds : tie.Need-loop-i-init invariant-loop decreases-loop
 loop-holds c = count_start _
 
-mul-schema : tie.Need-overflow-mul-schema invariant-loop decreases-loop
-mul-schema c = omega (arith, c.loop-test.true, (entry c.before).pre.few)
+mul-schema : tie.Need-offset_bounds-schemas-i invariant-loop decreases-loop
+mul-schema c = omega (arith, c.loop-i-test.true, c.requires.few)
 
-element-copy-out-schema : tie.Need-element-copy-out-schema invariant-loop decreases-loop
-element-copy-out-schema c = omega (arith, c.loop-test.true, (entry c.before).pre.few)
+element-copy-out-schema : tie.Need-bounds-schemas-i invariant-loop decreases-loop
+element-copy-out-schema c = omega (arith, c.loop-i-test.true, c.requires.few)
 
-add-parameters : tie.Need-overflow-add-parameters invariant-loop decreases-loop
+add-parameters : tie.Need-overflow_add-parameters invariant-loop decreases-loop
 add-parameters c =
-    let turn = in_loop c in
-    let s = entry turn.before in
     omega (
       arith,
-      count_within _ turn.before.loop.inv (here turn) (size_is turn),
-      sizes_are [] s.args.t1,
-      small_few [] s.args.t1 s.pre,
+      count_within _ c.loop-i.invariant (here c.before.before) (size_is c.before.before),
+      sizes_are [] c.args.schemas,
+      small_few [] c.args.schemas c.requires,
     )
 
-add-i : tie.Need-overflow-add-i invariant-loop decreases-loop
-add-i c = omega (arith, (in_loop c).loop-test.true, (entry (in_loop c).before).pre.few)
+add-i : tie.Need-overflow_add-i invariant-loop decreases-loop
+add-i c = omega (arith, c.loop-i-test.true, c.requires.few)
 
-loop-less : tie.Need-loop-smaller invariant-loop decreases-loop
-loop-less c = less_left c.before.before.loop-test.true
+loop-less : tie.Need-loop-i-smaller invariant-loop decreases-loop
+loop-less c = less_left c.loop-i-test.true
 
-loop-again : tie.Need-loop-preserved invariant-loop decreases-loop
-loop-again c = let turn = in_loop c in count_next _ turn.before.loop.inv (here turn) (size_is turn)
+loop-again : tie.Need-loop-i-preserved invariant-loop decreases-loop
+loop-again c = count_next _ c.loop-i.invariant (here c.before.before) (size_is c.before.before)
 
 returns : tie.Need-returns invariant-loop decreases-loop
 returns c arities =
-    let s = entry c.before in
-    count_end _ c.before.loop.invariant (omega (arith, c.loop-test.false, many s)) ∙ sizes_are arities s.args.t1
+    count_end _ c.loop-i.invariant (omega (arith, c.loop-i-test.false, many c.before.before)) ∙ sizes_are arities c.args.schemas
 
-pub parameters-of-spec : {M : Type 1} → statement M
-parameters-of-spec =
+pub parameters_of_spec : {M : Type 1} → statement M
+parameters_of_spec =
     tie.close
     (tie.spec
     invariant-loop

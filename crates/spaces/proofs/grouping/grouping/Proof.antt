@@ -16,52 +16,50 @@ use Rattle.spaces.proofs.grouping.grouping.Tie as tie
 abbrev unite_row : ℕ → List ℕ → List ℕ → List ℕ → ℕ → List ℕ
 unite_row size deletes adds groups row = unite_all groups (united_by (bag_at size deletes row) (bag_at size adds row))
 
-abbrev invariant-loop : tie.invariant-loop
+abbrev invariant-loop : tie.invariant-loop-row
 invariant-loop deletes adds count size groups₀ row₀ groups row =
     (row ≤ count) × (foldl (unite_row size deletes adds) groups (left row count) ≡ foldl (unite_row size deletes adds) groups₀ (up_to count))
 
-abbrev decreases-loop : tie.decreases-loop
+abbrev decreases-loop : tie.decreases-loop-row
 decreases-loop deletes adds count size groups₀ row₀ groups row = count - row
 
-each-alone-requires : tie.Need-each-alone-requires invariant-loop decreases-loop
-each-alone-requires c κs = c.before.before.requires.0
+each-alone-requires : tie.Need-each_alone-groups-requires invariant-loop decreases-loop
+each-alone-requires c κs = c.requires.0
 
-loop-holds : tie.Need-loop-init invariant-loop decreases-loop
+loop-holds : tie.Need-loop-row-init invariant-loop decreases-loop
 loop-holds c =
-    let a = c.before.before.before.args in
-    (zero-le, walk_starts (unite_row a.size a.deletes.now a.adds.now) _ a.count c.each-alone.result refl)
+    let a = c.args in
+    (zero-le, walk_starts (unite_row a.size a.deletes.now a.adds.now) _ a.count c.each_alone-groups.result refl)
 
-unite-row-requires : tie.Need-unite-row-requires invariant-loop decreases-loop
+unite-row-requires : tie.Need-unite_row-next-requires invariant-loop decreases-loop
 unite-row-requires c κs =
-    let pre = c.before.before.before.before.before.requires in
+    let pre = c.requires in
     (pre.0, (record { inside = omega arith }, record { inside = omega arith }))
 
-add_row : tie.Need-overflow-add-row invariant-loop decreases-loop
+add_row : tie.Need-overflow_step-row invariant-loop decreases-loop
 add_row c = omega arith
 
-loop-less : tie.Need-loop-smaller invariant-loop decreases-loop
-loop-less c = less_left c.before.loop-test.true
+loop-less : tie.Need-loop-row-smaller invariant-loop decreases-loop
+loop-less c = less_left c.loop-row-test.true
 
-loop-again : tie.Need-loop-preserved invariant-loop decreases-loop
+loop-again : tie.Need-loop-row-preserved invariant-loop decreases-loop
 loop-again c =
-    let head = c.before.before in
-    let a = head.before.before.before.before.args in (
+    let a = c.args in (
       omega arith,
-      walk_next (unite_row a.size a.deletes.now a.adds.now) _ a.count head.loop.row head.loop.groups
-          c.unite-row.result c.before.loop-test.true c.unite-row.ensures head.loop.invariant.1,
+      walk_next (unite_row a.size a.deletes.now a.adds.now) _ a.count c.loop-row.row c.loop-row.groups
+          c.unite_row-next.result c.loop-row-test.true c.unite_row-next.ensures c.loop-row.invariant.1,
     )
 
 returns : tie.Need-returns invariant-loop decreases-loop
 unfolding groups_in
 returns c =
-    let head = c.before in
-    let a = head.before.before.before.before.args in
-    walk_ends (unite_row a.size a.deletes.now a.adds.now) _ a.count head.loop.row head.loop.groups
-    c.loop-test.false head.loop.invariant.1
-    ∙ ap (λ (l : List ℕ). foldl (unite_row a.size a.deletes.now a.adds.now) l (up_to a.count)) head.before.each-alone.ensures
+    let a = c.args in
+    walk_ends (unite_row a.size a.deletes.now a.adds.now) _ a.count c.loop-row.row c.loop-row.groups
+    c.loop-row-test.false c.loop-row.invariant.1
+    ∙ ap (λ (l : List ℕ). foldl (unite_row a.size a.deletes.now a.adds.now) l (up_to a.count)) c.each_alone-groups.ensures
 
-pub grouping-spec : {M : Type 1} → statement M
-grouping-spec =
+pub grouping_spec : {M : Type 1} → statement M
+grouping_spec =
     tie.close
     (tie.spec
     invariant-loop

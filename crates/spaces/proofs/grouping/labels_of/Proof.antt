@@ -21,82 +21,78 @@ use Rattle.spaces.proofs.grouping.labels_of.Tie as tie
 abbrev own : List ℕ → ℕ → Bool
 own groups c = eqb (get_or groups c 0) c
 
-abbrev invariant-loop : tie.invariant-loop
+abbrev invariant-loop : tie.invariant-loop-c
 invariant-loop groups size lowest₀ count₀ c₀ lowest count c =
     (c ≤ size) × (count ≡ length (labelled c groups)) × (lowest ≡ padded 60 0 (labelled c groups))
 
-abbrev decreases-loop : tie.decreases-loop
+abbrev decreases-loop : tie.decreases-loop-c
 decreases-loop groups size lowest₀ count₀ c₀ lowest count c = size - c
 
-loop-holds : tie.Need-loop-init invariant-loop decreases-loop
+loop-holds : tie.Need-loop-c-init invariant-loop decreases-loop
 unfolding labelled keep up_to from padded
 loop-holds c = (zero-le, refl, refl)
 
-shared-slice-read-if1 : tie.Need-shared-slice-read-if1 invariant-loop decreases-loop
+shared-slice-read-if1 : tie.Need-bounds-groups-c invariant-loop decreases-loop
 shared-slice-read-if1 c = omega arith
 
-cast-if1 : tie.Need-overflow-cast-if1 invariant-loop decreases-loop
-cast-if1 c = omega (arith, c.shared-slice-known.given c.before.before.loop.c)
+cast-if1 : tie.Need-overflow_cast-groups invariant-loop decreases-loop
+cast-if1 c = omega (arith, c.shared_slice_known-1.given c.loop-c.c)
 
-shared-slice-read-lowest : tie.Need-shared-slice-read-lowest invariant-loop decreases-loop
+shared-slice-read-lowest : tie.Need-bounds-groups-c-then-groups-c invariant-loop decreases-loop
 shared-slice-read-lowest c = omega arith
 
-array-write-lowest : tie.Need-array-write-lowest invariant-loop decreases-loop
+array-write-lowest : tie.Need-bounds-lowest-count invariant-loop decreases-loop
 unfolding labelled
 array-write-lowest c =
-    let head = c.before.before.before.before in
-    let few = keep_few (own head.before.args.groups.now) head.loop.c in
-    let counted : head.loop.count ≡ length (keep (own head.before.args.groups.now) (up_to head.loop.c)) = head.loop.invariant.1 in
+    let few = keep_few (own c.args.groups.now) c.loop-c.c in
+    let counted : c.loop-c.count ≡ length (keep (own c.args.groups.now) (up_to c.loop-c.c)) = c.loop-c.invariant.1 in
     omega arith
 
-add-count : tie.Need-overflow-add-count invariant-loop decreases-loop
+add-count : tie.Need-overflow_add-count invariant-loop decreases-loop
 unfolding labelled
 add-count c =
-    let head = c.before.before.before.before in
-    let few = keep_few (own head.before.args.groups.now) head.loop.c in
-    let counted : head.loop.count ≡ length (keep (own head.before.args.groups.now) (up_to head.loop.c)) = head.loop.invariant.1 in
+    let few = keep_few (own c.args.groups.now) c.loop-c.c in
+    let counted : c.loop-c.count ≡ length (keep (own c.args.groups.now) (up_to c.loop-c.c)) = c.loop-c.invariant.1 in
     omega arith
 
-add-c : tie.Need-overflow-add-c invariant-loop decreases-loop
+add-c : tie.Need-overflow_step-c invariant-loop decreases-loop
 add-c c = omega arith
 
-loop-less : tie.Need-loop-smaller invariant-loop decreases-loop
-loop-less c = less_left c.before.before.loop-test.true
+loop-less : tie.Need-loop-c-smaller invariant-loop decreases-loop
+loop-less c = less_left c.loop-c-test.true
 
-loop-again : tie.Need-loop-preserved invariant-loop decreases-loop
+loop-again : tie.Need-loop-c-preserved invariant-loop decreases-loop
 unfolding labelled
 loop-again c =
-    let head = c.before.before.before in
-    let a = head.before.args in
-    let i : ℕ = head.loop.c in
+    let a = c.args in
+    let i : ℕ = c.loop-c.c in
     let test = own a.groups.now in
     let room : i < 60 = omega arith in
     ⊎_elim
     (λ w.
-    let label = w.0.taken in
-    let next = pick_written test 60 head.loop.lowest head.loop.count i room head.loop.invariant.1 head.loop.invariant.2
+    let label = w.if-groups-c.true in
+    let next = pick_written test 60 c.loop-c.lowest c.loop-c.count i room c.loop-c.invariant.1 c.loop-c.invariant.2
     (eq-eqb (get_or a.groups.now i 0) i label) in (
       omega arith,
-      w.3 ∙ next.0,
-      w.2 ∙ ap (set head.loop.lowest head.loop.count) label ∙ next.1,
+      w.count-is ∙ next.0,
+      w.lowest-is ∙ ap (set c.loop-c.lowest c.loop-c.count) label ∙ next.1,
     ))
     (λ w.
-    let next = pick_skipped test 60 head.loop.lowest head.loop.count i room head.loop.invariant.1 head.loop.invariant.2
-    (ne_eqb (get_or a.groups.now i 0) i w.0.left) in
-    (omega arith, w.2 ∙ next.0, w.1 ∙ next.1))
-    c.if1.branch
+    let next = pick_skipped test 60 c.loop-c.lowest c.loop-c.count i room c.loop-c.invariant.1 c.loop-c.invariant.2
+    (ne_eqb (get_or a.groups.now i 0) i w.if-groups-c.false) in
+    (omega arith, w.count-is ∙ next.0, w.lowest-is ∙ next.1))
+    c.if-groups-c.branch-raw
 
 returns : tie.Need-returns invariant-loop decreases-loop
 returns c =
-    let head = c.before in
-    let last = le_antisymm head.loop.invariant.0 c.loop-test.false in
-    let groups = head.before.args.groups.now in (
-      head.loop.invariant.1 ∙ ap (λ (n : ℕ). length (labelled n groups)) last,
-      head.loop.invariant.2 ∙ ap (λ (n : ℕ). padded 60 0 (labelled n groups)) last,
+    let last = le_antisymm c.loop-c.invariant.0 c.loop-c-test.false in
+    let groups = c.args.groups.now in (
+      c.loop-c.invariant.1 ∙ ap (λ (n : ℕ). length (labelled n groups)) last,
+      c.loop-c.invariant.2 ∙ ap (λ (n : ℕ). padded 60 0 (labelled n groups)) last,
     )
 
-pub labels-of-spec : {M : Type 1} → statement M
-labels-of-spec =
+pub labels_of_spec : {M : Type 1} → statement M
+labels_of_spec =
     tie.close
     (tie.spec
     invariant-loop

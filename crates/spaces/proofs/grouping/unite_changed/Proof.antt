@@ -17,105 +17,92 @@ use Rattle.spaces.proofs.Uniting.{unite_all_first}
 use Rattle.spaces.proofs.grouping.unite_changed.Statement.{statement}
 use Rattle.spaces.proofs.grouping.unite_changed.Tie as tie
 
-abbrev invariant-loop : tie.invariant-loop
+abbrev invariant-loop : tie.invariant-loop-c
 invariant-loop deletes adds row size first at united₀ c₀ united c =
     (c ≤ size)
     × (foldl (unite first) united (keep (differs deletes adds (60 * row)) (left c size))
     ≡ unite_all united₀ (changed_by (bag_at size deletes row) (bag_at size adds row)))
 
-abbrev decreases-loop : tie.decreases-loop
+abbrev decreases-loop : tie.decreases-loop-c
 decreases-loop deletes adds row size first at united₀ c₀ united c = size - c
-
--- what is given, from the first property changed
-abbrev entry : tie.After-first-changed invariant-loop decreases-loop → tie.Start invariant-loop decreases-loop
-entry c = c.before.before.before
 
 -- the properties changed
 changed : tie.Start invariant-loop decreases-loop → List ℕ
 changed s = changed_by (bag_at s.args.size s.args.deletes.now s.args.row) (bag_at s.args.size s.args.adds.now s.args.row)
 
-first-changed-requires : tie.Need-first-changed-requires invariant-loop decreases-loop
-first-changed-requires c κs = c.before.before.requires.1
+first-changed-requires : tie.Need-first_changed-first-requires invariant-loop decreases-loop
+first-changed-requires c κs = c.requires.1
 
-mul_at : tie.Need-overflow-mul-at invariant-loop decreases-loop
+mul_at : tie.Need-overflow_mul-at invariant-loop decreases-loop
 mul_at c = omega arith
 
-loop-holds : tie.Need-loop-init invariant-loop decreases-loop
+loop-holds : tie.Need-loop-c-init invariant-loop decreases-loop
 unfolding changed
 loop-holds c =
-    let s = entry c in
-    let a = s.args in
-    let first = c.first-changed in (
+    let a = c.args in
+    let first = c.first_changed-first in (
       zero-le,
-      pick_starts (unite first.result) (unite_all a.groups (changed s)) a.size (differs a.deletes.now a.adds.now (60 * a.row)) a.groups
-          (ap (foldl (unite first.result) a.groups) (sym (changed_kept s.pre.1.0 s.pre.1.1))
-          ∙ ap (λ (n : ℕ). foldl (unite n) a.groups (changed s)) first.ensures
-          ∙ sym (unite_all_first a.size a.groups (changed s))),
+      pick_starts (unite first.result) (unite_all a.groups (changed c.before.before.before)) a.size (differs a.deletes.now a.adds.now (60 * a.row)) a.groups
+          (ap (foldl (unite first.result) a.groups) (sym (changed_kept c.requires.1.0 c.requires.1.1))
+          ∙ ap (λ (n : ℕ). foldl (unite n) a.groups (changed c.before.before.before)) first.ensures
+          ∙ sym (unite_all_first a.size a.groups (changed c.before.before.before))),
     )
 
-add-if1 : tie.Need-overflow-add-if1 invariant-loop decreases-loop
+add-if1 : tie.Need-overflow_add-at invariant-loop decreases-loop
 add-if1 c = omega arith
 
-shared-slice-read-if1 : tie.Need-shared-slice-read-if1 invariant-loop decreases-loop
+shared-slice-read-if1 : tie.Need-bounds-deletes-at invariant-loop decreases-loop
 shared-slice-read-if1 c = omega arith
 
-add-if1-2 : tie.Need-overflow-add-if1-2 invariant-loop decreases-loop
+add-if1-2 : tie.Need-overflow_add-at-in-loop-c invariant-loop decreases-loop
 add-if1-2 c = omega arith
 
-shared-slice-read-if1-2 : tie.Need-shared-slice-read-if1-2 invariant-loop decreases-loop
+shared-slice-read-if1-2 : tie.Need-bounds-adds-at invariant-loop decreases-loop
 shared-slice-read-if1-2 c = omega arith
 
-unite-requires : tie.Need-unite-requires invariant-loop decreases-loop
+unite-requires : tie.Need-unite-next-requires invariant-loop decreases-loop
 unfolding differs
 unite-requires c κs =
-    let tested = c.before.before.before in
-    let loop = tested.before in
-    let s = entry loop.before in
-    let a = s.args in
+    let a = c.args in
     let here : first_or a.size (keep (differs a.deletes.now a.adds.now (60 * a.row)) (up_to a.size)) < a.size =
-    first_below (differs a.deletes.now a.adds.now (60 * a.row)) a.size a.size loop.loop.c tested.loop-test.true
-    (ap not (ne_eqb _ _ c.if1.true)) in
-    let same = loop.before.first-changed.ensures ∙ ap (first_or a.size) (changed_kept s.pre.1.0 s.pre.1.1) in
+    first_below (differs a.deletes.now a.adds.now (60 * a.row)) a.size a.size c.loop-c.c c.loop-c-test.true
+    (ap not (ne_eqb _ _ c.if-deletes-at.true)) in
+    let same = c.first_changed-first.ensures ∙ ap (first_or a.size) (changed_kept c.requires.1.0 c.requires.1.1) in
     (omega arith, omega arith)
 
-add-c : tie.Need-overflow-add-c invariant-loop decreases-loop
+add-c : tie.Need-overflow_step-c invariant-loop decreases-loop
 add-c c = omega arith
 
-loop-less : tie.Need-loop-smaller invariant-loop decreases-loop
-loop-less c = less_left c.before.before.before.loop-test.true
+loop-less : tie.Need-loop-c-smaller invariant-loop decreases-loop
+loop-less c = less_left c.loop-c-test.true
 
-loop-again : tie.Need-loop-preserved invariant-loop decreases-loop
+loop-again : tie.Need-loop-c-preserved invariant-loop decreases-loop
 unfolding differs changed
 loop-again c =
-    let tested = c.before.before.before in
-    let loop = tested.before in
-    let s = entry loop.before in
-    let a = s.args in
-    let first = loop.before.first-changed.result in
+    let a = c.args in
+    let first = c.first_changed-first.result in
     let passes = differs a.deletes.now a.adds.now (60 * a.row) in
-    let here = tested.loop-test.true in (
+    let here = c.loop-c-test.true in (
       omega arith,
       ⊎_elim
           (λ w.
-          pick_passes (unite first) (unite_all a.groups (changed s)) a.size passes loop.loop.c loop.loop.united c.if1.united here
-          (ap not (ne_eqb _ _ w.0.taken)) (w.2 ∙ w.1.ensures) loop.loop.invariant.1)
+          pick_passes (unite first) (unite_all a.groups (changed c.before.before.before.before.before.before.before.before)) a.size passes c.loop-c.c c.loop-c.united c.if-deletes-at.united here
+          (ap not (ne_eqb _ _ w.if-deletes-at.true)) (w.united-is ∙ w.unite-next.ensures) c.loop-c.invariant.1)
           (λ w.
-          pick_fails (unite first) (unite_all a.groups (changed s)) a.size passes loop.loop.c loop.loop.united c.if1.united here
-          (ap not (eq-eqb _ _ w.0.left)) w.1 loop.loop.invariant.1)
-          c.if1.branch,
+          pick_fails (unite first) (unite_all a.groups (changed c.before.before.before.before.before.before.before.before)) a.size passes c.loop-c.c c.loop-c.united c.if-deletes-at.united here
+          (ap not (eq-eqb _ _ w.if-deletes-at.false)) w.united-is c.loop-c.invariant.1)
+          c.if-deletes-at.branch-raw,
     )
 
 returns : tie.Need-returns invariant-loop decreases-loop
 unfolding changed
 returns c =
-    let loop = c.before in
-    let s = entry loop.before in
-    let a = s.args in
-    pick_ends (unite loop.before.first-changed.result) (unite_all a.groups (changed s)) a.size
-    (differs a.deletes.now a.adds.now (60 * a.row)) loop.loop.c loop.loop.united c.loop-test.false loop.loop.invariant.1
+    let a = c.args in
+    pick_ends (unite c.first_changed-first.result) (unite_all a.groups (changed c.before.before.before.before.before)) a.size
+    (differs a.deletes.now a.adds.now (60 * a.row)) c.loop-c.c c.loop-c.united c.loop-c-test.false c.loop-c.invariant.1
 
-pub unite-changed-spec : {M : Type 1} → statement M
-unite-changed-spec =
+pub unite_changed_spec : {M : Type 1} → statement M
+unite_changed_spec =
     tie.close
     (tie.spec
     invariant-loop

@@ -7,11 +7,11 @@ use Rattle.spaces.proofs.Uniting.{united_started, united_none}
 use Rattle.spaces.proofs.grouping.unite_row.Statement.{statement}
 use Rattle.spaces.proofs.grouping.unite_row.Tie as tie
 
-has-start-requires : tie.Need-has-start-requires
-has-start-requires c κs = c.before.before.requires.1
+has-start-requires : tie.Need-has_start-requires
+has-start-requires c κs = c.requires.1
 
-unite-changed-requires : tie.Need-unite-changed-requires
-unite-changed-requires c κs = c.before.before.before.before.requires
+unite-changed-requires : tie.Need-unite_changed-requires
+unite-changed-requires c κs = c.requires
 
 -- what the parameter in the row deletes, and what it adds
 abbrev deleted : tie.Start → Bag
@@ -20,17 +20,15 @@ deleted s = bag_at s.args.size s.args.deletes.now s.args.row
 abbrev added : tie.Start → Bag
 added s = bag_at s.args.size s.args.adds.now s.args.row
 
-returns : tie.Need-returns
+returns : tie.Need-returns-then-has_start
 returns c =
-    let s = c.before.before.before.before.before in
-    c.unite-changed.ensures
-    ∙ ap (unite_all s.args.groups) (sym (united_started (deleted s) (added s) (sym c.before.before.has_start_lem.ensures ∙ c.before.if1.true)))
+    c.unite_changed.ensures
+    ∙ ap (unite_all c.args.groups) (sym (united_started (deleted c.before.before.before.before.before) (added c.before.before.before.before.before) (sym c.has_start.ensures ∙ c.if-has_start.true)))
 
-returns-2 : tie.Need-returns-2
+returns-2 : tie.Need-returns
 unfolding unite_all
 returns-2 c =
-    let s = c.before.before.before.before in
-    ap (unite_all s.args.groups) (sym (united_none (deleted s) (added s) (sym c.before.has_start_lem.ensures ∙ c.if1.false)))
+    ap (unite_all c.args.groups) (sym (united_none (deleted c.before.before.before.before) (added c.before.before.before.before) (sym c.has_start.ensures ∙ c.if-has_start.false)))
 
-pub unite-row-spec : {M : Type 1} → statement M
-unite-row-spec = tie.close (tie.spec has-start-requires unite-changed-requires returns returns-2)
+pub unite_row_spec : {M : Type 1} → statement M
+unite_row_spec = tie.close (tie.spec has-start-requires unite-changed-requires returns returns-2)

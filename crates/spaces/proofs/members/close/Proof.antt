@@ -21,10 +21,6 @@ invariant-loop groups preconditions deletes adds count size objects rounds close
 abbrev decreases-loop : tie.decreases-loop
 decreases-loop groups preconditions deletes adds count size objects rounds closed₀ counter₀ closed counter = rounds - counter
 
--- what is given, from the loop on, and what the rounds go over
-abbrev entry : tie.At-loop invariant-loop decreases-loop → tie.Start invariant-loop decreases-loop
-entry c = c.before.before.before.before.before
-
 abbrev over : tie.Start invariant-loop decreases-loop → Rounds
 over s =
     let a = s.args in
@@ -40,52 +36,45 @@ over s =
 
 loop-holds : tie.Need-loop-init invariant-loop decreases-loop
 loop-holds c =
-    let s = c.before.before.before.before in
-    (zero-le, search rules, rounds_start (over s) s.args.rounds s.args.members refl)
+    (zero-le, search rules, rounds_start (over c.before.before.before.before) c.args.rounds c.args.members refl)
 
-round-requires : tie.Need-round-requires invariant-loop decreases-loop
-round-requires c κs = c.before.before.before.before.before.before.requires
+round-requires : tie.Need-round-next-requires invariant-loop decreases-loop
+round-requires c κs = c.requires
 
-slice-aggregate-same-masks : tie.Need-slice-aggregate-same-masks invariant-loop decreases-loop
+slice-aggregate-same-masks : tie.Need-slice_bounds-same_masks-end invariant-loop decreases-loop
 slice-aggregate-same-masks c = search rules
 
-slice-aggregate-same-masks-2 : tie.Need-slice-aggregate-same-masks-2 invariant-loop decreases-loop
+slice-aggregate-same-masks-2 : tie.Need-slice_bounds-same_masks-end-in-loop invariant-loop decreases-loop
 slice-aggregate-same-masks-2 c = search rules
 
-same-masks-requires : tie.Need-same-masks-requires invariant-loop decreases-loop
+same-masks-requires : tie.Need-same_masks-requires invariant-loop decreases-loop
 same-masks-requires c κs = (search rules, search rules)
 
-returns : tie.Need-returns invariant-loop decreases-loop
+returns : tie.Need-returns-then-same_masks invariant-loop decreases-loop
 returns c =
-    let head = c.before.before.before.before.before.before in
-    let s = entry head in
-    let next = c.before.before.before.before.round in
-    rounds_stop (over s) s.args.rounds head.loop.counter head.loop.closed
-    (sym next.ensures ∙ sym (same_eq head.loop.closed next.result (sym c.before.same_masks.ensures ∙ c.if1.true)))
-    head.loop.invariant.2
+    let next = c.round-next in
+    rounds_stop (over c.before.before.before.before.before.before.before.before.before.before.before) c.args.rounds c.loop.counter c.loop.closed
+    (sym next.ensures ∙ sym (same_eq c.loop.closed next.result (sym c.same_masks.ensures ∙ c.if-same_masks.true)))
+    c.loop.invariant.2
 
-add-counter : tie.Need-overflow-add-counter invariant-loop decreases-loop
+add-counter : tie.Need-overflow_step invariant-loop decreases-loop
 add-counter c = omega arith
 
 loop-less : tie.Need-loop-smaller invariant-loop decreases-loop
-loop-less c = less_left c.before.before.before.before.before.loop-test.true
+loop-less c = less_left c.loop-test.true
 
 loop-again : tie.Need-loop-preserved invariant-loop decreases-loop
 loop-again c =
-    let head = c.before.before.before.before.before.before in
-    let s = entry head in
-    let next = c.before.before.before.before.round in (
+    let next = c.round-next in (
       omega arith,
       search rules,
-      rounds_next (over s) s.args.rounds head.loop.counter head.loop.closed next.result
-          c.before.before.before.before.before.loop-test.true next.ensures head.loop.invariant.2,
+      rounds_next (over c.before.before.before.before.before.before.before.before.before.before.before) c.args.rounds c.loop.counter c.loop.closed next.result
+          c.loop-test.true next.ensures c.loop.invariant.2,
     )
 
-returns-2 : tie.Need-returns-2 invariant-loop decreases-loop
+returns-2 : tie.Need-returns invariant-loop decreases-loop
 returns-2 c =
-    let head = c.before in
-    let s = entry head in
-    rounds_end (over s) s.args.rounds head.loop.counter head.loop.closed c.loop-test.false head.loop.invariant.2
+    rounds_end (over c.before.before.before.before.before.before) c.args.rounds c.loop.counter c.loop.closed c.loop-test.false c.loop.invariant.2
 
 pub close_spec : {M : Type 1} → statement M
 close_spec =

@@ -19,54 +19,51 @@ use Rattle.spaces.proofs.members.same_masks.Tie as tie
 differ : (a b : List ℕ) (k : ℕ) → (get_or a k 0 ≡ get_or b k 0 → ⊥) → false ≡ same a b
 differ a b k no-match = sym (by_test (same a b) (λ e. absurd (no-match (ap (λ (l : List ℕ). get_or l k 0) (same_eq a b e)))) (λ e. e))
 
-abbrev invariant-loop : tie.invariant-loop
+abbrev invariant-loop : tie.invariant-loop-l
 invariant-loop a b l₀ l = (l ≤ 60) × ((k : ℕ) → k < l → get_or a k 0 ≡ get_or b k 0)
 
-abbrev decreases-loop : tie.decreases-loop
+abbrev decreases-loop : tie.decreases-loop-l
 decreases-loop a b l₀ l = 60 - l
 
-loop-holds : tie.Need-loop-init invariant-loop decreases-loop
+loop-holds : tie.Need-loop-l-init invariant-loop decreases-loop
 loop-holds c = (zero-le, below_none _)
 
-mul-if1 : tie.Need-overflow-mul-if1 invariant-loop decreases-loop
+mul-if1 : tie.Need-offset_bounds-a-l invariant-loop decreases-loop
 mul-if1 c = omega arith
 
-shared-slice-read-if1 : tie.Need-shared-slice-read-if1 invariant-loop decreases-loop
+shared-slice-read-if1 : tie.Need-bounds-a-l invariant-loop decreases-loop
 shared-slice-read-if1 c = omega arith
 
-mul-if1-2 : tie.Need-overflow-mul-if1-2 invariant-loop decreases-loop
+mul-if1-2 : tie.Need-offset_bounds-b-l invariant-loop decreases-loop
 mul-if1-2 c = omega arith
 
-shared-slice-read-if1-2 : tie.Need-shared-slice-read-if1-2 invariant-loop decreases-loop
+shared-slice-read-if1-2 : tie.Need-bounds-b-l invariant-loop decreases-loop
 shared-slice-read-if1-2 c = omega arith
 
-returns : tie.Need-returns invariant-loop decreases-loop
+returns : tie.Need-returns-then-a-l invariant-loop decreases-loop
 returns c =
-    let head = c.before.before.before.before in
-    differ head.before.args.a.now head.before.args.b.now head.loop.l c.if1.true
+    differ c.args.a.now c.args.b.now c.loop-l.l c.if-a-l.true
 
-add-l : tie.Need-overflow-add-l invariant-loop decreases-loop
+add-l : tie.Need-overflow_step-l invariant-loop decreases-loop
 add-l c = omega arith
 
-loop-less : tie.Need-loop-smaller invariant-loop decreases-loop
-loop-less c = less_left c.before.before.before.loop-test.true
+loop-less : tie.Need-loop-l-smaller invariant-loop decreases-loop
+loop-less c = less_left c.loop-l-test.true
 
-loop-again : tie.Need-loop-preserved invariant-loop decreases-loop
-loop-again c = (omega arith, below_more _ _ c.before.before.before.before.loop.invariant.1 c.if1.false)
+loop-again : tie.Need-loop-l-preserved invariant-loop decreases-loop
+loop-again c = (omega arith, below_more _ _ c.loop-l.invariant.1 c.if-a-l.false)
 
-returns-2 : tie.Need-returns-2 invariant-loop decreases-loop
+returns-2 : tie.Need-returns invariant-loop decreases-loop
 returns-2 c =
-    let head = c.before in
-    let start = head.before in
-    let a = start.args.a.now in
-    let b = start.args.b.now in
+    let a = c.args.a.now in
+    let b = c.args.b.now in
     let equal : a ≡ b =
-    ext_get_or 0 a b (start.requires.0 ∙ sym start.requires.1)
-    (λ k h. head.loop.invariant.1 k (le_trans (subst (λ (n : ℕ). k < n) start.requires.0 h) c.loop-test.false)) in
+    ext_get_or 0 a b (c.requires.0 ∙ sym c.requires.1)
+    (λ k h. c.loop-l.invariant.1 k (le_trans (subst (λ (n : ℕ). k < n) c.requires.0 h) c.loop-l-test.false)) in
     sym (ap (same a) (sym equal) ∙ same_refl a)
 
-pub same-masks-spec : {M : Type 1} → statement M
-same-masks-spec =
+pub same_masks_spec : {M : Type 1} → statement M
+same_masks_spec =
     tie.close
     (tie.spec
     invariant-loop

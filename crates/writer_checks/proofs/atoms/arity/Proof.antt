@@ -6,17 +6,17 @@ use borrow.Author.Rules.{rules}
 use Rattle.writer_checks.proofs.atoms.arity.Statement.{statement}
 use Rattle.writer_checks.proofs.atoms.arity.Tie as tie
 
-shared-slice-read-result : tie.Need-shared-slice-read-result
+shared-slice-read-result : tie.Need-bounds-arities-p
 shared-slice-read-result c = search rules
 
-cast-result : tie.Need-overflow-cast-result
-cast-result c = omega (arith, c.shared-slice-known.given c.before.before.args.predicate)
+cast-result : tie.Need-overflow_cast-result
+cast-result c = omega (arith, c.shared_slice_known-1.given c.args.predicate)
 
-returns : tie.Need-returns
+returns : tie.Need-returns-then-p-arities
 returns c = search rules
 
-returns-2 : tie.Need-returns-2
-returns-2 c = sym (get_or-eq_default c.before.args.arities.now 0 c.if1.false)
+returns-2 : tie.Need-returns-else-p-arities
+returns-2 c = sym (get_or-eq_default c.args.arities.now 0 c.if-p-arities.false)
 
-pub arity-spec : {M : Type 1} → statement M
-arity-spec = tie.close (tie.spec shared-slice-read-result cast-result returns returns-2)
+pub arity_spec : {M : Type 1} → statement M
+arity_spec = tie.close (tie.spec shared-slice-read-result cast-result returns returns-2)

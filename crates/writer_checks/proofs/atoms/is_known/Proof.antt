@@ -5,47 +5,47 @@ use borrow.Author.Rules.{rules}
 use Rattle.writer_checks.proofs.atoms.is_known.Statement.{statement}
 use Rattle.writer_checks.proofs.atoms.is_known.Tie as tie
 
-cast-if1 : tie.Need-overflow-cast-if1
+cast-if1 : tie.Need-overflow_cast-a
 cast-if1 c = search rules
 
-returns : tie.Need-returns
+returns : tie.Need-returns-then-a-arities
 returns c = search unknown_predicate
 
-arity-requires : tie.Need-arity-requires
+arity-requires : tie.Need-arity-n-requires
 arity-requires c κs = search rules
 
-returns-2 : tie.Need-returns-2
+returns-2 : tie.Need-returns-then-n-eq0
 returns-2 c = search known_by_none
 
-cast-if3 : tie.Need-overflow-cast-if3
+cast-if3 : tie.Need-overflow_cast-a-2
 cast-if3 c = search rules
 
-returns-3 : tie.Need-returns-3
+returns-3 : tie.Need-returns-then-a-bound
 returns-3 c = search unknown_first
 
-returns-4 : tie.Need-returns-4
+returns-4 : tie.Need-returns-then-n-eq1
 returns-4 c = search known_by_one
 
-cast-if5 : tie.Need-overflow-cast-if5
+cast-if5 : tie.Need-overflow_cast-a-3
 cast-if5 c = search rules
 
-returns-5 : tie.Need-returns-5
+returns-5 : tie.Need-returns-then-a-bound-2
 returns-5 c = search unknown_second
 
-returns-6 : tie.Need-returns-6
+returns-6 : tie.Need-returns-then-n-eq2
 returns-6 c = search known_by_two
 
-cast-if7 : tie.Need-overflow-cast-if7
+cast-if7 : tie.Need-overflow_cast-a-4
 cast-if7 c = search rules
 
-returns-7 : tie.Need-returns-7
+returns-7 : tie.Need-returns-then-a-bound-3
 returns-7 c = search unknown_third
 
-returns-8 : tie.Need-returns-8
+returns-8 : tie.Need-returns
 returns-8 c = search known_by_three
 
-pub is-known-spec : {M : Type 1} → statement M
-is-known-spec =
+pub is_known_spec : {M : Type 1} → statement M
+is_known_spec =
     tie.close
     (tie.spec
     cast-if1

@@ -40,24 +40,24 @@ module _ (arities : List ℕ) (bound : ℕ) (u d : Refusal) (i : ℕ) (b a : mod
     unfolding checked_says check_ordered need ◌>>◌ model.above
     ordered f = rw (← asked, e, later_has i b later, ← compared, f)
 
-is-known-requires : tie.Need-is-known-requires
+is-known-requires : tie.Need-is_known-requires
 is-known-requires c κs = search rules
 
-returns : tie.Need-returns
+returns : tie.Need-returns-then-not-is_known
 returns c = search (unknown, not-true)
 
-returns-2 : tie.Need-returns-2
+returns-2 : tie.Need-returns-then-i-eq0
 returns-2 c = search (first, not-false)
 
-is-below-requires : tie.Need-is-below-requires
+is-below-requires : tie.Need-is_below-requires
 is-below-requires c κs = search rules
 
-returns-3 : tie.Need-returns-3
+returns-3 : tie.Need-returns-then-not-is_below
 returns-3 c = search (disordered, not-true, not-false)
 
-returns-4 : tie.Need-returns-4
+returns-4 : tie.Need-returns
 returns-4 c = search (ordered, not-false)
 
-pub check-atom-spec : {M : Type 1} → statement M
-check-atom-spec =
+pub check_atom_spec : {M : Type 1} → statement M
+check_atom_spec =
     tie.close (tie.spec is-known-requires returns returns-2 is-below-requires returns-3 returns-4)

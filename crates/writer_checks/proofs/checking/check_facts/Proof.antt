@@ -12,63 +12,63 @@ use Rattle.writer_checks.proofs.Loops.{item_refused, item_passed, items_passed}
 use Rattle.writer_checks.proofs.checking.check_facts.Statement.{statement}
 use Rattle.writer_checks.proofs.checking.check_facts.Tie as tie
 
-abbrev invariant-loop : tie.invariant-loop
+abbrev invariant-loop : tie.invariant-loop-i
 invariant-loop arities objects list count before₀ i₀ before i =
     (i ≤ list.count)
     × (each (check_fact arities objects) (previous i (atom_of arities before))
     (drop i (facts_of arities list))
     ≡ each (check_fact arities objects) none (facts_of arities list))
 
-abbrev decreases-loop : tie.decreases-loop
+abbrev decreases-loop : tie.decreases-loop-i
 decreases-loop arities objects list count before₀ i₀ before i = count - i
 
-element-copy-out-before : tie.Need-element-copy-out-before invariant-loop decreases-loop
+element-copy-out-before : tie.Need-bounds-list-0 invariant-loop decreases-loop
 element-copy-out-before c = omega arith
 
-loop-holds : tie.Need-loop-init invariant-loop decreases-loop
+loop-holds : tie.Need-loop-i-init invariant-loop decreases-loop
 unfolding previous
 loop-holds c = (omega arith, refl)
 
-mul-f : tie.Need-overflow-mul-f invariant-loop decreases-loop
+mul-f : tie.Need-offset_bounds-list-i invariant-loop decreases-loop
 mul-f c = omega arith
 
-element-copy-out-f : tie.Need-element-copy-out-f invariant-loop decreases-loop
+element-copy-out-f : tie.Need-bounds-list-i invariant-loop decreases-loop
 element-copy-out-f c = omega arith
 
-check-atom-requires : tie.Need-check-atom-requires invariant-loop decreases-loop
+check-atom-requires : tie.Need-check_atom-checked-requires invariant-loop decreases-loop
 check-atom-requires c κs = search rules
 
-enum_told : tie.Need-enum-told invariant-loop decreases-loop
+enum_told : tie.Need-enum_told-1 invariant-loop decreases-loop
 enum_told c = search rules
 
-enum-told-2 : tie.Need-enum-told-2 invariant-loop decreases-loop
+enum-told-2 : tie.Need-enum_told-in_default invariant-loop decreases-loop
 enum-told-2 c = search rules
 
-returns : tie.Need-returns invariant-loop decreases-loop
+returns : tie.Need-returns-in_default invariant-loop decreases-loop
 unfolding check_fact check_ordered refusal_number blank_atom facts_of
 returns c = search item_refused
 
-add-i : tie.Need-overflow-add-i invariant-loop decreases-loop
+add-i : tie.Need-overflow_add-i invariant-loop decreases-loop
 add-i c = omega arith
 
-loop-less : tie.Need-loop-smaller invariant-loop decreases-loop
+loop-less : tie.Need-loop-i-smaller invariant-loop decreases-loop
 loop-less c = omega arith
 
-loop-again : tie.Need-loop-preserved invariant-loop decreases-loop
+loop-again : tie.Need-loop-i-preserved invariant-loop decreases-loop
 unfolding check_fact check_ordered refusal_number blank_atom facts_of
 loop-again c =
-    let at-loop = c.before.before.before.before.before in (
+    (
       omega arith,
-      item_passed _ _ _ blank_atom _ _ _ at-loop.loop.invariant.1 c.before.before.before.before.loop-test.true _
-          c.before.before.check-atom.ensures c.enum_told.given.1,
+      item_passed _ _ _ blank_atom _ _ _ c.loop-i.invariant.1 c.loop-i-test.true _
+          c.check_atom-checked.ensures c.in-Passed.is,
     )
 
-returns-2 : tie.Need-returns-2 invariant-loop decreases-loop
+returns-2 : tie.Need-returns invariant-loop decreases-loop
 unfolding facts_of
 returns-2 c = search items_passed
 
-pub check-facts-spec : {M : Type 1} → statement M
-check-facts-spec =
+pub check_facts_spec : {M : Type 1} → statement M
+check_facts_spec =
     tie.close
     (tie.spec
     invariant-loop

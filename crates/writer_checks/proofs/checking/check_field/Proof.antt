@@ -7,43 +7,43 @@ use Rattle.writer_checks.specs.Checking.{checked_says}
 use Rattle.writer_checks.proofs.checking.check_field.Statement.{statement}
 use Rattle.writer_checks.proofs.checking.check_field.Tie as tie
 
-enum_told : tie.Need-enum-told
+enum_told : tie.Need-enum_told-1
 enum_told c = search rules
 
-enum-told-2 : tie.Need-enum-told-2
+enum-told-2 : tie.Need-enum_told-in-Deletes
 enum-told-2 c = search rules
 
-has-atom-requires : tie.Need-has-atom-requires
+has-atom-requires : tie.Need-has_atom-requires
 has-atom-requires c κs = search rules
 
-enum-told-3 : tie.Need-enum-told-3
+enum-told-3 : tie.Need-enum_told-in-Adds
 enum-told-3 c = search rules
 
-has-atom-requires-2 : tie.Need-has-atom-requires-2
+has-atom-requires-2 : tie.Need-has_atom-requires-in-Adds
 has-atom-requires-2 c κs = search rules
 
-returns : tie.Need-returns
+returns : tie.Need-returns-in-Preconditions
 unfolding checked_says need field_test refusal_number
-returns c = rw c.enum_told.given.1
+returns c = rw c.in-Preconditions.is
 
-returns-2 : tie.Need-returns-2
+returns-2 : tie.Need-returns-then-has_atom
 unfolding checked_says need field_test refusal_number
-returns-2 c = rw (c.before.before.enum-told2.given.1, ← c.before.has-atom.ensures, c.if1.true)
+returns-2 c = rw (c.in-Deletes.is, ← c.has_atom.ensures, c.if-has_atom.true)
 
-returns-3 : tie.Need-returns-3
+returns-3 : tie.Need-returns-else-has_atom
 unfolding checked_says need field_test refusal_number
-returns-3 c = rw (c.before.before.enum-told2.given.1, ← c.before.has-atom.ensures, c.if1.false)
+returns-3 c = rw (c.in-Deletes.is, ← c.has_atom.ensures, c.if-has_atom.false)
 
-returns-4 : tie.Need-returns-4
+returns-4 : tie.Need-returns-then-has_atom-2
 unfolding checked_says need field_test refusal_number
-returns-4 c = rw (c.before.before.enum-told3.given.1, ← c.before.has-atom2.ensures, c.if2.true)
+returns-4 c = rw (c.in-Adds.is, ← c.has_atom-in-Adds.ensures, c.if-has_atom-2.true)
 
-returns-5 : tie.Need-returns-5
+returns-5 : tie.Need-returns-else-has_atom-2
 unfolding checked_says need field_test refusal_number
-returns-5 c = rw (c.before.before.enum-told3.given.1, ← c.before.has-atom2.ensures, c.if2.false)
+returns-5 c = rw (c.in-Adds.is, ← c.has_atom-in-Adds.ensures, c.if-has_atom-2.false)
 
-pub check-field-spec : {M : Type 1} → statement M
-check-field-spec =
+pub check_field_spec : {M : Type 1} → statement M
+check_field_spec =
     tie.close
     (tie.spec
     enum_told

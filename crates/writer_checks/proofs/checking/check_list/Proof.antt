@@ -3,14 +3,14 @@ use Rattle.writer_checks.proofs.SchemaLaws.{long_list, short_list}
 use Rattle.writer_checks.proofs.checking.check_list.Statement.{statement}
 use Rattle.writer_checks.proofs.checking.check_list.Tie as tie
 
-returns : tie.Need-returns
+returns : tie.Need-returns-then-list-gt8
 returns c = search long_list
 
-check-atoms-requires : tie.Need-check-atoms-requires
-check-atoms-requires c κs = (c.before.before.before.requires c.if1.false, c.if1.false)
+check-atoms-requires : tie.Need-check_atoms-requires
+check-atoms-requires c κs = (c.requires c.if-list-gt8.false, c.if-list-gt8.false)
 
-returns-2 : tie.Need-returns-2
+returns-2 : tie.Need-returns
 returns-2 c = search short_list
 
-pub check-list-spec : {M : Type 1} → statement M
-check-list-spec = tie.close (tie.spec returns check-atoms-requires returns-2)
+pub check_list_spec : {M : Type 1} → statement M
+check_list_spec = tie.close (tie.spec returns check-atoms-requires returns-2)

@@ -21,27 +21,27 @@ unfolding check_schema_atom check_ordered
 split arities parameters test number before a =
     then_assoc (need (known arities parameters a) 7) (need (model.above before a) 8) (need (test a) number)
 
-check-atom-requires : tie.Need-check-atom-requires
+check-atom-requires : tie.Need-check_atom-ordered-requires
 check-atom-requires c κs = search rules
 
-enum_told : tie.Need-enum-told
+enum_told : tie.Need-enum_told-1
 enum_told c = search rules
 
-enum-told-2 : tie.Need-enum-told-2
+enum-told-2 : tie.Need-enum_told-in_default
 enum-told-2 c = search rules
 
-returns : tie.Need-returns
+returns : tie.Need-returns-in_default
 unfolding refusal_number
 returns c = rw split (search then_refused)
 
-check-field-requires : tie.Need-check-field-requires
+check-field-requires : tie.Need-check_field-requires
 check-field-requires c κs = search rules
 
-returns-2 : tie.Need-returns-2
+returns-2 : tie.Need-returns
 unfolding refusal_number
 returns-2 c = rw split (search then_passed)
 
-pub check-schema-atom-spec : {M : Type 1} → statement M
-check-schema-atom-spec =
+pub check_schema_atom_spec : {M : Type 1} → statement M
+check_schema_atom_spec =
     tie.close
     (tie.spec check-atom-requires enum_told enum-told-2 returns check-field-requires returns-2)

@@ -45,48 +45,48 @@ module _ (arities : List ℕ) (list : SchemaList) (i : ℕ) (left : Left arities
   schema_passed e =
       alike _ _ (drop (i + 1) (schemas_of arities list)) ∙ item_passed (λ before. check_schema arities) _ _ _ _ i none left at c says_of_item e
 
-abbrev invariant-loop : tie.invariant-loop
+abbrev invariant-loop : tie.invariant-loop-i
 invariant-loop arities list count i₀ i = (i ≤ list.count) × Left arities list i
 
-abbrev decreases-loop : tie.decreases-loop
+abbrev decreases-loop : tie.decreases-loop-i
 decreases-loop arities list count i₀ i = count - i
 
-loop-holds : tie.Need-loop-init invariant-loop decreases-loop
+loop-holds : tie.Need-loop-i-init invariant-loop decreases-loop
 loop-holds c = (omega arith, refl)
 
-mul-s : tie.Need-overflow-mul-s invariant-loop decreases-loop
+mul-s : tie.Need-offset_bounds-list-i invariant-loop decreases-loop
 mul-s c = omega arith
 
-element-copy-out-s : tie.Need-element-copy-out-s invariant-loop decreases-loop
+element-copy-out-s : tie.Need-bounds-list-i invariant-loop decreases-loop
 element-copy-out-s c = omega arith
 
-check-schema-requires : tie.Need-check-schema-requires invariant-loop decreases-loop
+check-schema-requires : tie.Need-check_schema-checked-requires invariant-loop decreases-loop
 check-schema-requires c κs = search rules
 
-enum_told : tie.Need-enum-told invariant-loop decreases-loop
+enum_told : tie.Need-enum_told-1 invariant-loop decreases-loop
 enum_told c = search rules
 
-enum-told-2 : tie.Need-enum-told-2 invariant-loop decreases-loop
+enum-told-2 : tie.Need-enum_told-in_default invariant-loop decreases-loop
 enum-told-2 c = search rules
 
-returns : tie.Need-returns invariant-loop decreases-loop
+returns : tie.Need-returns-in_default invariant-loop decreases-loop
 returns c = search schema_refused
 
-add-i : tie.Need-overflow-add-i invariant-loop decreases-loop
+add-i : tie.Need-overflow_add-i invariant-loop decreases-loop
 add-i c = omega arith
 
-loop-less : tie.Need-loop-smaller invariant-loop decreases-loop
+loop-less : tie.Need-loop-i-smaller invariant-loop decreases-loop
 loop-less c = omega arith
 
-loop-again : tie.Need-loop-preserved invariant-loop decreases-loop
+loop-again : tie.Need-loop-i-preserved invariant-loop decreases-loop
 loop-again c = (omega arith, search schema_passed)
 
-returns-2 : tie.Need-returns-2 invariant-loop decreases-loop
+returns-2 : tie.Need-returns invariant-loop decreases-loop
 unfolding schemas_of
 returns-2 c = search items_passed
 
-pub check-schemas-spec : {M : Type 1} → statement M
-check-schemas-spec =
+pub check_schemas_spec : {M : Type 1} → statement M
+check_schemas_spec =
     tie.close
     (tie.spec
     invariant-loop

@@ -8,37 +8,37 @@ use borrow.Author.Rules.{rules}
 use Rattle.writer_checks.proofs.checking.check_task.Statement.{statement}
 use Rattle.writer_checks.proofs.checking.check_task.Tie as tie
 
-returns : tie.Need-returns
+returns : tie.Need-returns-then-count-lt1
 returns c = search no_predicates
 
-returns-2 : tie.Need-returns-2
+returns-2 : tie.Need-returns-then-count-gt20
 returns-2 c = search many_predicates
 
-sub-arities : tie.Need-overflow-sub-arities
+sub-arities : tie.Need-slice_bounds-arities-count
 sub-arities c = search rules
 
-part-arities-start : tie.Need-slice-bounds-arities-start
+part-arities-start : tie.Need-slice_bounds-arities-start
 part-arities-start c = search rules
 
-part-arities-end : tie.Need-slice-bounds-arities-end
+part-arities-end : tie.Need-slice_bounds-arities-end
 part-arities-end c =
-    let twenty : length c.before.before.before.before.before.before.before.args.task.predicates.arities ≡ 20 = search rules in
+    let twenty : length c.args.task.predicates.arities ≡ 20 = search rules in
     omega arith
 
-arities-within-requires : tie.Need-arities-within-requires
+arities-within-requires : tie.Need-arities_within-requires
 arities-within-requires c κs = search rules
 
-returns-3 : tie.Need-returns-3
+returns-3 : tie.Need-returns-then-not-arities_within
 returns-3 c = search (bad_arity, not-true, rules)
 
-check-rest-requires : tie.Need-check-rest-requires
+check-rest-requires : tie.Need-check_rest-requires
 check-rest-requires c κs = search rules
 
-returns-4 : tie.Need-returns-4
+returns-4 : tie.Need-returns
 returns-4 c = search (good_arities, not-false, rules)
 
-pub check-task-spec : {M : Type 1} → statement M
-check-task-spec =
+pub check_task_spec : {M : Type 1} → statement M
+check_task_spec =
     tie.close
     (tie.spec
     returns

@@ -35,43 +35,43 @@ nowhere : (arities : List ℕ) (a : Atom) (list : AtomList) (i : ℕ) → list.c
 unfolding model.has atoms_of any
 nowhere arities a list i h left = rw (no_item _ _ _ _ i h) at left
 
-abbrev invariant-loop : tie.invariant-loop
+abbrev invariant-loop : tie.invariant-loop-i
 invariant-loop arities a list count i₀ i = (i ≤ list.count) × Left arities a list i
 
-abbrev decreases-loop : tie.decreases-loop
+abbrev decreases-loop : tie.decreases-loop-i
 decreases-loop arities a list count i₀ i = count - i
 
-loop-holds : tie.Need-loop-init invariant-loop decreases-loop
+loop-holds : tie.Need-loop-i-init invariant-loop decreases-loop
 loop-holds c = search rules
 
-mul-b : tie.Need-overflow-mul-b invariant-loop decreases-loop
+mul-b : tie.Need-offset_bounds-list-i invariant-loop decreases-loop
 mul-b c = omega arith
 
-element-copy-out-b : tie.Need-element-copy-out-b invariant-loop decreases-loop
+element-copy-out-b : tie.Need-bounds-list-i invariant-loop decreases-loop
 element-copy-out-b c = omega arith
 
-is-same-requires : tie.Need-is-same-requires invariant-loop decreases-loop
+is-same-requires : tie.Need-is_same-requires invariant-loop decreases-loop
 is-same-requires c κs = tt
 
-returns : tie.Need-returns invariant-loop decreases-loop
+returns : tie.Need-returns-then-is_same invariant-loop decreases-loop
 unfolding blank_atom
 returns c = search found
 
-add-i : tie.Need-overflow-add-i invariant-loop decreases-loop
+add-i : tie.Need-overflow_add-i invariant-loop decreases-loop
 add-i c = omega arith
 
-loop-less : tie.Need-loop-smaller invariant-loop decreases-loop
+loop-less : tie.Need-loop-i-smaller invariant-loop decreases-loop
 loop-less c = omega arith
 
-loop-again : tie.Need-loop-preserved invariant-loop decreases-loop
+loop-again : tie.Need-loop-i-preserved invariant-loop decreases-loop
 unfolding blank_atom
 loop-again c = (omega arith, search further)
 
-returns-2 : tie.Need-returns-2 invariant-loop decreases-loop
+returns-2 : tie.Need-returns invariant-loop decreases-loop
 returns-2 c = search nowhere
 
-pub has-atom-spec : {M : Type 1} → statement M
-has-atom-spec =
+pub has_atom_spec : {M : Type 1} → statement M
+has_atom_spec =
     tie.close
     (tie.spec
     invariant-loop
