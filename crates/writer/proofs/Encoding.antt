@@ -3,7 +3,7 @@ use Prim.Native.Nat.{ℕ, ◌≤◌, ◌<◌}
 use native.Mathlib.Nat.{zero-add}
 use mathlib.Core.Path.{◌≡◌, refl, ap, ◌∙◌}
 use mathlib.Core.Bool.{true}
-use mathlib.Core.Option.{Option, none}
+use mathlib.Core.Option.{Option, none, some}
 use mathlib.Core.List.{List, [], ◌∷◌, ◌++◌, map}
 use lib.ListN.{length, drop}
 use borrow.Author.Tests.{leb-true, le-leb, lt-leb}
@@ -47,7 +47,7 @@ passed_schemas arities p [] e = refl
 passed_schemas arities p (s ∷ xs) e =
     and_intro (schema_fits s) (all schema_fits xs)
     (passed_schema arities s (then_left (check_schema arities (schema_of arities s)) _ e))
-    (passed_schemas arities _ xs (then_right (check_schema arities (schema_of arities s)) _ e))
+    (passed_schemas arities (some (schema_of arities s)) xs (then_right (check_schema arities (schema_of arities s)) _ e))
 
 -- a table that passed fits
 passed_task : (t : Task) → check_task (task_of t) ≡ accepted tt → Fits t

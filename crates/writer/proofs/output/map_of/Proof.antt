@@ -13,39 +13,38 @@ unfolding bit_where
 bit_at_most true value r e = omega arith
 bit_at_most false value r e = omega arith
 
-bit-where-requires : tie.Need-bit-where-requires
+bit-where-requires : tie.Need-bit_where-requires
 bit-where-requires c κs = search rules
 
-bit-where-requires-2 : tie.Need-bit-where-requires-2
+bit-where-requires-2 : tie.Need-bit_where-requires-2
 bit-where-requires-2 c κs = search rules
 
-add-result : tie.Need-overflow-add-result
-add-result c = omega (arith, bit_at_most _ _ _ c.before.before.bit-where.ensures, bit_at_most _ _ _ c.bit-where2.ensures)
+add-result : tie.Need-overflow_add-result
+add-result c = omega (arith, bit_at_most _ _ _ c.bit_where.ensures, bit_at_most _ _ _ c.bit_where-2.ensures)
 
-bit-where-requires-3 : tie.Need-bit-where-requires-3
+bit-where-requires-3 : tie.Need-bit_where-requires-3
 bit-where-requires-3 c κs = search rules
 
-add-result-2 : tie.Need-overflow-add-result-2
+add-result-2 : tie.Need-overflow_add-result-2
 add-result-2 c =
     omega (
       arith,
-      bit_at_most _ _ _ c.before.before.before.before.bit-where.ensures,
-      bit_at_most _ _ _ c.before.before.bit-where2.ensures,
-      bit_at_most _ _ _ c.bit-where3.ensures,
+      bit_at_most _ _ _ c.bit_where.ensures,
+      bit_at_most _ _ _ c.bit_where-2.ensures,
+      bit_at_most _ _ _ c.bit_where-3.ensures,
     )
 
-bit-where-requires-4 : tie.Need-bit-where-requires-4
+bit-where-requires-4 : tie.Need-bit_where-requires-4
 bit-where-requires-4 c κs = search rules
 
-add-result-3 : tie.Need-overflow-add-result-3
+add-result-3 : tie.Need-overflow_add-result-3
 add-result-3 c =
-    let three = c.before.before in
     omega (
       arith,
-      bit_at_most _ _ _ three.before.before.before.before.bit-where.ensures,
-      bit_at_most _ _ _ three.before.before.bit-where2.ensures,
-      bit_at_most _ _ _ three.bit-where3.ensures,
-      bit_at_most _ _ _ c.bit-where4.ensures,
+      bit_at_most _ _ _ c.bit_where.ensures,
+      bit_at_most _ _ _ c.bit_where-2.ensures,
+      bit_at_most _ _ _ c.bit_where-3.ensures,
+      bit_at_most _ _ _ c.bit_where-4.ensures,
     )
 
 sum_of_four : {w x y z w₁ x₁ y₁ z₁ : ℕ} → w ≡ w₁ → x ≡ x₁ → y ≡ y₁ → z ≡ z₁ → w + x + y + z ≡ w₁ + x₁ + y₁ + z₁
@@ -54,11 +53,11 @@ sum_of_four e f g h = λ k. e k + f k + g k + h k
 returns : tie.Need-returns
 unfolding map_of
 returns c =
-    sum_of_four c.before.before.before.before.before.before.bit-where.ensures c.before.before.before.before.bit-where2.ensures
-    c.before.before.bit-where3.ensures c.bit-where4.ensures
+    sum_of_four c.bit_where.ensures c.bit_where-2.ensures
+    c.bit_where-3.ensures c.bit_where-4.ensures
 
-pub map-of-spec : {M : Type 1} → statement M
-map-of-spec =
+pub map_of_spec : {M : Type 1} → statement M
+map_of_spec =
     tie.close
     (tie.spec
     bit-where-requires

@@ -23,39 +23,39 @@ module _ (arities x : List ℕ) (at i : ℕ) (fits : at + length arities ≤ len
       let there : i ≡ length arities = omega arith in
       rw (there, take_all (length arities) arities (omega arith)) at copied
 
-abbrev invariant-loop : tie.invariant-loop
+abbrev invariant-loop : tie.invariant-loop-i
 invariant-loop out₀ at arities next₀ i₀ out next i =
     (i ≤ length arities) × (length out ≡ length out₀) × WritesAt i at (take i arities) out₀ out next
 
-abbrev decreases-loop : tie.decreases-loop
+abbrev decreases-loop : tie.decreases-loop-i
 decreases-loop out₀ at arities next₀ i₀ out next i = length arities - i
 
-loop-holds : tie.Need-loop-init invariant-loop decreases-loop
+loop-holds : tie.Need-loop-i-init invariant-loop decreases-loop
 loop-holds c = (omega arith, refl, writes_none 0 _ _)
 
-shared-slice-read-write-byte : tie.Need-shared-slice-read-write-byte invariant-loop decreases-loop
+shared-slice-read-write-byte : tie.Need-bounds-arities-i invariant-loop decreases-loop
 shared-slice-read-write-byte c = omega arith
 
-write-byte-requires : tie.Need-write-byte-requires invariant-loop decreases-loop
+write-byte-requires : tie.Need-write_byte-next-requires invariant-loop decreases-loop
 write-byte-requires c κs = omega arith
 
-add-i : tie.Need-overflow-add-i invariant-loop decreases-loop
+add-i : tie.Need-overflow_add-i invariant-loop decreases-loop
 add-i c = omega arith
 
-loop-less : tie.Need-loop-smaller invariant-loop decreases-loop
+loop-less : tie.Need-loop-i-smaller invariant-loop decreases-loop
 loop-less c = omega arith
 
-loop-again : tie.Need-loop-preserved invariant-loop decreases-loop
-loop-again c = (omega arith, omega (arith, c.before.before.write_byte.auto.0), search copied_more)
+loop-again : tie.Need-loop-i-preserved invariant-loop decreases-loop
+loop-again c = (omega arith, omega (arith, c.write_byte-next.auto.out), search copied_more)
 
-same_length : tie.Need-same-length invariant-loop decreases-loop
+same_length : tie.Need-shape_of-out invariant-loop decreases-loop
 same_length c = omega arith
 
 returns : tie.Need-returns invariant-loop decreases-loop
 returns c = search copied_all
 
-pub write-arities-spec : {M : Type 1} → statement M
-write-arities-spec =
+pub write_arities_spec : {M : Type 1} → statement M
+write_arities_spec =
     tie.close
     (tie.spec
     invariant-loop

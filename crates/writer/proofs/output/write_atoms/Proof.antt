@@ -11,53 +11,53 @@ use Rattle.writer.proofs.WriteLaws.{writes_none, item_written, items_written}
 use Rattle.writer.proofs.output.write_atoms.Statement.{statement}
 use Rattle.writer.proofs.output.write_atoms.Tie as tie
 
-abbrev invariant-loop : tie.invariant-loop
+abbrev invariant-loop : tie.invariant-loop-i
 invariant-loop out₀ at arities list count next₀ i₀ out next i =
     (i ≤ list.count) × (length out ≡ length out₀)
     × WritesAt (atom_room * i) at (flat_map atom_bytes (take i (atoms_of arities list))) out₀ out next
 
-abbrev decreases-loop : tie.decreases-loop
+abbrev decreases-loop : tie.decreases-loop-i
 decreases-loop out₀ at arities list count next₀ i₀ out next i = count - i
 
-loop-holds : tie.Need-loop-init invariant-loop decreases-loop
+loop-holds : tie.Need-loop-i-init invariant-loop decreases-loop
 unfolding flat_map
 loop-holds c = (omega arith, refl, writes_none 0 _ _)
 
-mul-a : tie.Need-overflow-mul-a invariant-loop decreases-loop
+mul-a : tie.Need-offset_bounds-list-i invariant-loop decreases-loop
 mul-a c = omega arith
 
-element-copy-out-a : tie.Need-element-copy-out-a invariant-loop decreases-loop
+element-copy-out-a : tie.Need-bounds-list-i invariant-loop decreases-loop
 element-copy-out-a c = omega arith
 
-write-atom-requires : tie.Need-write-atom-requires invariant-loop decreases-loop
+write-atom-requires : tie.Need-write_atom-next-requires invariant-loop decreases-loop
 write-atom-requires c κs = omega arith
 
-add-i : tie.Need-overflow-add-i invariant-loop decreases-loop
+add-i : tie.Need-overflow_add-i invariant-loop decreases-loop
 add-i c = omega arith
 
-loop-less : tie.Need-loop-smaller invariant-loop decreases-loop
+loop-less : tie.Need-loop-i-smaller invariant-loop decreases-loop
 loop-less c = omega arith
 
-loop-again : tie.Need-loop-preserved invariant-loop decreases-loop
+loop-again : tie.Need-loop-i-preserved invariant-loop decreases-loop
 unfolding atoms_of blank_atom
 loop-again c =
-    let at-loop = c.before.before.before.before.before.before in (
+    (
       omega arith,
-      c.before.before.write-atom.auto.0 ∙ at-loop.loop.invariant.1,
-      item_written atom_bytes _ _ _ _ atom_room _ _ _ c.before.before.before.before.before.loop-test.true
-          at-loop.before.before.before.requires.1 at-loop.loop.invariant.2
-          c.before.before.write-atom.ensures,
+      c.write_atom-next.auto.out ∙ c.loop-i.invariant.1,
+      item_written atom_bytes _ _ _ _ atom_room _ _ _ c.loop-i-test.true
+          c.requires.1 c.loop-i.invariant.2
+          c.write_atom-next.ensures,
     )
 
-same_length : tie.Need-same-length invariant-loop decreases-loop
+same_length : tie.Need-shape_of-out invariant-loop decreases-loop
 same_length c = omega arith
 
 returns : tie.Need-returns invariant-loop decreases-loop
 unfolding atoms_of
-returns c = items_written atom_bytes _ _ _ _ atom_room _ _ _ c.loop-test.false c.before.loop.invariant.0 c.before.loop.invariant.2
+returns c = items_written atom_bytes _ _ _ _ atom_room _ _ _ c.loop-i-test.false c.loop-i.invariant.0 c.loop-i.invariant.2
 
-pub write-atoms-spec : {M : Type 1} → statement M
-write-atoms-spec =
+pub write_atoms_spec : {M : Type 1} → statement M
+write_atoms_spec =
     tie.close
     (tie.spec
     invariant-loop

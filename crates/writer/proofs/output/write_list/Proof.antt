@@ -4,26 +4,26 @@ use borrow.Author.Rules.{rules}
 use Rattle.writer.proofs.output.write_list.Statement.{statement}
 use Rattle.writer.proofs.output.write_list.Tie as tie
 
-returns : tie.Need-returns
+returns : tie.Need-returns-then-count-eq0
 returns c = search empty_list
 
-cast-write-byte : tie.Need-overflow-cast-write-byte
+cast-write-byte : tie.Need-overflow_cast-count
 cast-write-byte c = search rules
 
-write-byte-requires : tie.Need-write-byte-requires
+write-byte-requires : tie.Need-write_byte-next-requires
 write-byte-requires c κs = search rules
 
-write-atoms-requires : tie.Need-write-atoms-requires
+write-atoms-requires : tie.Need-write_atoms-requires
 write-atoms-requires c κs = search rules
 
-same_length : tie.Need-same-length
+same_length : tie.Need-shape_of-out
 same_length c = search rules
 
-returns-2 : tie.Need-returns-2
+returns-2 : tie.Need-returns
 returns-2 c = search whole_list
 
-pub write-list-spec : {M : Type 1} → statement M
-write-list-spec =
+pub write_list_spec : {M : Type 1} → statement M
+write_list_spec =
     tie.close
     (tie.spec
     returns

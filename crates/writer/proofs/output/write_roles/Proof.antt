@@ -18,21 +18,21 @@ more_roles : (p at : ℕ) (x y : List ℕ) (n : ℕ) → (p ≡ 1 → ⊥) → W
 unfolding role_bytes
 more_roles p at x y n d w = rw (ne_eqb p 1 d) w
 
-returns : tie.Need-returns
+returns : tie.Need-returns-then-parameters-eq1
 returns c = search one_role
 
-cast-write-byte : tie.Need-overflow-cast-write-byte
+cast-write-byte : tie.Need-overflow_cast-parameters
 cast-write-byte c = search rules
 
-write-byte-requires : tie.Need-write-byte-requires
+write-byte-requires : tie.Need-write_byte-requires
 write-byte-requires c κs = search rules
 
-same_length : tie.Need-same-length
+same_length : tie.Need-shape_of-out
 same_length c = search rules
 
-returns-2 : tie.Need-returns-2
+returns-2 : tie.Need-returns
 returns-2 c = search more_roles
 
-pub write-roles-spec : {M : Type 1} → statement M
-write-roles-spec =
+pub write_roles_spec : {M : Type 1} → statement M
+write_roles_spec =
     tie.close (tie.spec returns cast-write-byte write-byte-requires same_length returns-2)

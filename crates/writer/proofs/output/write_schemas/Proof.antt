@@ -27,46 +27,45 @@ schema_written arities list at i x y z m n h fits v w =
     item_written schema_bytes (schema_of arities) list.count blank_schema list.schemas schema_room at x i h fits v
     (rw (default_alike (schema_of arities) no_schema blank_schema (no_schema_blank arities) list.schemas i) at w)
 
-abbrev invariant-loop : tie.invariant-loop
+abbrev invariant-loop : tie.invariant-loop-i
 invariant-loop out₀ at arities list count next₀ i₀ out next i =
     (i ≤ list.count) × (length out ≡ length out₀) × Written arities list at out₀ i out next
 
-abbrev decreases-loop : tie.decreases-loop
+abbrev decreases-loop : tie.decreases-loop-i
 decreases-loop out₀ at arities list count next₀ i₀ out next i = count - i
 
-loop-holds : tie.Need-loop-init invariant-loop decreases-loop
+loop-holds : tie.Need-loop-i-init invariant-loop decreases-loop
 unfolding flat_map
 loop-holds c = (omega arith, refl, writes_none 0 _ _)
 
-mul-s : tie.Need-overflow-mul-s invariant-loop decreases-loop
+mul-s : tie.Need-offset_bounds-list-i invariant-loop decreases-loop
 mul-s c = omega arith
 
-element-copy-out-s : tie.Need-element-copy-out-s invariant-loop decreases-loop
+element-copy-out-s : tie.Need-bounds-list-i invariant-loop decreases-loop
 element-copy-out-s c = omega arith
 
-write-schema-requires : tie.Need-write-schema-requires invariant-loop decreases-loop
+write-schema-requires : tie.Need-write_schema-next-requires invariant-loop decreases-loop
 write-schema-requires c κs = (search schema_fits_lem, omega arith)
 
-add-i : tie.Need-overflow-add-i invariant-loop decreases-loop
+add-i : tie.Need-overflow_add-i invariant-loop decreases-loop
 add-i c = omega arith
 
-loop-less : tie.Need-loop-smaller invariant-loop decreases-loop
+loop-less : tie.Need-loop-i-smaller invariant-loop decreases-loop
 loop-less c = omega arith
 
-loop-again : tie.Need-loop-preserved invariant-loop decreases-loop
+loop-again : tie.Need-loop-i-preserved invariant-loop decreases-loop
 loop-again c =
-    let at-loop = c.before.before.before.before.before.before in
-    (omega arith, c.before.before.write-schema.auto.0 ∙ at-loop.loop.invariant.1, search schema_written)
+    (omega arith, c.write_schema-next.auto.out ∙ c.loop-i.invariant.1, search schema_written)
 
-same_length : tie.Need-same-length invariant-loop decreases-loop
+same_length : tie.Need-shape_of-out invariant-loop decreases-loop
 same_length c = omega arith
 
 returns : tie.Need-returns invariant-loop decreases-loop
 unfolding schemas_of
-returns c = items_written schema_bytes _ _ _ _ schema_room _ _ _ c.loop-test.false c.before.loop.invariant.0 c.before.loop.invariant.2
+returns c = items_written schema_bytes _ _ _ _ schema_room _ _ _ c.loop-i-test.false c.loop-i.invariant.0 c.loop-i.invariant.2
 
-pub write-schemas-spec : {M : Type 1} → statement M
-write-schemas-spec =
+pub write_schemas_spec : {M : Type 1} → statement M
+write_schemas_spec =
     tie.close
     (tie.spec
     invariant-loop
