@@ -28,6 +28,7 @@ enough (suc r) (suc s) n h k =
 -- the digits of the tenth part, then the last
 pub decimal_more : (n : ℕ) → 10 ≤ n → decimal n ≡ decimal (n / 10) ++ ((48 + n % 10) ∷ [])
 unfolding decimal digits_within
+decimal_more zero h = elim h [ ]
 decimal_more (suc n) h = rw (le-ltb (suc n) 10 h, enough (suc n) (suc (suc n / 10)) (suc n / 10) (omega arith) (omega arith))
 
 -- one digit more for ten times the range

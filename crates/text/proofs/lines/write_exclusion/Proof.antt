@@ -4,16 +4,16 @@ use Rattle.model.specs.Text.{line_text, items}
 use Rattle.text.proofs.lines.write_exclusion.Statement.{statement}
 use Rattle.text.proofs.lines.write_exclusion.Tie as tie
 
-write-pair-requires : tie.Need-write-pair-requires
+write-pair-requires : tie.Need-write_pair-requires
 unfolding line_text items
-write-pair-requires c κs = c.before.before.requires
+write-pair-requires c κs = c.requires
 
-same_length : tie.Need-same-length
+same_length : tie.Need-shape_of-out
 same_length c = search rules
 
 returns : tie.Need-returns
 unfolding line_text items
-returns c = c.before.before.write-pair.ensures
+returns c = c.write_pair.ensures
 
-pub write-exclusion-spec : {M : Type 1} → statement M
-write-exclusion-spec = tie.close (tie.spec write-pair-requires same_length returns)
+pub write_exclusion_spec : {M : Type 1} → statement M
+write_exclusion_spec = tie.close (tie.spec write-pair-requires same_length returns)

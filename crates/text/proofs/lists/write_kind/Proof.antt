@@ -4,37 +4,37 @@ use Rattle.text.proofs.Writing.{and_then}
 use Rattle.text.proofs.lists.write_kind.Statement.{statement}
 use Rattle.text.proofs.lists.write_kind.Tie as tie
 
-letter-of-requires : tie.Need-letter-of-requires
+letter-of-requires : tie.Need-letter_of-letter-requires
 letter-of-requires c κs = search rules
 
-write-mark-requires : tie.Need-write-mark-requires
+write-mark-requires : tie.Need-write_mark-at-requires
 write-mark-requires c κs = search rules
 
-sub-write-mark : tie.Need-overflow-sub-write-mark
+sub-write-mark : tie.Need-slice_bounds-write_mark-count
 sub-write-mark c = search rules
 
-part-write-mark-start : tie.Need-slice-bounds-write-mark-start
+part-write-mark-start : tie.Need-slice_bounds-write_mark-start
 part-write-mark-start c = search rules
 
-part-write-mark-end : tie.Need-slice-bounds-write-mark-end
+part-write-mark-end : tie.Need-slice_bounds-write_mark-end
 part-write-mark-end c = search rules
 
-write-mark-requires-2 : tie.Need-write-mark-requires-2
+write-mark-requires-2 : tie.Need-write_mark-n-requires
 write-mark-requires-2 c κs = search rules
 
-add-result : tie.Need-overflow-add-result
+add-result : tie.Need-overflow_add-result
 add-result c = search rules
 
-same_length : tie.Need-same-length
+same_length : tie.Need-shape_of-out
 same_length c = search rules
 
 returns : tie.Need-returns
 returns c =
-    rw (← c.before.before.before.before.before.before.before.before.letter-of.ensures)
-    (and_then c.before.before.before.before.before.before.write-mark.ensures c.before.before.write-mark2.ensures)
+    rw (← c.letter_of-letter.ensures)
+    (and_then c.write_mark-at.ensures c.write_mark-n.ensures)
 
-pub write-kind-spec : {M : Type 1} → statement M
-write-kind-spec =
+pub write_kind_spec : {M : Type 1} → statement M
+write_kind_spec =
     tie.close
     (tie.spec letter-of-requires write-mark-requires sub-write-mark part-write-mark-start part-write-mark-end write-mark-requires-2 add-result same_length
     returns)

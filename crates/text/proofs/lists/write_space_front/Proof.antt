@@ -6,37 +6,37 @@ use Rattle.text.proofs.LineTexts.{front_parts}
 use Rattle.text.proofs.lists.write_space_front.Statement.{statement}
 use Rattle.text.proofs.lists.write_space_front.Tie as tie
 
-write-space-head-requires : tie.Need-write-space-head-requires
-write-space-head-requires c κs = first_fits (front_parts _ _ _) c.before.before.before.requires
+write-space-head-requires : tie.Need-write_space_head-at-requires
+write-space-head-requires c κs = first_fits (front_parts _ _ _) c.requires
 
-sub-write-numbers : tie.Need-overflow-sub-write-numbers
+sub-write-numbers : tie.Need-slice_bounds-write_numbers-count
 sub-write-numbers c =
     omega (
       arith,
-      rest_inside (front_parts _ _ _) c.before.before.before.before.before.before.requires
-          c.before.before.write-space-head.ensures,
+      rest_inside (front_parts _ _ _) c.requires
+          c.write_space_head-at.ensures,
     )
 
-part-write-numbers-start : tie.Need-slice-bounds-write-numbers-start
+part-write-numbers-start : tie.Need-slice_bounds-write_numbers-start
 part-write-numbers-start c = sub-write-numbers c
 
-part-write-numbers-end : tie.Need-slice-bounds-write-numbers-end
+part-write-numbers-end : tie.Need-slice_bounds-write_numbers-end
 part-write-numbers-end c = search rules
 
-write-numbers-requires : tie.Need-write-numbers-requires
+write-numbers-requires : tie.Need-write_numbers-n-requires
 write-numbers-requires c κs = search (second_fits, front_parts)
 
-same_length : tie.Need-same-length
+same_length : tie.Need-shape_of-out
 same_length c = search rules
 
 returns : tie.Need-returns
 returns c = search (both, front_parts)
 
-add-result : tie.Need-overflow-add-result
+add-result : tie.Need-overflow_add-result
 add-result c = let whole = returns c in omega arith
 
-pub write-space-front-spec : {M : Type 1} → statement M
-write-space-front-spec =
+pub write_space_front_spec : {M : Type 1} → statement M
+write_space_front_spec =
     tie.close
     (tie.spec write-space-head-requires sub-write-numbers part-write-numbers-start part-write-numbers-end write-numbers-requires
     add-result same_length returns)

@@ -6,33 +6,33 @@ use Rattle.text.proofs.LineTexts.{head_parts}
 use Rattle.text.proofs.lists.write_space_head.Statement.{statement}
 use Rattle.text.proofs.lists.write_space_head.Tie as tie
 
-write-one-requires : tie.Need-write-one-requires
-write-one-requires c κs = first_fits (head_parts _ _) c.before.before.requires
+write-one-requires : tie.Need-write_one-at-requires
+write-one-requires c κs = first_fits (head_parts _ _) c.requires
 
-sub-write-kind : tie.Need-overflow-sub-write-kind
+sub-write-kind : tie.Need-slice_bounds-write_kind-count
 sub-write-kind c =
-    omega (arith, rest_inside (head_parts _ _) c.before.before.before.before.before.requires c.before.before.write-one.ensures)
+    omega (arith, rest_inside (head_parts _ _) c.requires c.write_one-at.ensures)
 
-part-write-kind-start : tie.Need-slice-bounds-write-kind-start
+part-write-kind-start : tie.Need-slice_bounds-write_kind-start
 part-write-kind-start c = sub-write-kind c
 
-part-write-kind-end : tie.Need-slice-bounds-write-kind-end
+part-write-kind-end : tie.Need-slice_bounds-write_kind-end
 part-write-kind-end c = search rules
 
-write-kind-requires : tie.Need-write-kind-requires
+write-kind-requires : tie.Need-write_kind-n-requires
 write-kind-requires c κs = search (second_fits, head_parts)
 
-same_length : tie.Need-same-length
+same_length : tie.Need-shape_of-out
 same_length c = search rules
 
 returns : tie.Need-returns
 returns c = search (both, head_parts)
 
-add-result : tie.Need-overflow-add-result
+add-result : tie.Need-overflow_add-result
 add-result c = let whole = returns c in omega arith
 
-pub write-space-head-spec : {M : Type 1} → statement M
-write-space-head-spec =
+pub write_space_head_spec : {M : Type 1} → statement M
+write_space_head_spec =
     tie.close
     (tie.spec write-one-requires sub-write-kind part-write-kind-start part-write-kind-end write-kind-requires
     add-result same_length returns)

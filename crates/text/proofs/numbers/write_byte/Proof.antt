@@ -4,14 +4,14 @@ use borrow.Author.Rules.{rules}
 use Rattle.text.proofs.numbers.write_byte.Statement.{statement}
 use Rattle.text.proofs.numbers.write_byte.Tie as tie
 
-slice-write-out : tie.Need-slice-write-out
+slice-write-out : tie.Need-bounds-out-0
 slice-write-out c = search rules
 
-same_length : tie.Need-same-length
+same_length : tie.Need-shape_of-out
 same_length c = search rules
 
 returns : tie.Need-returns
 returns c = one_byte _ _ (search rules)
 
-pub write-byte-spec : {M : Type 1} → statement M
-write-byte-spec = tie.close (tie.spec slice-write-out same_length returns)
+pub write_byte_spec : {M : Type 1} → statement M
+write_byte_spec = tie.close (tie.spec slice-write-out same_length returns)

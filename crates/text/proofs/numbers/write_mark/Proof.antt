@@ -6,20 +6,20 @@ use Rattle.text.proofs.LineTexts.{mark_byte}
 use Rattle.text.proofs.numbers.write_mark.Statement.{statement}
 use Rattle.text.proofs.numbers.write_mark.Tie as tie
 
-write-byte-requires : tie.Need-write-byte-requires
-write-byte-requires c κs = first_fits (mark_byte _) c.before.before.requires
+write-byte-requires : tie.Need-write_byte-at-requires
+write-byte-requires c κs = first_fits (mark_byte _) c.requires
 
-slice-write-out : tie.Need-slice-write-out
-slice-write-out c = last_inside (mark_byte _) c.before.before.before.before.before.requires c.before.before.write_byte.ensures
+slice-write-out : tie.Need-bounds-out-at
+slice-write-out c = last_inside (mark_byte _) c.requires c.write_byte-at.ensures
 
-add-result : tie.Need-overflow-add-result
+add-result : tie.Need-overflow_add-result
 add-result c = omega (arith, slice-write-out c)
 
-same_length : tie.Need-same-length
+same_length : tie.Need-shape_of-out
 same_length c = search rules
 
 returns : tie.Need-returns
 returns c = search (with_last, mark_byte)
 
-pub write-mark-spec : {M : Type 1} → statement M
-write-mark-spec = tie.close (tie.spec write-byte-requires slice-write-out add-result same_length returns)
+pub write_mark_spec : {M : Type 1} → statement M
+write_mark_spec = tie.close (tie.spec write-byte-requires slice-write-out add-result same_length returns)
