@@ -14,63 +14,47 @@ use borrow.Author.Rules.{rules}
 use Rattle.closing.proofs.write_closing.Statement.{statement}
 use Rattle.closing.proofs.write_closing.Tie as tie
 
--- what is given, from the table known to be lent; this, from the front part; and that, from the `R` lines
-abbrev entry : tie.After-shared-slice-known → tie.Start
-entry c = c.before.before
-
-abbrev known : tie.After-write-front → tie.After-shared-slice-known
-known c = c.before.before.before
-
-abbrev front : tie.After-write-type-lines → tie.After-write-front
-front c = c.before.before.before.before
-
 -- there is room for the section
-room : (c : tie.After-shared-slice-known)
-    → Room (text (closing_lines (task_of (entry c).args.task) (analysis (task_of (entry c).args.task)))) (entry c).args.out.now
+room : (c : tie.After-shared_slice_known-1)
+    → Room (text (closing_lines (task_of c.args.task) (analysis (task_of c.args.task)))) c.args.out.now
 room c =
-    let s = entry c in
-    let task = s.args.task in
-    closing_fits (task_of task) (right task s.pre.0) s.args.fixed.now s.pre.1.1.0
-    (properties_few (task_of task) s.pre.0.checked) (λ i. omega (arith, c.shared-slice-known.given i)) s.args.out.now s.pre.1.1.1.1
+    let task = c.args.task in
+    closing_fits (task_of task) (right task c.requires.0) c.args.fixed.now c.requires.1.1.0
+    (properties_few (task_of task) c.requires.0.checked) (λ i. omega (arith, c.shared_slice_known-1.given i)) c.args.out.now c.requires.1.1.1.1
 
-write-front-requires : tie.Need-write-front-requires
+write-front-requires : tie.Need-write_front-front-requires
 write-front-requires c κs =
-    let s = entry c.before.before in
-    (s.pre.0, (s.pre.1.1.0, first_fits (closing_parts _) (room c.before.before)))
+    (c.requires.0, (c.requires.1.1.0, first_fits (closing_parts _) (room c.before.before)))
 
-sub-write-type-lines : tie.Need-overflow-sub-write-type-lines
+sub-write-type-lines : tie.Need-slice_bounds-write_type_lines-count
 sub-write-type-lines c =
-    let written = c.before.before in
-    rest_inside (closing_parts _) (room (known written)) written.write-front.ensures
+    rest_inside (closing_parts _) (room c.before.before.before.before.before) c.write_front-front.ensures
 
-part-write-type-lines-start : tie.Need-slice-bounds-write-type-lines-start
+part-write-type-lines-start : tie.Need-slice_bounds-write_type_lines-start
 part-write-type-lines-start c = omega (arith, sub-write-type-lines c)
 
-part-write-type-lines-end : tie.Need-slice-bounds-write-type-lines-end
+part-write-type-lines-end : tie.Need-slice_bounds-write_type_lines-end
 part-write-type-lines-end c = search rules
 
-write-type-lines-requires : tie.Need-write-type-lines-requires
+write-type-lines-requires : tie.Need-write_type_lines-types-requires
 write-type-lines-requires c κs =
-    let written = c.before.before.before in
-    let s = entry (known written) in
-    (s.pre.0, (s.pre.1.0, (s.pre.1.1.1.0, second_fits (closing_parts _) (room (known written)) written.write-front.ensures)))
+    (c.requires.0, (c.requires.1.0, (c.requires.1.1.1.0, second_fits (closing_parts _) (room c.before.before.before.before.before.before) c.write_front-front.ensures)))
 
 returns : tie.Need-returns
 returns c =
-    let typed = c.before.before in
-    both (closing_parts _) (room (known (front typed))) (front typed).write-front.ensures typed.write-type-lines.ensures
+    both (closing_parts _) (room c.before.before.before.before.before.before.before.before.before) c.write_front-front.ensures c.write_type_lines-types.ensures
 
-add-result : tie.Need-overflow-add-result
+add-result : tie.Need-overflow_add-result
 add-result c =
     let whole = returns c in
-    let fits = room (known (front c.before.before)) in
+    let fits = room c.before.before.before.before.before.before.before.before.before in
     omega arith
 
-same_length : tie.Need-same-length
-same_length c = c.before.out2.given.1 ∙ c.before.before.before.before.before.out.given
+same_length : tie.Need-shape_of-out
+same_length c = c.out-2-1.given.1 ∙ c.out-1.given
 
-pub write-closing-spec : {M : Type 1} → statement M
-write-closing-spec =
+pub write_closing_spec : {M : Type 1} → statement M
+write_closing_spec =
     tie.close
     (tie.spec
     write-front-requires

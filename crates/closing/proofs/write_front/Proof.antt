@@ -7,45 +7,35 @@ use borrow.Author.Rules.{rules}
 use Rattle.closing.proofs.write_front.Statement.{statement}
 use Rattle.closing.proofs.write_front.Tie as tie
 
--- what is given, from the `F` lines; and these, from the `C` lines
-abbrev entry : tie.After-write-totals → tie.Start
-entry c = c.before.before.before.before
+write-totals-requires : tie.Need-write_totals-at-requires
+write-totals-requires c κs = (c.requires.0, (c.requires.1.0, first_fits (front_parts _) c.requires.1.1))
 
-abbrev totals : tie.After-write-ceilings → tie.After-write-totals
-totals c = c.before.before.before.before
-
-write-totals-requires : tie.Need-write-totals-requires
-write-totals-requires c κs = let s = c.before.before.before in (s.requires.0, (s.requires.1.0, first_fits (front_parts _) s.requires.1.1))
-
-sub-write-ceilings : tie.Need-overflow-sub-write-ceilings
+sub-write-ceilings : tie.Need-slice_bounds-write_ceilings-count
 sub-write-ceilings c =
-    let written = c.before.before in
-    rest_inside (front_parts _) (entry written).requires.1.1 written.write-totals.ensures
+    rest_inside (front_parts _) c.requires.1.1 c.write_totals-at.ensures
 
-part-write-ceilings-start : tie.Need-slice-bounds-write-ceilings-start
+part-write-ceilings-start : tie.Need-slice_bounds-write_ceilings-start
 part-write-ceilings-start c = omega (arith, sub-write-ceilings c)
 
-part-write-ceilings-end : tie.Need-slice-bounds-write-ceilings-end
+part-write-ceilings-end : tie.Need-slice_bounds-write_ceilings-end
 part-write-ceilings-end c = search rules
 
-write-ceilings-requires : tie.Need-write-ceilings-requires
+write-ceilings-requires : tie.Need-write_ceilings-n-requires
 write-ceilings-requires c κs =
-    let written = c.before.before.before in
-    ((entry written).requires.0, second_fits (front_parts _) (entry written).requires.1.1 written.write-totals.ensures)
+    (c.requires.0, second_fits (front_parts _) c.requires.1.1 c.write_totals-at.ensures)
 
 returns : tie.Need-returns
 returns c =
-    let capped = c.before.before in
-    both (front_parts _) (entry (totals capped)).requires.1.1 (totals capped).write-totals.ensures capped.write-ceilings.ensures
+    both (front_parts _) c.requires.1.1 c.write_totals-at.ensures c.write_ceilings-n.ensures
 
-add-result : tie.Need-overflow-add-result
+add-result : tie.Need-overflow_add-result
 add-result c = let whole = returns c in omega arith
 
-same_length : tie.Need-same-length
-same_length c = c.before.out2.given.1 ∙ c.before.before.before.before.before.out.given
+same_length : tie.Need-shape_of-out
+same_length c = c.out-2-1.given.1 ∙ c.out-1.given
 
-pub write-front-spec : {M : Type 1} → statement M
-write-front-spec =
+pub write_front_spec : {M : Type 1} → statement M
+write_front_spec =
     tie.close
     (tie.spec
     write-totals-requires

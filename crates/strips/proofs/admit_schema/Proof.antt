@@ -13,74 +13,65 @@ use Rattle.strips.proofs.admit_schema.Statement.{statement}
 use Rattle.strips.proofs.admit_schema.Tie as tie
 
 -- earlier points of the function, each reached from the next: start, objects known, objects different, preconditions tested
-abbrev entry : tie.After-all-known → tie.Start
+abbrev entry : tie.After-all_known → tie.Start
 entry c = c.before.before.before.before.before
 
-abbrev knowing : tie.After-all-different → tie.After-all-known
-knowing c = c.before.before
-
-abbrev differing : tie.After-all-hold → tie.Else3
-differing c = c.before.before
-
-abbrev start : tie.Else3 → tie.Start
-start c = entry (knowing c.before)
+abbrev start : tie.Else-not-all_different → tie.Start
+start c = entry c.before.before.before
 
 -- the objects are known, and all different
-objects_known : (c : tie.Else2) → all (λ o. ltb o (entry c.before).args.known) (entry c.before).args.objects.now ≡ true
-objects_known c = sym c.before.all_known.ensures ∙ not-false _ c.if2.false
+objects_known : (c : tie.Else-not-all_known) → all (λ o. ltb o c.args.known) c.args.objects.now ≡ true
+objects_known c = sym c.all_known.ensures ∙ c.if-not-all_known.false
 
-different : (c : tie.Else3) → distinct (start c).args.objects.now ≡ true
-different c = sym c.before.all_different.ensures ∙ not-false _ c.if3.false
+different : (c : tie.Else-not-all_different) → distinct c.args.objects.now ≡ true
+different c = sym c.all_different.ensures ∙ c.if-not-all_different.false
 
 -- so the action is ready
-ready : (c : tie.Else3)
-    → ActionReady (start c).args.arities.now (start c).args.objects.now (start c).args.schema (start c).args.state.now (start c).args.count
+ready : (c : tie.Else-not-all_different)
+    → ActionReady c.args.arities.now c.args.objects.now c.args.schema c.args.state.now c.args.count
 ready c = record {
-  known_objects = (start c).args.known;
-  state = (start c).requires.0;
-  schema_kept = (start c).requires.1;
-  one_for_each = (knowing c.before).before.if1.false;
+  known_objects = c.args.known;
+  state = c.requires.0;
+  schema_kept = c.requires.1;
+  one_for_each = c.if-objects-parameters.false;
   objects_known = objects_known c.before.before;
   different = different c;
 }
 
-returns : tie.Need-returns
+returns : tie.Need-returns-then-objects-parameters
 unfolding schema_of
-returns c = wrong_number c.before.before.before.before.args.known _ _ _ _ c.if1.true
+returns c = wrong_number c.args.known _ _ _ _ c.if-objects-parameters.true
 
-all-known-requires : tie.Need-all-known-requires
+all-known-requires : tie.Need-all_known-requires
 all-known-requires c κs = search rules
 
-returns-2 : tie.Need-returns-2
-returns-2 c = unknown_object (entry c.before).args.known _ _ _ _ (sym c.before.all_known.ensures ∙ not-true _ c.if2.true)
+returns-2 : tie.Need-returns-then-not-all_known
+returns-2 c = unknown_object c.args.known _ _ _ _ (sym c.all_known.ensures ∙ c.if-not-all_known.true)
 
-all-different-requires : tie.Need-all-different-requires
+all-different-requires : tie.Need-all_different-requires
 all-different-requires c κs = search rules
 
-returns-3 : tie.Need-returns-3
+returns-3 : tie.Need-returns-then-not-all_different
 unfolding schema_of
 returns-3 c =
-    let tested = c.before in
-    object_repeated (entry (knowing tested)).args.known _ _ _ _ (knowing tested).before.if1.false (objects_known tested.before)
-    (sym tested.all_different.ensures ∙ not-true _ c.if3.true)
+    object_repeated c.args.known _ _ _ _ c.if-objects-parameters.false (objects_known c.before.before)
+    (sym c.all_different.ensures ∙ c.if-not-all_different.true)
 
-all-hold-requires : tie.Need-all-hold-requires
-all-hold-requires c κs = (preconditions_bound (ready c.before), rows_ascend (start c.before).requires.0)
+all-hold-requires : tie.Need-all_hold-requires
+all-hold-requires c κs = (preconditions_bound (ready c.before), rows_ascend c.requires.0)
 
-returns-4 : tie.Need-returns-4
+returns-4 : tie.Need-returns-then-not-all_hold
 unfolding schema_of
 returns-4 c =
-    let passed = differing c.before in
-    precondition_missing (start passed).args.known _ _ _ _ (ready passed).one_for_each (objects_known passed.before.before) (different passed)
-    (sym (test_says (ready passed) c.before.all_hold.ensures) ∙ not-true _ c.if4.true)
+    precondition_missing c.args.known _ _ _ _ (ready c.before.before.before).one_for_each (objects_known c.before.before.before.before.before) (different c.before.before.before)
+    (sym (test_says (ready c.before.before.before) c.all_hold.ensures) ∙ c.if-not-all_hold.true)
 
-returns-5 : tie.Need-returns-5
+returns-5 : tie.Need-returns
 unfolding schema_of
 returns-5 c =
-    let passed = differing c.before in
-    schema_admitted (start passed).args.known _ _ _ _ (ready passed).one_for_each (objects_known passed.before.before) (different passed)
-    (sym (test_says (ready passed) c.before.all_hold.ensures) ∙ not-false _ c.if4.false)
+    schema_admitted c.args.known _ _ _ _ (ready c.before.before.before).one_for_each (objects_known c.before.before.before.before.before) (different c.before.before.before)
+    (sym (test_says (ready c.before.before.before) c.all_hold.ensures) ∙ c.if-not-all_hold.false)
 
-pub admit-schema-spec : {M : Type 1} → statement M
-admit-schema-spec =
+pub admit_schema_spec : {M : Type 1} → statement M
+admit_schema_spec =
     tie.close (tie.spec returns all-known-requires returns-2 all-different-requires returns-3 all-hold-requires returns-4 returns-5)

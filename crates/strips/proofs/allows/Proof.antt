@@ -9,50 +9,40 @@ use Rattle.strips.proofs.Applying.{state_formed, rows_ascend, preconditions_boun
 use Rattle.strips.proofs.allows.Statement.{statement}
 use Rattle.strips.proofs.allows.Tie as tie
 
--- earlier points of the function, each reached from the next: start, preconditions tested, preconditions hold
-abbrev entry : tie.After-all-hold → tie.Start
-entry c = c.before.before.before.before.before
-
-abbrev holding : tie.After-struct-known2 → tie.Else1
-holding c = c.before.before.before.before
-
-all-hold-requires : tie.Need-all-hold-requires
+all-hold-requires : tie.Need-all_hold-requires
 all-hold-requires c κs =
-    let pre = c.before.before.before.before.requires in
+    let pre = c.requires in
     (preconditions_bound pre, rows_ascend pre.state)
 
-returns : tie.Need-returns
+returns : tie.Need-returns-then-not-all_hold
 returns c =
-    let tested = c.before in
-    let pre = (entry tested).requires in
-    missing_closes pre (sym (test_says pre tested.all_hold.ensures) ∙ not-true _ c.if1.true)
+    let pre = c.requires in
+    missing_closes pre (sym (test_says pre c.all_hold.ensures) ∙ c.if-not-all_hold.true)
 
 -- every precondition holds
-all_held : (c : tie.Else1)
-    → applicable (schema_of (entry c.before).args.arities.now (entry c.before).args.schema) (entry c.before).args.objects.now
-    (facts_in (entry c.before).args.arities.now (entry c.before).args.count (entry c.before).args.state.now) ≡ true
-all_held c = sym (test_says (entry c.before).requires c.before.all_hold.ensures) ∙ not-false _ c.if1.false
+all_held : (c : tie.Else-not-all_hold)
+    → applicable (schema_of c.args.arities.now c.args.schema) c.args.objects.now
+    (facts_in c.args.arities.now c.args.count c.args.state.now) ≡ true
+all_held c = sym (test_says c.requires c.all_hold.ensures) ∙ c.if-not-all_hold.false
 
-add-room : tie.Need-overflow-add-room
-add-room c = let few = (entry c.before.before.before).requires.schema_kept.deletes.few in omega arith
+add-room : tie.Need-overflow_add-room
+add-room c = let few = c.requires.schema_kept.deletes.few in omega arith
 
-sub-room : tie.Need-overflow-sub-room
-sub-room c = let few = (state_formed (entry c.before.before.before).requires.state).count_fits in omega arith
+sub-room : tie.Need-overflow_sub-room
+sub-room c = let few = (state_formed c.requires.state).count_fits in omega arith
 
-returns-2 : tie.Need-returns-2
+returns-2 : tie.Need-returns-then-adds-room
 returns-2 c =
-    let held = holding c.before in
-    adds_fit (entry held.before).requires (all_held held) c.if2.true
+    adds_fit c.requires (all_held c.before.before.before.before.before) c.if-adds-room.true
 
-missing-facts-requires : tie.Need-missing-facts-requires
+missing-facts-requires : tie.Need-missing_facts-requires
 missing-facts-requires c κs =
-    let pre = (entry (holding c.before).before).requires in
+    let pre = c.requires in
     (adds_bound pre, rows_ascend pre.state)
 
-returns-3 : tie.Need-returns-3
+returns-3 : tie.Need-returns
 returns-3 c =
-    let held = holding c.before.before in
-    missing_decides (entry held.before).requires (all_held held) c.missing-facts.ensures
+    missing_decides c.requires (all_held c.before.before.before.before.before.before) c.missing_facts.ensures
 
-pub allows-spec : {M : Type 1} → statement M
-allows-spec = tie.close (tie.spec all-hold-requires returns add-room sub-room returns-2 missing-facts-requires returns-3)
+pub allows_spec : {M : Type 1} → statement M
+allows_spec = tie.close (tie.spec all-hold-requires returns add-room sub-room returns-2 missing-facts-requires returns-3)

@@ -6,40 +6,33 @@ use Rattle.strips.proofs.Calling.{card_refused, card_accepted}
 use Rattle.strips.proofs.initial.Statement.{statement}
 use Rattle.strips.proofs.initial.Tie as tie
 
--- what the card reader answers, from its word that the card is accepted
-abbrev reading : tie.After-enum-told → tie.After-decode
-reading c = c.before.before.before
-
-decode-requires : tie.Need-decode-requires
+decode-requires : tie.Need-decode-decoded-requires
 decode-requires c κs = search rules
 
-enum-known-verdict : tie.Need-enum-known-verdict
+enum-known-verdict : tie.Need-enum_known-verdict
 enum-known-verdict c = search rules
 
-enum_told : tie.Need-enum-told
+enum_told : tie.Need-enum_told-1
 enum_told c = search rules
 
-open-task-requires : tie.Need-open-task-requires
+open-task-requires : tie.Need-open_task-requires
 open-task-requires c κs =
-    let accepted = c.before in
-    represented _ _ (reading accepted).decode.ensures accepted.enum_told.given.1
+    represented _ _ c.decode-decoded.ensures c.in-Accepted.is
 
-returns : tie.Need-returns
+returns : tie.Need-returns-in-Refused
 unfolding initial
 returns c =
-    let refused = c.before in
-    card_refused refused.before.before.before.decode.ensures _ _ refused.verdict.given.1
+    card_refused c.decode-decoded.ensures _ _ c.in-Refused.is
 
-same_length : tie.Need-same-length
+same_length : tie.Need-shape_of-state
 same_length c = search rules
 
-returns-2 : tie.Need-returns-2
+returns-2 : tie.Need-returns-in-Accepted
 unfolding initial
 returns-2 c =
-    let accepted = c.before.before.before.before in
-    card_accepted (reading accepted).decode.ensures _ _ accepted.enum_told.given.1 c.before.before.open-task.ensures
+    card_accepted c.decode-decoded.ensures _ _ c.in-Accepted.is c.open_task.ensures
 
-pub initial-spec : {M : Type 1} → statement M
-initial-spec =
+pub initial_spec : {M : Type 1} → statement M
+initial_spec =
     tie.close
     (tie.spec decode-requires enum-known-verdict enum_told open-task-requires returns same_length returns-2)

@@ -14,16 +14,6 @@ use Rattle.strips.proofs.Numbers.{few_out, few_in, kept_within, kept_numbers, be
 use Rattle.strips.proofs.next_numbers.Statement.{statement}
 use Rattle.strips.proofs.next_numbers.Tie as tie
 
--- earlier points of the function, each reached from the next: start, facts taken out, numbers left, facts put in
-abbrev entry : tie.After-taken-out → tie.Start
-entry c = c.before.before.before.before
-
-abbrev taking : tie.After-remove-all → tie.After-taken-out
-taking c = c.before.before.before.before.before
-
-abbrev removing : tie.After-put-in → tie.After-remove-all
-removing c = c.before.before.before
-
 -- the facts that go, and those that come
 abbrev out : tie.Start → List Atom
 out s = taken_out (schema_of s.args.arities.now s.args.schema) s.args.objects.now
@@ -32,73 +22,67 @@ abbrev new : tie.Start → List Atom
 new s = put_in (schema_of s.args.arities.now s.args.schema) s.args.objects.now
 
 -- what goes
-gone : (c : tie.After-remove-all)
-    → Becomes (without_all (map fact_number (out (entry (taking c)))) (take (entry (taking c)).args.count (entry (taking c)).args.numbers.now))
-    (entry (taking c)).args.numbers.now c.remove-all.new.0 c.remove-all.result
+gone : (c : tie.After-remove_all-left)
+    → Becomes (without_all (map fact_number (out c.before.before.before.before.before.before.before.before)) (take c.args.count c.args.numbers.now))
+    c.args.numbers.now c.remove_all-left.new.numbers c.remove_all-left.result
 gone c =
-    rw (kept_numbers (out (entry (taking c))) (taking c).taken_out.ensures (few_out _ (entry (taking c)).requires.deletes)) at c.remove-all.ensures
+    rw (kept_numbers (out c.before.before.before.before.before.before.before.before) c.taken_out-out.ensures (few_out _ c.requires.deletes)) at c.remove_all-left.ensures
 
 -- what comes
-come : (c : tie.After-put-in)
-    → take (c.put_in.result.count - 0) c.put_in.result.numbers ≡ map fact_number (new (entry (taking (removing c))))
-come c = kept_numbers _ c.put_in.ensures (few_in _ (entry (taking (removing c))).requires.adds)
+come : (c : tie.After-put_in-new)
+    → take (c.put_in-new.result.count - 0) c.put_in-new.result.numbers ≡ map fact_number (new c.before.before.before.before.before.before.before.before.before.before.before)
+come c = kept_numbers _ c.put_in-new.ensures (few_in _ c.requires.adds)
 
-taken-out-requires : tie.Need-taken-out-requires
+taken-out-requires : tie.Need-taken_out-out-requires
 taken-out-requires c κs = search rules
 
-sub-remove-all : tie.Need-overflow-sub-remove-all
+sub-remove-all : tie.Need-slice_bounds-remove_all-count
 sub-remove-all c = search rules
 
-part-remove-all-start : tie.Need-slice-bounds-remove-all-start
+part-remove-all-start : tie.Need-slice_bounds-remove_all-start
 part-remove-all-start c = search rules
 
-part-remove-all-end : tie.Need-slice-bounds-remove-all-end
+part-remove-all-end : tie.Need-slice_bounds-remove_all-end
 part-remove-all-end c =
-    let taken = c.before.before.before in
-    kept_within (out (entry taken)) taken.taken_out.ensures (few_out _ (entry taken).requires.deletes)
+    kept_within (out c.before.before.before.before.before.before) c.taken_out-out.ensures (few_out _ c.requires.deletes)
 
-remove-all-requires : tie.Need-remove-all-requires
-remove-all-requires c κs = (entry c.before.before.before.before).requires.set
+remove-all-requires : tie.Need-remove_all-left-requires
+remove-all-requires c κs = c.requires.set
 
-put-in-requires : tie.Need-put-in-requires
+put-in-requires : tie.Need-put_in-new-requires
 put-in-requires c κs = search rules
 
-sub-insert-all : tie.Need-overflow-sub-insert-all
+sub-insert-all : tie.Need-slice_bounds-insert_all-count
 sub-insert-all c = search rules
 
-part-insert-all-start : tie.Need-slice-bounds-insert-all-start
+part-insert-all-start : tie.Need-slice_bounds-insert_all-start
 part-insert-all-start c = search rules
 
-part-insert-all-end : tie.Need-slice-bounds-insert-all-end
+part-insert-all-end : tie.Need-slice_bounds-insert_all-end
 part-insert-all-end c =
-    let put = c.before.before.before in
-    kept_within (new (entry (taking (removing put)))) put.put_in.ensures (few_in _ (entry (taking (removing put))).requires.adds)
+    kept_within (new c.before.before.before.before.before.before.before.before.before.before.before.before.before) c.put_in-new.ensures (few_in _ c.requires.adds)
 
-insert-all-requires : tie.Need-insert-all-requires
+insert-all-requires : tie.Need-insert_all-requires
 insert-all-requires c κs =
-    let put = c.before.before.before.before in
-    let start = entry (taking (removing put)) in
-    let left = gone (removing put) in
-    let few = few_in start.args.schema start.pre.adds in
-    let fewer = between_few start.pre left in
-    let same = between_length start.pre left in
-    let size = ap length (come put) in
-    let count = length-map (new start) fact_number in
-    let room = start.pre.room in
-    (omega arith, between_set start.pre left)
+    let left = gone c.before.before.before.before.before.before in
+    let few = few_in c.args.schema c.requires.adds in
+    let fewer = between_few c.requires left in
+    let same = between_length c.requires left in
+    let size = ap length (come c.before.before.before) in
+    let count = length-map (new c.before.before.before.before.before.before.before.before.before.before.before.before.before.before) fact_number in
+    let room = c.requires.room in
+    (omega arith, between_set c.requires left)
 
-same_length : tie.Need-same-length
+same_length : tie.Need-shape_of-numbers
 same_length c = search rules
 
 returns : tie.Need-returns
 returns c =
-    let inserted = c.before.before in
-    let put = inserted.before.before.before.before.before in
-    next_becomes (entry (taking (removing put))).requires (gone (removing put))
-    (rw (come put) at inserted.insert_all.ensures)
+    next_becomes c.requires (gone c.before.before.before.before.before.before.before.before.before)
+    (rw (come c.before.before.before.before.before.before) at c.insert_all.ensures)
 
-pub next-numbers-spec : {M : Type 1} → statement M
-next-numbers-spec =
+pub next_numbers_spec : {M : Type 1} → statement M
+next_numbers_spec =
     tie.close
     (tie.spec taken-out-requires sub-remove-all part-remove-all-start part-remove-all-end remove-all-requires put-in-requires sub-insert-all
     part-insert-all-start part-insert-all-end insert-all-requires same_length returns)

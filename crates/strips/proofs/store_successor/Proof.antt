@@ -5,58 +5,46 @@ use Rattle.strips.proofs.Applying.{state_formed, next_ready, next_stored, next_w
 use Rattle.strips.proofs.store_successor.Statement.{statement}
 use Rattle.strips.proofs.store_successor.Tie as tie
 
--- earlier points of the function, each reached from the next: start, numbers loaded, next numbers
-abbrev entry : tie.After-load → tie.Start
-entry c = c.before.before.before.before.before.before
-
-abbrev loading : tie.After-next-numbers → tie.After-load
-loading c = c.before.before.before
-
-slice-aggregate-load : tie.Need-slice-aggregate-load
+slice-aggregate-load : tie.Need-slice_bounds-load-end
 slice-aggregate-load c = search rules
 
 load-requires : tie.Need-load-requires
 load-requires c κs =
-    let formed = state_formed c.before.before.before.before.before.requires.state in
+    let formed = state_formed c.requires.state in
     let few = formed.count_fits in
     let room = formed.room in
     (omega arith, omega arith)
 
-slice-aggregate-next-numbers : tie.Need-slice-aggregate-next-numbers
+slice-aggregate-next-numbers : tie.Need-slice_bounds-next_numbers-end
 slice-aggregate-next-numbers c = search rules
 
-next-numbers-requires : tie.Need-next-numbers-requires
+next-numbers-requires : tie.Need-next_numbers-next-requires
 next-numbers-requires c κs =
-    let loaded = c.before.before in
-    next_ready (entry loaded).requires loaded.load.ensures
+    next_ready c.requires c.load.ensures
 
-sub-store-next : tie.Need-overflow-sub-store-next
+sub-store-next : tie.Need-slice_bounds-store_next-count
 sub-store-next c = search rules
 
-part-store-next-start : tie.Need-slice-bounds-store-next-start
+part-store-next-start : tie.Need-slice_bounds-store_next-start
 part-store-next-start c = search rules
 
-part-store-next-end : tie.Need-slice-bounds-store-next-end
+part-store-next-end : tie.Need-slice_bounds-store_next-end
 part-store-next-end c =
-    let made = c.before.before.before in
-    let loaded = loading made in
-    next_within (entry loaded).pre loaded.load.ensures made.next_numbers_lem.ensures
+    next_within c.requires c.load.ensures c.next_numbers-next.ensures
 
-store-next-requires : tie.Need-store-next-requires
-store-next-requires c κs = (state_formed (entry (loading c.before.before.before.before)).requires.state).room
+store-next-requires : tie.Need-store_next-requires
+store-next-requires c κs = (state_formed c.requires.state).room
 
-same_length : tie.Need-same-length
+same_length : tie.Need-shape_of-state
 same_length c = search rules
 
 returns : tie.Need-returns
 returns c =
-    let made = c.before.before.before.before.before.before.before in
-    let loaded = loading made in
-    let pre = (entry loaded).pre in
-    next_replaced pre (next_stored pre loaded.load.ensures made.next_numbers_lem.ensures) c.before.before.store_next.ensures
+    let pre = c.requires in
+    next_replaced pre (next_stored pre c.load.ensures c.next_numbers-next.ensures) c.store_next.ensures
 
-pub store-successor-spec : {M : Type 1} → statement M
-store-successor-spec =
+pub store_successor_spec : {M : Type 1} → statement M
+store_successor_spec =
     tie.close
     (tie.spec slice-aggregate-load load-requires slice-aggregate-next-numbers next-numbers-requires sub-store-next part-store-next-start
     part-store-next-end store-next-requires same_length returns)

@@ -13,49 +13,48 @@ use Rattle.closing.proofs.Tallying.{Tally, tally_start, tally_passes, tally_fail
 use Rattle.closing.proofs.ceilings.count_of.Statement.{statement}
 use Rattle.closing.proofs.ceilings.count_of.Tie as tie
 
-abbrev invariant-loop : tie.invariant-loop
+abbrev invariant-loop : tie.invariant-loop-i
 invariant-loop p list count n₀ i₀ n i = Tally (λ a. eqb p a.predicate) list.count blank_atom list.atoms n i
 
-abbrev decreases-loop : tie.decreases-loop
+abbrev decreases-loop : tie.decreases-loop-i
 decreases-loop p list count n₀ i₀ n i = count - i
 
-loop-holds : tie.Need-loop-init invariant-loop decreases-loop
+loop-holds : tie.Need-loop-i-init invariant-loop decreases-loop
 loop-holds c = tally_start
 
-mul-a : tie.Need-overflow-mul-a invariant-loop decreases-loop
+mul-a : tie.Need-offset_bounds-list-i invariant-loop decreases-loop
 mul-a c = omega arith
 
-element-copy-out-a : tie.Need-element-copy-out-a invariant-loop decreases-loop
+element-copy-out-a : tie.Need-bounds-list-i invariant-loop decreases-loop
 element-copy-out-a c = omega arith
 
-add-n : tie.Need-overflow-add-n invariant-loop decreases-loop
+add-n : tie.Need-overflow_add-n invariant-loop decreases-loop
 add-n c = omega arith
 
-add-i : tie.Need-overflow-add-i invariant-loop decreases-loop
+add-i : tie.Need-overflow_step-i invariant-loop decreases-loop
 add-i c = omega arith
 
-loop-less : tie.Need-loop-smaller invariant-loop decreases-loop
-loop-less c = less_left c.before.before.before.loop-test.true
+loop-less : tie.Need-loop-i-smaller invariant-loop decreases-loop
+loop-less c = less_left c.loop-i-test.true
 
-loop-again : tie.Need-loop-preserved invariant-loop decreases-loop
+loop-again : tie.Need-loop-i-preserved invariant-loop decreases-loop
 unfolding blank_atom
 loop-again c =
-    let head = c.before.before.before.before in
     ⊎_elim
-    (λ w. tally_passes head.loop.invariant c.before.before.before.loop-test.true
-    (eq-eqb _ _ (sym w.0.taken)) w.1)
-    (λ w. tally_fails head.loop.invariant c.before.before.before.loop-test.true
-    (ne_eqb _ _ (λ e. w.0.left (sym e))) w.1)
-    c.if1.branch
+    (λ w. tally_passes c.loop-i.invariant c.loop-i-test.true
+    (eq-eqb _ _ (sym w.if-a-p.true)) w.n-is)
+    (λ w. tally_fails c.loop-i.invariant c.loop-i-test.true
+    (ne_eqb _ _ (λ e. w.if-a-p.false (sym e))) w.n-is)
+    c.if-a-p.branch-raw
 
 returns : tie.Need-returns invariant-loop decreases-loop
 unfolding of_predicate atoms_of atom_of
 returns c arities =
-    tally_end c.before.loop.invariant c.loop-test.false ∙ sym
+    tally_end c.loop-i.invariant c.loop-i-test.false ∙ sym
     (count_map (λ a. eqb _ a.predicate) (atom_of arities) _)
 
-pub count-of-spec : {M : Type 1} → statement M
-count-of-spec =
+pub count_of_spec : {M : Type 1} → statement M
+count_of_spec =
     tie.close
     (tie.spec
     invariant-loop

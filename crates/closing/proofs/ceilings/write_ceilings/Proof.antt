@@ -22,118 +22,108 @@ use Rattle.closing.proofs.Parts.{schemas_fit, facts_fit}
 use Rattle.closing.proofs.ceilings.write_ceilings.Statement.{statement}
 use Rattle.closing.proofs.ceilings.write_ceilings.Tie as tie
 
-abbrev invariant-loop : tie.invariant-loop
+abbrev invariant-loop : tie.invariant-loop-p
 invariant-loop out₀ task capped counts at₀ p₀ out at p =
     Remains (text (flat_map (ceilings (task_of task)) (up_to (length (task_of task).arities))))
     (lines_left (ceilings (task_of task)) task.predicates.count p) out₀ out at
     × (p ≤ task.predicates.count)
 
-abbrev decreases-loop : tie.decreases-loop
+abbrev decreases-loop : tie.decreases-loop-p
 decreases-loop out₀ task capped counts at₀ p₀ out at p = task.predicates.count - p
 
--- earlier points of the function, each reached from the next: start, facts counted, a predicate's turn
-abbrev entry : tie.After-fact-counts invariant-loop decreases-loop → tie.Start invariant-loop decreases-loop
-entry c = c.before.before.before
-
-abbrev counted : tie.Then1 invariant-loop decreases-loop → tie.After-fact-counts invariant-loop decreases-loop
-counted c = c.before.before.before
-
-abbrev turn : tie.After-write-ceiling-arg invariant-loop decreases-loop → tie.Then1 invariant-loop decreases-loop
+abbrev turn : tie.After-write_ceiling-arg-1 invariant-loop decreases-loop → tie.In-loop-p invariant-loop decreases-loop
 turn c = c.before.before
 
-few : (c : tie.Then1 invariant-loop decreases-loop) → c.before.before.loop.p < 20
-few c = omega (arith, c.if1.true, predicates_few _ (entry (counted c)).pre.0)
+few : (c : tie.In-loop-p invariant-loop decreases-loop) → c.loop-p.p < 20
+few c = omega (arith, c.loop-p-test.true, predicates_few _ c.requires.0)
 
 -- the line of the predicate whose turn it is, if it is capped
-line : (c : tie.After-write-ceiling-arg invariant-loop decreases-loop)
-    → ceilings (task_of (entry (counted (turn c))).args.task) (turn c).before.before.loop.p
-    ≡ ceiling (turn c).before.before.loop.p (get_or (counted (turn c)).fact-counts.result (turn c).before.before.loop.p 0) ∷ []
+line : (c : tie.After-write_ceiling-arg-1 invariant-loop decreases-loop)
+    → ceilings (task_of c.args.task) c.loop-p.p
+    ≡ ceiling c.loop-p.p (get_or c.fact_counts-counts.result c.loop-p.p 0) ∷ []
 line c =
-    let p = (turn c).before.before.loop.p in
-    capped_line _ p ((counted (turn c)).before.capped-predicates.ensures p (turn c).if1.true) (not-false _ c.before.if2.false)
-    ((counted (turn c)).fact-counts.ensures p (few (turn c)))
+    let p = c.loop-p.p in
+    capped_line _ p (c.capped_predicates-capped.ensures p c.loop-p-test.true) (c.if-not-capped-predicate.false)
+    (c.fact_counts-counts.ensures p (few c.before.before))
 
-capped-predicates-requires : tie.Need-capped-predicates-requires invariant-loop decreases-loop
-capped-predicates-requires c κs = let r = c.before.requires.0 in (schemas_fit _ r, predicates_few _ r)
+capped-predicates-requires : tie.Need-capped_predicates-capped-requires invariant-loop decreases-loop
+capped-predicates-requires c κs = let r = c.requires.0 in (schemas_fit _ r, predicates_few _ r)
 
-fact-counts-requires : tie.Need-fact-counts-requires invariant-loop decreases-loop
-fact-counts-requires c κs = facts_fit _ c.before.before.requires.0
+fact-counts-requires : tie.Need-fact_counts-counts-requires invariant-loop decreases-loop
+fact-counts-requires c κs = facts_fit _ c.requires.0
 
-loop-holds : tie.Need-loop-init invariant-loop decreases-loop
+loop-holds : tie.Need-loop-p-init invariant-loop decreases-loop
 loop-holds c =
-    let s = entry c in
-    (remains_as (rw (← predicate_count s.args.task s.pre.0) (lines_start _ _)) (start s.pre.1), omega arith)
+    (remains_as (rw (← predicate_count c.args.task c.requires.0) (lines_start _ _)) (start c.requires.1), omega arith)
 
-add-p : tie.Need-overflow-add-p invariant-loop decreases-loop
+add-p : tie.Need-overflow_add-p invariant-loop decreases-loop
 add-p c = omega (arith, few c)
 
-array-read-if2 : tie.Need-array-read-if2 invariant-loop decreases-loop
+array-read-if2 : tie.Need-bounds-capped-predicate invariant-loop decreases-loop
 array-read-if2 c = few c
 
-loop-less : tie.Need-loop-smaller invariant-loop decreases-loop
-loop-less c = less_left c.before.if1.true
+loop-less : tie.Need-loop-p-smaller-then-not-capped-predicate invariant-loop decreases-loop
+loop-less c = less_left c.loop-p-test.true
 
-loop-again : tie.Need-loop-preserved invariant-loop decreases-loop
+loop-again : tie.Need-loop-p-preserved-then-not-capped-predicate invariant-loop decreases-loop
 loop-again c =
-    let l = c.before.before.before.loop in
-    let told = (counted c.before).before.capped-predicates.ensures l.p c.before.if1.true in (
-      remains_as (no_line _ _ l.p c.before.if1.true (uncapped _ l.p told (not-true _ c.if2.true))) l.invariant.0,
-      one_more c.before.if1.true,
+    let l = c.loop-p in
+    let told = c.capped_predicates-capped.ensures l.p c.loop-p-test.true in (
+      remains_as (no_line _ _ l.p c.loop-p-test.true (uncapped _ l.p told (c.if-not-capped-predicate.true))) l.invariant.0,
+      one_more c.loop-p-test.true,
     )
 
-sub-write-ceiling : tie.Need-overflow-sub-write-ceiling invariant-loop decreases-loop
-sub-write-ceiling c = remains_within c.before.before.before.loop.invariant.0
+sub-write-ceiling : tie.Need-slice_bounds-write_ceiling-count invariant-loop decreases-loop
+sub-write-ceiling c = remains_within c.loop-p.invariant.0
 
-part-write-ceiling-start : tie.Need-slice-bounds-write-ceiling-start invariant-loop decreases-loop
-part-write-ceiling-start c = remains_within c.before.before.before.loop.invariant.0
+part-write-ceiling-start : tie.Need-slice_bounds-write_ceiling-start invariant-loop decreases-loop
+part-write-ceiling-start c = remains_within c.loop-p.invariant.0
 
-part-write-ceiling-end : tie.Need-slice-bounds-write-ceiling-end invariant-loop decreases-loop
+part-write-ceiling-end : tie.Need-slice_bounds-write_ceiling-end invariant-loop decreases-loop
 part-write-ceiling-end c = le_refl _
 
-mul-write-ceiling : tie.Need-overflow-mul-write-ceiling invariant-loop decreases-loop
-mul-write-ceiling c = omega (arith, few (turn c))
+mul-write-ceiling : tie.Need-offset_bounds-counts-predicate invariant-loop decreases-loop
+mul-write-ceiling c = omega (arith, few c.before.before)
 
-array-read-write-ceiling : tie.Need-array-read-write-ceiling invariant-loop decreases-loop
-array-read-write-ceiling c = few (turn c)
+array-read-write-ceiling : tie.Need-bounds-counts-predicate invariant-loop decreases-loop
+array-read-write-ceiling c = few c.before.before
 
-cast-write-ceiling : tie.Need-overflow-cast-write-ceiling invariant-loop decreases-loop
+cast-write-ceiling : tie.Need-overflow_cast-counts invariant-loop decreases-loop
 unfolding of_predicate
 cast-write-ceiling c =
-    let s = entry (counted (turn c)) in
     omega (
       arith,
-      (counted (turn c)).fact-counts.ensures _ (few (turn c)) [],
-      count_most (λ a. eqb (turn c).before.before.loop.p a.predicate) (facts_of [] s.args.task.facts),
-      length_facts [] s.args.task.facts,
-      facts_few _ s.pre.0,
+      c.fact_counts-counts.ensures _ (few c.before.before) [],
+      count_most (λ a. eqb c.loop-p.p a.predicate) (facts_of [] c.args.task.facts),
+      length_facts [] c.args.task.facts,
+      facts_few _ c.requires.0,
     )
 
-write-ceiling-requires : tie.Need-write-ceiling-requires invariant-loop decreases-loop
+write-ceiling-requires : tie.Need-write_ceiling-n-requires invariant-loop decreases-loop
 write-ceiling-requires c κs =
-    let l = (turn c).before.before.loop in next_fits l.inv.0 (line_next _ _ l.p (turn c).if1.true (line c))
+    let l = c.loop-p in next_fits l.invariant.0 (line_next _ _ l.p c.loop-p-test.true (line c))
 
-loop-less-2 : tie.Need-loop-smaller-2 invariant-loop decreases-loop
-loop-less-2 c = less_left (turn c.before.before.before).if1.taken
+loop-less-2 : tie.Need-loop-p-smaller invariant-loop decreases-loop
+loop-less-2 c = less_left c.loop-p-test.true
 
-loop-again-2 : tie.Need-loop-preserved-2 invariant-loop decreases-loop
+loop-again-2 : tie.Need-loop-p-preserved invariant-loop decreases-loop
 loop-again-2 c =
-    let asked = c.before.before.before in
-    let l = (turn asked).before.before.loop in (
-      next l.inv.0 (line_next _ _ l.p (turn asked).if1.true (line asked)) c.before.before.write-ceiling.ensures,
-      one_more (turn asked).if1.true,
+    let l = c.loop-p in (
+      next l.invariant.0 (line_next _ _ l.p c.loop-p-test.true (line c.before.before.before)) c.write_ceiling-n.ensures,
+      one_more c.loop-p-test.true,
     )
 
-add_at : tie.Need-overflow-add-at invariant-loop decreases-loop
+add_at : tie.Need-overflow_add-at invariant-loop decreases-loop
 add_at c = let r = (loop-again-2 c).0 in omega arith
 
-same_length : tie.Need-same-length invariant-loop decreases-loop
-same_length c = c.before.before.loop.invariant.0.kept
+same_length : tie.Need-shape_of-out invariant-loop decreases-loop
+same_length c = c.loop-p.invariant.0.kept
 
 returns : tie.Need-returns invariant-loop decreases-loop
-returns c = finish c.before.before.loop.invariant.0 (lines_end _ _ _ c.if1.false)
+returns c = finish c.loop-p.invariant.0 (lines_end _ _ _ c.loop-p-test.false)
 
-pub write-ceilings-spec : {M : Type 1} → statement M
-write-ceilings-spec =
+pub write_ceilings_spec : {M : Type 1} → statement M
+write_ceilings_spec =
     tie.close
     (tie.spec
     invariant-loop

@@ -25,14 +25,14 @@ use borrow.Author.Rules.{rules}
 use Rattle.closing.proofs.fixed.write_totals.Statement.{statement}
 use Rattle.closing.proofs.fixed.write_totals.Tie as tie
 
-abbrev invariant-loop : tie.invariant-loop
+abbrev invariant-loop : tie.invariant-loop-p
 invariant-loop out₀ fixed predicates at₀ first₀ p₀ out at first p =
     Remains (text (flat_map (total_found (arities_of predicates) fixed) (up_to predicates.count)))
     (lines_left (total_found (arities_of predicates) fixed) predicates.count p) out₀ out at
     × (p ≤ predicates.count)
     × (first ≡ sum (take p (arities_of predicates)))
 
-abbrev decreases-loop : tie.decreases-loop
+abbrev decreases-loop : tie.decreases-loop-p
 decreases-loop out₀ fixed predicates at₀ first₀ p₀ out at first p = predicates.count - p
 
 -- the lines are those found in the table
@@ -45,31 +45,21 @@ found s =
     ap text (totals_found (task_of task) s.args.fixed.now s.requires.1.0 (properties_few (task_of task) s.requires.0.checked))
     ∙ ap (λ (n : ℕ). text (flat_map (total_found (arities_of task.predicates) s.args.fixed.now) (up_to n))) (sym (predicate_count task s.requires.0))
 
--- what is given, from the loop on; the loop, from the predicate's total; and this, from its line
-abbrev entry : tie.At-loop invariant-loop decreases-loop → tie.Start invariant-loop decreases-loop
-entry c = c.before.before.before.before
-
-abbrev in_loop : tie.After-total-of invariant-loop decreases-loop → tie.In-loop invariant-loop decreases-loop
-in_loop c = c.before.before
-
-abbrev asked : tie.After-write-total invariant-loop decreases-loop → tie.After-total-of invariant-loop decreases-loop
-asked c = c.before.before.before
-
-abbrev predicates : tie.In-loop invariant-loop decreases-loop → ArityList
-predicates c = (entry c.before).args.task.predicates
+abbrev predicates : tie.In-loop-p invariant-loop decreases-loop → ArityList
+predicates c = c.args.task.predicates
 
 -- the positions of a predicate are within the table
-inside : (c : tie.In-loop invariant-loop decreases-loop) → c.before.loop.first + get_or (predicates c).arities c.before.loop.p 0 ≤ 60
+inside : (c : tie.In-loop-p invariant-loop decreases-loop) → c.loop-p.first + get_or (predicates c).arities c.loop-p.p 0 ≤ 60
 inside c =
-    let pre = (entry c.before).pre.0 in
-    positions_inside _ (arities_right _ pre) _ _ c.loop-test.true c.before.loop.invariant.2
+    let pre = c.requires.0 in
+    positions_inside _ (arities_right _ pre) _ _ c.loop-p-test.true c.loop-p.invariant.2
 
 -- and those of the next one stand after them
-begins : (c : tie.In-loop invariant-loop decreases-loop)
-    → c.before.loop.first + get_or (predicates c).arities c.before.loop.p 0 ≡ sum (take (c.before.loop.p + 1) (arities_of (predicates c)))
+begins : (c : tie.In-loop-p invariant-loop decreases-loop)
+    → c.loop-p.first + get_or (predicates c).arities c.loop-p.p 0 ≡ sum (take (c.loop-p.p + 1) (arities_of (predicates c)))
 begins c =
-    let pre = (entry c.before).pre.0 in
-    begins_next _ (arities_right _ pre) _ _ c.loop-test.true c.before.loop.invariant.2
+    let pre = c.requires.0 in
+    begins_next _ (arities_right _ pre) _ _ c.loop-p-test.true c.loop-p.invariant.2
 
 positive : (n : ℕ) → (n ≡ 0 → ⊥) → 1 ≤ n
 positive n some = omega arith
@@ -77,96 +67,91 @@ positive n some = omega arith
 one_less : (n : ℕ) → (n ≡ 0 → ⊥) → n - 1 + 1 ≡ n
 one_less n some = omega arith
 
-loop-holds : tie.Need-loop-init invariant-loop decreases-loop
+loop-holds : tie.Need-loop-p-init invariant-loop decreases-loop
 unfolding sum
-loop-holds c = (remains_as (lines_start _ _) (start (room_as (found c.before.before.before) c.before.before.before.requires.1.1)), omega arith, refl)
+loop-holds c = (remains_as (lines_start _ _) (start (room_as (found c.before.before.before) c.requires.1.1)), omega arith, refl)
 
-element-copy-out-arity : tie.Need-element-copy-out-arity invariant-loop decreases-loop
-element-copy-out-arity c = omega (arith, predicates_few _ (entry c.before).pre.0)
+element-copy-out-arity : tie.Need-bounds-predicates-p invariant-loop decreases-loop
+element-copy-out-arity c = omega (arith, predicates_few _ c.requires.0)
 
-cast-arity : tie.Need-overflow-cast-arity invariant-loop decreases-loop
+cast-arity : tie.Need-overflow_cast-arity invariant-loop decreases-loop
 cast-arity c = omega (arith, inside c.before)
 
-total-of-requires : tie.Need-total-of-requires invariant-loop decreases-loop
+total-of-requires : tie.Need-total_of-entry-requires invariant-loop decreases-loop
 total-of-requires c κs =
-    let s = entry c.before.before in
-    omega (arith, inside c.before, length_fixed _ _ s.pre.1.0 (properties_few _ s.pre.0.checked))
+    omega (arith, inside c.before, length_fixed _ _ c.requires.1.0 (properties_few _ c.requires.0.checked))
 
-add-first : tie.Need-overflow-add-first invariant-loop decreases-loop
-add-first c = omega (arith, inside (in_loop c))
+add-first : tie.Need-overflow_add-first invariant-loop decreases-loop
+add-first c = omega (arith, inside c.before.before)
 
-add-p : tie.Need-overflow-add-p invariant-loop decreases-loop
-add-p c = omega (arith, predicates_few _ (entry (in_loop c).before).pre.0)
+add-p : tie.Need-overflow_add-p invariant-loop decreases-loop
+add-p c = omega (arith, predicates_few _ c.requires.0)
 
-loop-less : tie.Need-loop-smaller invariant-loop decreases-loop
-loop-less c = less_left (in_loop c.before).loop-test.taken
+loop-less : tie.Need-loop-p-smaller-then-entry-eq0 invariant-loop decreases-loop
+loop-less c = less_left c.loop-p-test.true
 
-loop-again : tie.Need-loop-preserved invariant-loop decreases-loop
+loop-again : tie.Need-loop-p-preserved-then-entry-eq0 invariant-loop decreases-loop
 loop-again c =
-    let here = in_loop c.before in
-    let l = here.before.loop in
-    let pre = (entry here.before).pre.0 in (
-      remains_as (no_line _ _ l.p here.loop-test.taken
-          (total_none _ (arities_right _ pre) _ _ here.loop-test.taken l.inv.2 _ c.before.total_of.ensures
-          c.if1.true)) l.inv.0,
-      one_more here.loop-test.taken,
-      begins here,
+    let l = c.loop-p in
+    let pre = c.requires.0 in (
+      remains_as (no_line _ _ l.p c.loop-p-test.true
+          (total_none _ (arities_right _ pre) _ _ c.loop-p-test.true l.invariant.2 _ c.total_of-entry.ensures
+          c.if-entry-eq0.true)) l.invariant.0,
+      one_more c.loop-p-test.true,
+      begins c.before.before.before,
     )
 
 -- the line of a total
-line : (c : tie.Else1 invariant-loop decreases-loop)
-    → total_found (arities_of (predicates (in_loop c.before))) (entry (in_loop c.before).before).args.fixed.now (in_loop c.before).before.loop.p
-    ≡ total (in_loop c.before).before.loop.p (c.before.total_of.result - 1) ∷ []
+line : (c : tie.Else-entry-eq0 invariant-loop decreases-loop)
+    → total_found (arities_of (predicates c.before.before.before)) c.args.fixed.now c.loop-p.p
+    ≡ total c.loop-p.p (c.total_of-entry.result - 1) ∷ []
 line c =
-    let here = in_loop c.before in
-    let pre = (entry here.before).pre.0 in
-    total_next _ (arities_right _ pre) _ _ here.loop-test.taken here.before.loop.inv.2 _
-    c.before.total_of.ensures c.if1.false (one_less _ c.if1.false)
+    let pre = c.requires.0 in
+    total_next _ (arities_right _ pre) _ _ c.loop-p-test.true c.loop-p.invariant.2 _
+    c.total_of-entry.ensures c.if-entry-eq0.false (one_less _ c.if-entry-eq0.false)
 
-sub-write-total : tie.Need-overflow-sub-write-total invariant-loop decreases-loop
-sub-write-total c = remains_within (in_loop c.before).before.loop.inv.0
+sub-write-total : tie.Need-slice_bounds-write_total-count invariant-loop decreases-loop
+sub-write-total c = remains_within c.loop-p.invariant.0
 
-part-write-total-start : tie.Need-slice-bounds-write-total-start invariant-loop decreases-loop
-part-write-total-start c = remains_within (in_loop c.before).before.loop.inv.0
+part-write-total-start : tie.Need-slice_bounds-write_total-start invariant-loop decreases-loop
+part-write-total-start c = remains_within c.loop-p.invariant.0
 
-part-write-total-end : tie.Need-slice-bounds-write-total-end invariant-loop decreases-loop
+part-write-total-end : tie.Need-slice_bounds-write_total-end invariant-loop decreases-loop
 part-write-total-end c = le_refl _
 
-sub-write-total-2 : tie.Need-overflow-sub-write-total-2 invariant-loop decreases-loop
-sub-write-total-2 c = positive _ c.before.if1.false
+sub-write-total-2 : tie.Need-overflow_sub-entry invariant-loop decreases-loop
+sub-write-total-2 c = positive _ c.if-entry-eq0.false
 
-cast-write-total : tie.Need-overflow-cast-write-total invariant-loop decreases-loop
+cast-write-total : tie.Need-overflow_cast-entry invariant-loop decreases-loop
 cast-write-total c = search rules
 
-write-total-requires : tie.Need-write-total-requires invariant-loop decreases-loop
+write-total-requires : tie.Need-write_total-n-requires invariant-loop decreases-loop
 write-total-requires c κs =
-    let here = in_loop c.before.before in
-    next_fits here.before.loop.inv.0 (line_next _ _ _ here.loop-test.taken (line c.before))
+    next_fits c.loop-p.invariant.0 (line_next _ _ _ c.loop-p-test.true (line c.before))
 
-loop-less-2 : tie.Need-loop-smaller-2 invariant-loop decreases-loop
-loop-less-2 c = less_left (in_loop (asked c.before.before)).loop-test.taken
+loop-less-2 : tie.Need-loop-p-smaller invariant-loop decreases-loop
+loop-less-2 c = less_left c.loop-p-test.true
 
-loop-again-2 : tie.Need-loop-preserved-2 invariant-loop decreases-loop
+loop-again-2 : tie.Need-loop-p-preserved invariant-loop decreases-loop
 loop-again-2 c =
-    let written = c.before.before in
-    let here = in_loop (asked written) in (
-      next here.before.loop.inv.0 (line_next _ _ _ here.loop-test.taken (line written.before.before)) written.write-total.ensures,
-      one_more here.loop-test.taken,
-      begins here,
+    (
+      next c.loop-p.invariant.0 (line_next _ _ _ c.loop-p-test.true (line c.before.before.before.before)) c.write_total-n.ensures,
+      one_more c.loop-p-test.true,
+      begins c.before.before.before.before.before.before.before,
     )
 
-add_at : tie.Need-overflow-add-at invariant-loop decreases-loop
+add_at : tie.Need-overflow_add-at invariant-loop decreases-loop
 add_at c = let r = (loop-again-2 c).0 in omega arith
 
-same_length : tie.Need-same-length invariant-loop decreases-loop
-same_length c = c.before.loop.invariant.0.kept
+same_length : tie.Need-shape_of-out invariant-loop decreases-loop
+same_length c = c.loop-p.invariant.0.kept
 
 returns : tie.Need-returns invariant-loop decreases-loop
 returns c =
-    writes_as (sym (found c.before.before.before.before.before)) (finish c.before.loop.invariant.0 (lines_end _ _ _ c.loop-test.false))
+    writes_as (sym (found c.before.before.before.before.before)) (finish c.loop-p.invariant.0 (lines_end _ _ _ c.loop-p-test.false))
 
-pub write-totals-spec : {M : Type 1} → statement M
-write-totals-spec =
+pub write_totals_spec : {M : Type 1} → statement M
+write_totals_spec =
     tie.close
     (tie.spec
     invariant-loop

@@ -11,56 +11,55 @@ use Rattle.closing.specs.Typing.{label_masks}
 use Rattle.closing.proofs.typing.by_label.Statement.{statement}
 use Rattle.closing.proofs.typing.by_label.Tie as tie
 
-abbrev invariant-loop : tie.invariant-loop
+abbrev invariant-loop : tie.invariant-loop-k
 invariant-loop count lowest members masks₀ k₀ masks k = (k ≤ count) × (length masks ≡ 60) × (masks ≡ label_masks lowest members k)
 
-abbrev decreases-loop : tie.decreases-loop
+abbrev decreases-loop : tie.decreases-loop-k
 decreases-loop count lowest members masks₀ k₀ masks k = count - k
 
-loop-holds : tie.Need-loop-init invariant-loop decreases-loop
+loop-holds : tie.Need-loop-k-init invariant-loop decreases-loop
 unfolding label_masks
 loop-holds c = (omega arith, refl, refl)
 
-array-read-l : tie.Need-array-read-l invariant-loop decreases-loop
+array-read-l : tie.Need-bounds-lowest-k invariant-loop decreases-loop
 array-read-l c = omega arith
 
-cast-l : tie.Need-overflow-cast-l invariant-loop decreases-loop
-cast-l c = let known = c.before.before.before.before.requires.1 c.before.loop.k in omega arith
+cast-l : tie.Need-overflow_cast-l invariant-loop decreases-loop
+cast-l c = let known = c.requires.1 c.loop-k.k in omega arith
 
-mul-masks : tie.Need-overflow-mul-masks invariant-loop decreases-loop
+mul-masks : tie.Need-offset_bounds-members-k invariant-loop decreases-loop
 mul-masks c = omega arith
 
-array-read-masks : tie.Need-array-read-masks invariant-loop decreases-loop
+array-read-masks : tie.Need-bounds-members-k invariant-loop decreases-loop
 array-read-masks c = omega arith
 
-mul-masks-2 : tie.Need-overflow-mul-masks-2 invariant-loop decreases-loop
-mul-masks-2 c = let known = c.before.before.before.before.requires.1 c.before.loop.k in omega arith
+mul-masks-2 : tie.Need-offset_bounds-masks-l invariant-loop decreases-loop
+mul-masks-2 c = let known = c.requires.1 c.loop-k.k in omega arith
 
-array-write-masks : tie.Need-array-write-masks invariant-loop decreases-loop
-array-write-masks c = c.before.before.before.before.requires.1 c.before.loop.k
+array-write-masks : tie.Need-bounds-masks-l invariant-loop decreases-loop
+array-write-masks c = c.requires.1 c.loop-k.k
 
-add-k : tie.Need-overflow-add-k invariant-loop decreases-loop
+add-k : tie.Need-overflow_step-k invariant-loop decreases-loop
 add-k c = omega arith
 
-loop-less : tie.Need-loop-smaller invariant-loop decreases-loop
-loop-less c = less_left c.loop-test.true
+loop-less : tie.Need-loop-k-smaller invariant-loop decreases-loop
+loop-less c = less_left c.loop-k-test.true
 
-loop-again : tie.Need-loop-preserved invariant-loop decreases-loop
+loop-again : tie.Need-loop-k-preserved invariant-loop decreases-loop
 unfolding label_masks
 loop-again c =
-    let head = c.before in
-    let spaces = head.before.before.before.args.spaces in (
+    let spaces = c.args.spaces in (
       omega arith,
-      length-set {A = ℕ} head.loop.masks _ _ ∙ head.loop.invariant.1,
-      ap (λ (l : List ℕ). set l (get_or spaces.lowest head.loop.k 0) (get_or spaces.members head.loop.k 0)) head.loop.invariant.2
-          ∙ ap (label_masks spaces.lowest spaces.members) (sym (add-one head.loop.k)),
+      length-set {A = ℕ} c.loop-k.masks _ _ ∙ c.loop-k.invariant.1,
+      ap (λ (l : List ℕ). set l (get_or spaces.lowest c.loop-k.k 0) (get_or spaces.members c.loop-k.k 0)) c.loop-k.invariant.2
+          ∙ ap (label_masks spaces.lowest spaces.members) (sym (add-one c.loop-k.k)),
     )
 
 returns : tie.Need-returns invariant-loop decreases-loop
-returns c = c.before.loop.invariant.2 ∙ ap (label_masks _ _) (le_antisymm c.before.loop.invariant.0 c.loop-test.false)
+returns c = c.loop-k.invariant.2 ∙ ap (label_masks _ _) (le_antisymm c.loop-k.invariant.0 c.loop-k-test.false)
 
-pub by-label-spec : {M : Type 1} → statement M
-by-label-spec =
+pub by_label_spec : {M : Type 1} → statement M
+by_label_spec =
     tie.close
     (tie.spec
     invariant-loop

@@ -25,129 +25,111 @@ use borrow.Author.Rules.{rules}
 use Rattle.closing.proofs.typing.write_type_lines.Statement.{statement}
 use Rattle.closing.proofs.typing.write_type_lines.Tie as tie
 
-abbrev invariant-loop : tie.invariant-loop
+abbrev invariant-loop : tie.invariant-loop-i
 invariant-loop out₀ task preconditions schemas size masks groups at₀ first₀ i₀ out at first i =
     Remains (text (type_lines (task_of task) (spaces (task_of task)) 0 (task_of task).schemas)) (schemas_left (task_of task) i) out₀ out at
     × (i ≤ schemas.count)
     × Counted (sizes_of (task_of task).schemas) i first
 
-abbrev decreases-loop : tie.decreases-loop
+abbrev decreases-loop : tie.decreases-loop-i
 decreases-loop out₀ task preconditions schemas size masks groups at₀ first₀ i₀ out at first i = schemas.count - i
 
--- what is given, from the members of each group; these, from the loop on; and the loop, from the schema's lines
-abbrev entry : tie.After-by-label invariant-loop decreases-loop → tie.Start invariant-loop decreases-loop
-entry c = c.before.before.before.before.before
-
-abbrev labelled : tie.At-loop invariant-loop decreases-loop → tie.After-by-label invariant-loop decreases-loop
-labelled c = c.before.before
-
-abbrev in_loop : tie.After-write-schema-types invariant-loop decreases-loop → tie.In-loop invariant-loop decreases-loop
-in_loop c = c.before.before.before.before.before
-
 -- what the loop is given
-given : (c : tie.After-by-label invariant-loop decreases-loop)
-    → TypesGiven (entry c).args.task (entry c).args.spaces c.by-label.result c.before.numbered.result.count
-    (entry c).args.preconditions.now
+given : (c : tie.After-by_label-masks invariant-loop decreases-loop)
+    → TypesGiven c.args.task c.args.spaces c.by_label-masks.result c.numbered-numbers.result.count
+    c.args.preconditions.now
 unfolding task_of properties
 given c =
-    let s = entry c in
     record {
-      represented = s.pre.0;
-      spaces_are = s.pre.1.0;
-      masks_are = c.by-label.ensures;
-      size_is = c.before.numbered.ensures.counted;
-      rows_are = s.pre.1.1.0;
+      represented = c.requires.0;
+      spaces_are = c.requires.1.0;
+      masks_are = c.by_label-masks.ensures;
+      size_is = c.numbered-numbers.ensures.counted;
+      rows_are = c.requires.1.1.0;
     }
 
-numbered-requires : tie.Need-numbered-requires invariant-loop decreases-loop
-numbered-requires c κs = let s = c.before.before.before in (arities_right s.args.task s.requires.0).few
+numbered-requires : tie.Need-numbered-numbers-requires invariant-loop decreases-loop
+numbered-requires c κs = (arities_right c.args.task c.requires.0).few
 
-by-label-requires : tie.Need-by-label-requires invariant-loop decreases-loop
+by-label-requires : tie.Need-by_label-masks-requires invariant-loop decreases-loop
 by-label-requires c κs =
-    let s = c.before.before.before.before in
-    let narrow = properties_few (task_of s.args.task) s.requires.0.checked in
-    (spaces_few _ s.args.spaces s.requires.1.0 narrow, lowest_known _ s.args.spaces s.requires.1.0 narrow)
+    let narrow = properties_few (task_of c.args.task) c.requires.0.checked in
+    (spaces_few _ c.args.spaces c.requires.1.0 narrow, lowest_known _ c.args.spaces c.requires.1.0 narrow)
 
-loop-holds : tie.Need-loop-init invariant-loop decreases-loop
-loop-holds c = (start (entry c.before).pre.1.1.1, omega arith, count_start _)
+loop-holds : tie.Need-loop-i-init invariant-loop decreases-loop
+loop-holds c = (start c.requires.1.1.1, omega arith, count_start _)
 
-mul-schema : tie.Need-overflow-mul-schema invariant-loop decreases-loop
-mul-schema c = omega (arith, schemas_few _ (entry (labelled c.before)).pre.0)
+mul-schema : tie.Need-offset_bounds-schemas-i invariant-loop decreases-loop
+mul-schema c = omega (arith, schemas_few _ c.requires.0)
 
-element-copy-out-schema : tie.Need-element-copy-out-schema invariant-loop decreases-loop
-element-copy-out-schema c = omega (arith, schemas_few _ (entry (labelled c.before)).pre.0)
+element-copy-out-schema : tie.Need-bounds-schemas-i invariant-loop decreases-loop
+element-copy-out-schema c = omega (arith, schemas_few _ c.requires.0)
 
-sub-write-schema-types : tie.Need-overflow-sub-write-schema-types invariant-loop decreases-loop
-sub-write-schema-types c = remains_within c.before.before.loop.invariant.0
+sub-write-schema-types : tie.Need-slice_bounds-write_schema_types-count invariant-loop decreases-loop
+sub-write-schema-types c = remains_within c.loop-i.invariant.0
 
-part-write-schema-types-start : tie.Need-slice-bounds-write-schema-types-start invariant-loop decreases-loop
-part-write-schema-types-start c = remains_within c.before.before.loop.invariant.0
+part-write-schema-types-start : tie.Need-slice_bounds-write_schema_types-start invariant-loop decreases-loop
+part-write-schema-types-start c = remains_within c.loop-i.invariant.0
 
-part-write-schema-types-end : tie.Need-slice-bounds-write-schema-types-end invariant-loop decreases-loop
+part-write-schema-types-end : tie.Need-slice_bounds-write_schema_types-end invariant-loop decreases-loop
 part-write-schema-types-end c = le_refl _
 
-slice-aggregate-write-schema-types : tie.Need-slice-aggregate-write-schema-types invariant-loop decreases-loop
+slice-aggregate-write-schema-types : tie.Need-slice_bounds-write_schema_types-end-in-loop-i invariant-loop decreases-loop
 slice-aggregate-write-schema-types c = search rules
 
-slice-aggregate-write-schema-types-2 : tie.Need-slice-aggregate-write-schema-types-2 invariant-loop decreases-loop
+slice-aggregate-write-schema-types-2 : tie.Need-slice_bounds-write_schema_types-end-in-loop-i-2 invariant-loop decreases-loop
 slice-aggregate-write-schema-types-2 c = search rules
 
 -- the members of the spaces as they are handed on
-members : (c : tie.After-by-label invariant-loop decreases-loop)
-    → MembersGiven c.before.numbered.result.count (entry c).args.spaces.groups c.by-label.result (entry c).args.task.objects
+members : (c : tie.After-by_label-masks invariant-loop decreases-loop)
+    → MembersGiven c.numbered-numbers.result.count c.args.spaces.groups c.by_label-masks.result c.args.task.objects
 unfolding task_of
 members c =
-    let s = entry c in
-    let a = s.args in
+    let a = c.args in
     let g = given c in
-    subst (λ (n : ℕ). MembersGiven n a.spaces.groups c.by-label.result a.task.objects) (sym g.size_is)
+    subst (λ (n : ℕ). MembersGiven n a.spaces.groups c.by_label-masks.result a.task.objects) (sym g.size_is)
     (subst (λ (m : List ℕ). MembersGiven (length (properties (task_of a.task))) a.spaces.groups m a.task.objects) (sym g.masks_are)
-    (members_given _ _ s.pre.1.0 (properties_few _ s.pre.0.checked) (objects_few _ s.pre.0)))
+    (members_given _ _ c.requires.1.0 (properties_few _ c.requires.0.checked) (objects_few _ c.requires.0)))
 
-write-schema-types-requires : tie.Need-write-schema-types-requires invariant-loop decreases-loop
+write-schema-types-requires : tie.Need-write_schema_types-n-requires invariant-loop decreases-loop
 write-schema-types-requires c κs =
-    let more = c.before.before.before.before in
-    let l = more.before.loop in
-    let labels = labelled more.before in
-    let here = more.loop-test.true in (
-      members labels,
-      (rows_within (given labels) l.invariant.2 no_schema here, next_fits l.invariant.0 (schema_next (given labels) l.invariant.2 no_schema here)),
+    let l = c.loop-i in
+    let here = c.loop-i-test.true in (
+      members c.before.before.before.before.before.before.before,
+      (rows_within (given c.before.before.before.before.before.before.before) l.invariant.2 no_schema here, next_fits l.invariant.0 (schema_next (given c.before.before.before.before.before.before.before) l.invariant.2 no_schema here)),
     )
 
-add-first : tie.Need-overflow-add-first invariant-loop decreases-loop
+add-first : tie.Need-overflow_add-first invariant-loop decreases-loop
 add-first c =
-    let more = in_loop c.before.before.before in
-    omega (arith, rows_few (given (labelled more.before)) more.before.loop.inv.2 no_schema more.loop-test.taken)
+    omega (arith, rows_few (given c.before.before.before.before.before.before.before.before.before.before.before) c.loop-i.invariant.2 no_schema c.loop-i-test.true)
 
-add-i : tie.Need-overflow-add-i invariant-loop decreases-loop
-add-i c = omega (arith, schemas_few _ (entry (labelled (in_loop c.before.before.before).before)).pre.0)
+add-i : tie.Need-overflow_add-i invariant-loop decreases-loop
+add-i c = omega (arith, schemas_few _ c.requires.0)
 
-loop-less : tie.Need-loop-smaller invariant-loop decreases-loop
-loop-less c = less_left (in_loop c.before.before.before).loop-test.taken
+loop-less : tie.Need-loop-i-smaller invariant-loop decreases-loop
+loop-less c = less_left c.loop-i-test.true
 
-loop-again : tie.Need-loop-preserved invariant-loop decreases-loop
+loop-again : tie.Need-loop-i-preserved invariant-loop decreases-loop
 loop-again c =
-    let called = c.before.before.before in
-    let more = in_loop called in
-    let l = more.before.loop in
-    let g = given (labelled more.before) in
-    let here = more.loop-test.taken in (
-      next l.inv.0 (schema_next g l.inv.2 no_schema here) called.write-schema-types.ensures,
+    let l = c.loop-i in
+    let g = given c.before.before.before.before.before.before.before.before.before.before.before in
+    let here = c.loop-i-test.true in (
+      next l.invariant.0 (schema_next g l.invariant.2 no_schema here) c.write_schema_types-n.ensures,
       one_more here,
-      parameters_next g l.inv.2 no_schema here,
+      parameters_next g l.invariant.2 no_schema here,
     )
 
-add_at : tie.Need-overflow-add-at invariant-loop decreases-loop
+add_at : tie.Need-overflow_add-at invariant-loop decreases-loop
 add_at c = let r = (loop-again c).0 in omega arith
 
-same_length : tie.Need-same-length invariant-loop decreases-loop
-same_length c = c.before.loop.invariant.0.kept
+same_length : tie.Need-shape_of-out invariant-loop decreases-loop
+same_length c = c.loop-i.invariant.0.kept
 
 returns : tie.Need-returns invariant-loop decreases-loop
-returns c = finish c.before.loop.invariant.0 (schemas_end (given (labelled c.before)) c.loop-test.false)
+returns c = finish c.loop-i.invariant.0 (schemas_end (given c.before.before.before) c.loop-i-test.false)
 
-pub write-type-lines-spec : {M : Type 1} → statement M
-write-type-lines-spec =
+pub write_type_lines_spec : {M : Type 1} → statement M
+write_type_lines_spec =
     tie.close
     (tie.spec
     invariant-loop

@@ -4,28 +4,28 @@ use Rattle.sections.proofs.LimitLines.{narrow_written, wide_room, wide_written}
 use Rattle.sections.proofs.limits.write_limit_of.Statement.{statement}
 use Rattle.sections.proofs.limits.write_limit_of.Tie as tie
 
-returns : tie.Need-returns
-returns c = narrow_written _ _ _ c.if1.true _
+returns : tie.Need-returns-then-arity-lt2
+returns c = narrow_written _ _ _ c.if-arity-lt2.true _
 
-largest-in-requires : tie.Need-largest-in-requires
+largest-in-requires : tie.Need-largest_in-most-requires
 largest-in-requires c κs = search rules
 
-cast-most : tie.Need-overflow-cast-most
+cast-most : tie.Need-overflow_cast-most
 cast-most c = search rules
 
-write-limit-requires : tie.Need-write-limit-requires
+write-limit-requires : tie.Need-write_limit-requires
 write-limit-requires c κs =
-    wide_room _ _ _ c.before.before.if1.false c.before.largest-in.ensures c.before.before.before.before.before.requires.2
+    wide_room _ _ _ c.if-arity-lt2.false c.largest_in-most.ensures c.requires.2
 
-same_length : tie.Need-same-length
+same_length : tie.Need-shape_of-out
 same_length c = search rules
 
-returns-2 : tie.Need-returns-2
+returns-2 : tie.Need-returns
 returns-2 c =
-    wide_written _ _ _ c.before.before.before.before.before.if1.false c.before.before.before.before.largest-in.ensures
-    c.before.before.write-limit.ensures
+    wide_written _ _ _ c.if-arity-lt2.false c.largest_in-most.ensures
+    c.write_limit.ensures
 
-pub write-limit-of-spec : {M : Type 1} → statement M
-write-limit-of-spec =
+pub write_limit_of_spec : {M : Type 1} → statement M
+write_limit_of_spec =
     tie.close
     (tie.spec returns largest-in-requires cast-most write-limit-requires same_length returns-2)

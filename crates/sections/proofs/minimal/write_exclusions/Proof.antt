@@ -10,73 +10,73 @@ use borrow.Author.Rules.{rules}
 use Rattle.sections.proofs.minimal.write_exclusions.Statement.{statement}
 use Rattle.sections.proofs.minimal.write_exclusions.Tie as tie
 
-abbrev invariant-loop : tie.invariant-loop
+abbrev invariant-loop : tie.invariant-loop-k
 invariant-loop out₀ containing indices at₀ k₀ out at k =
     Remains (text (exclusions_by containing indices)) (text (exclusions_by containing (drop k indices))) out₀ out at
     × (k ≤ length indices)
 
-abbrev decreases-loop : tie.decreases-loop
+abbrev decreases-loop : tie.decreases-loop-k
 decreases-loop out₀ containing indices at₀ k₀ out at k = length indices - k
 
-loop-holds : tie.Need-loop-init invariant-loop decreases-loop
-loop-holds c = (start c.before.before.before.requires.1, omega arith)
+loop-holds : tie.Need-loop-k-init invariant-loop decreases-loop
+loop-holds c = (start c.requires.1, omega arith)
 
-shared-slice-read-i : tie.Need-shared-slice-read-i invariant-loop decreases-loop
+shared-slice-read-i : tie.Need-bounds-indices-k invariant-loop decreases-loop
 shared-slice-read-i c = search rules
 
-cast-i : tie.Need-overflow-cast-i invariant-loop decreases-loop
-cast-i c = omega (arith, c.shared-slice-known3.given c.before.before.loop.k)
+cast-i : tie.Need-overflow_cast-i invariant-loop decreases-loop
+cast-i c = omega (arith, c.shared_slice_known-in-loop-k-1.given c.loop-k.k)
 
-add-k : tie.Need-overflow-add-k invariant-loop decreases-loop
+add-k : tie.Need-overflow_add-k invariant-loop decreases-loop
 add-k c = search rules
 
-sub-write-exclusions-of : tie.Need-overflow-sub-write-exclusions-of invariant-loop decreases-loop
+sub-write-exclusions-of : tie.Need-slice_bounds-write_exclusions_of-count invariant-loop decreases-loop
 sub-write-exclusions-of c = search rules
 
-part-write-exclusions-of-start : tie.Need-slice-bounds-write-exclusions-of-start invariant-loop decreases-loop
+part-write-exclusions-of-start : tie.Need-slice_bounds-write_exclusions_of-start invariant-loop decreases-loop
 part-write-exclusions-of-start c = search rules
 
-part-write-exclusions-of-end : tie.Need-slice-bounds-write-exclusions-of-end invariant-loop decreases-loop
+part-write-exclusions-of-end : tie.Need-slice_bounds-write_exclusions_of-end invariant-loop decreases-loop
 part-write-exclusions-of-end c = search rules
 
-sub-write-exclusions-of-2 : tie.Need-overflow-sub-write-exclusions-of-2 invariant-loop decreases-loop
+sub-write-exclusions-of-2 : tie.Need-slice_bounds-write_exclusions_of-count-in-loop-k invariant-loop decreases-loop
 sub-write-exclusions-of-2 c = search rules
 
-part-write-exclusions-of-start-2 : tie.Need-slice-bounds-write-exclusions-of-start-2 invariant-loop decreases-loop
+part-write-exclusions-of-start-2 : tie.Need-slice_bounds-write_exclusions_of-start-in-loop-k invariant-loop decreases-loop
 part-write-exclusions-of-start-2 c = search rules
 
-part-write-exclusions-of-end-2 : tie.Need-slice-bounds-write-exclusions-of-end-2 invariant-loop decreases-loop
+part-write-exclusions-of-end-2 : tie.Need-slice_bounds-write_exclusions_of-end-in-loop-k invariant-loop decreases-loop
 part-write-exclusions-of-end-2 c = search rules
 
-write-exclusions-of-requires : tie.Need-write-exclusions-of-requires invariant-loop decreases-loop
+write-exclusions-of-requires : tie.Need-write_exclusions_of-n-requires invariant-loop decreases-loop
 write-exclusions-of-requires c κs =
-    let h = c.before.before.before.before.before.before.before.before.requires in
-    let l = c.before.before.before.before.loop in
-    let k = c.before.before.before.loop-test.true in
+    let h = c.requires in
+    let l = c.loop-k in
+    let k = c.loop-k-test.true in
     (index_below _ _ _ h.0 k, all_lent _ _ _ h.0, next_fits l.invariant.0 (pairs_next _ _ l.k k))
 
-loop-less : tie.Need-loop-smaller invariant-loop decreases-loop
+loop-less : tie.Need-loop-k-smaller invariant-loop decreases-loop
 loop-less c = search rules
 
-loop-again : tie.Need-loop-preserved invariant-loop decreases-loop
+loop-again : tie.Need-loop-k-preserved invariant-loop decreases-loop
 loop-again c =
-    let l = c.before.before.before.before.before.before.before.loop in (
-      next l.invariant.0 (pairs_next _ _ l.k c.before.before.before.before.before.before.loop-test.true)
-          c.before.before.write-exclusions-of.ensures,
+    let l = c.loop-k in (
+      next l.invariant.0 (pairs_next _ _ l.k c.loop-k-test.true)
+          c.write_exclusions_of-n.ensures,
       search rules,
     )
 
-add_at : tie.Need-overflow-add-at invariant-loop decreases-loop
+add_at : tie.Need-overflow_add-at invariant-loop decreases-loop
 add_at c = let r = (loop-again c).0 in omega arith
 
-same_length : tie.Need-same-length invariant-loop decreases-loop
+same_length : tie.Need-shape_of-out invariant-loop decreases-loop
 same_length c = search rules
 
 returns : tie.Need-returns invariant-loop decreases-loop
-returns c = finish c.before.loop.invariant.0 (pairs_end _ _ _ c.loop-test.false)
+returns c = finish c.loop-k.invariant.0 (pairs_end _ _ _ c.loop-k-test.false)
 
-pub write-exclusions-spec : {M : Type 1} → statement M
-write-exclusions-spec =
+pub write_exclusions_spec : {M : Type 1} → statement M
+write_exclusions_spec =
     tie.close
     (tie.spec invariant-loop decreases-loop loop-holds shared-slice-read-i cast-i add-k sub-write-exclusions-of part-write-exclusions-of-start
     part-write-exclusions-of-end sub-write-exclusions-of-2 part-write-exclusions-of-start-2 part-write-exclusions-of-end-2 write-exclusions-of-requires

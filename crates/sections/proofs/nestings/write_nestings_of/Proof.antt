@@ -9,92 +9,89 @@ use Rattle.text.proofs.Writing.{Remains, remains_as, start, next_fits, next, fin
 use Rattle.sections.proofs.nestings.write_nestings_of.Statement.{statement}
 use Rattle.sections.proofs.nestings.write_nestings_of.Tie as tie
 
-abbrev invariant-loop : tie.invariant-loop
+abbrev invariant-loop : tie.invariant-loop-rest
 invariant-loop out₀ containing i rest₀ at₀ out rest at =
     Remains (text (nestings_of containing i)) (nestings_left containing i rest) out₀ out at × (rest < 2 ^ 64)
 
-abbrev decreases-loop : tie.decreases-loop
+abbrev decreases-loop : tie.decreases-loop-rest
 decreases-loop out₀ containing i rest₀ at₀ out rest at = rest
 
-mul-rest : tie.Need-overflow-mul-rest invariant-loop decreases-loop
+mul-rest : tie.Need-offset_bounds-containing-i invariant-loop decreases-loop
 mul-rest c = search rules
 
-shared-slice-read-rest : tie.Need-shared-slice-read-rest invariant-loop decreases-loop
+shared-slice-read-rest : tie.Need-bounds-containing-i invariant-loop decreases-loop
 shared-slice-read-rest c = search rules
 
-loop-holds : tie.Need-loop-init invariant-loop decreases-loop
+loop-holds : tie.Need-loop-rest-init invariant-loop decreases-loop
 loop-holds c =
-    let entry = c.before.before.before in
-    (remains_as (nestings_start _ _) (start entry.requires.2), (c.shared-slice-known2.given entry.args.i).fits)
+    (remains_as (nestings_start _ _) (start c.requires.2), (c.shared_slice_known-2-1.given c.args.i).fits)
 
-first-member-requires : tie.Need-first-member-requires invariant-loop decreases-loop
+first-member-requires : tie.Need-first_member-j-requires invariant-loop decreases-loop
 first-member-requires c κs = search rules
 
-without-first-requires : tie.Need-without-first-requires invariant-loop decreases-loop
+without-first-requires : tie.Need-without_first-rest-requires invariant-loop decreases-loop
 without-first-requires c κs = search rules
 
 -- a turn takes the first member from the mask
-turn : (c : tie.After-without-first invariant-loop decreases-loop)
-    → Walked c.before.before.before.loop.rest c.before.first_member.result c.without-first.result
+turn : (c : tie.After-without_first-rest invariant-loop decreases-loop)
+    → Walked c.loop-rest.rest c.first_member-j.result c.without_first-rest.result
 turn c =
-    walked c.before.before.loop-test.true c.before.before.before.loop.invariant.1 c.before.first_member.ensures c.without-first.ensures
+    walked c.loop-rest-test.true c.loop-rest.invariant.1 c.first_member-j.ensures c.without_first-rest.ensures
 
-mul-is-member : tie.Need-overflow-mul-is-member invariant-loop decreases-loop
+mul-is-member : tie.Need-offset_bounds-containing-j invariant-loop decreases-loop
 mul-is-member c = omega (arith, (turn c).below)
 
-shared-slice-read-is-member : tie.Need-shared-slice-read-is-member invariant-loop decreases-loop
-shared-slice-read-is-member c = omega (arith, (turn c.before).below, c.before.before.before.before.before.before.before.before.requires.0)
+shared-slice-read-is-member : tie.Need-bounds-containing-j invariant-loop decreases-loop
+shared-slice-read-is-member c = omega (arith, (turn c.before).below, c.requires.0)
 
-is-member-requires : tie.Need-is-member-requires invariant-loop decreases-loop
+is-member-requires : tie.Need-is_member-requires invariant-loop decreases-loop
 is-member-requires c κs = search rules
 
-loop-less : tie.Need-loop-smaller invariant-loop decreases-loop
+loop-less : tie.Need-loop-rest-smaller-then-is_member invariant-loop decreases-loop
 loop-less c = (turn c.before.before.before).fewer
 
-loop-again : tie.Need-loop-preserved invariant-loop decreases-loop
+loop-again : tie.Need-loop-rest-preserved-then-is_member invariant-loop decreases-loop
 loop-again c =
-    let left = c.before.before.before in (
-      remains_as (nesting_skipped _ _ (turn left) c.before.is_member.ensures c.if1.true) left.before.before.before.loop.invariant.0,
-      (turn left).small,
+    (
+      remains_as (nesting_skipped _ _ (turn c.before.before.before) c.is_member.ensures c.if-is_member.true) c.loop-rest.invariant.0,
+      (turn c.before.before.before).small,
     )
 
-sub-write-nesting : tie.Need-overflow-sub-write-nesting invariant-loop decreases-loop
+sub-write-nesting : tie.Need-slice_bounds-write_nesting-count invariant-loop decreases-loop
 sub-write-nesting c = search rules
 
-part-write-nesting-start : tie.Need-slice-bounds-write-nesting-start invariant-loop decreases-loop
+part-write-nesting-start : tie.Need-slice_bounds-write_nesting-start invariant-loop decreases-loop
 part-write-nesting-start c = search rules
 
-part-write-nesting-end : tie.Need-slice-bounds-write-nesting-end invariant-loop decreases-loop
+part-write-nesting-end : tie.Need-slice_bounds-write_nesting-end invariant-loop decreases-loop
 part-write-nesting-end c = search rules
 
-write-nesting-requires : tie.Need-write-nesting-requires invariant-loop decreases-loop
+write-nesting-requires : tie.Need-write_nesting-n-requires invariant-loop decreases-loop
 write-nesting-requires c κs =
-    let left = c.before.before.before.before in
-    next_fits left.before.before.before.loop.invariant.0 (nesting_next _ _ (turn left) c.before.before.is_member.ensures c.before.if1.false)
+    next_fits c.loop-rest.invariant.0 (nesting_next _ _ (turn c.before.before.before.before) c.is_member.ensures c.if-is_member.false)
 
-loop-less-2 : tie.Need-loop-smaller-2 invariant-loop decreases-loop
+loop-less-2 : tie.Need-loop-rest-smaller invariant-loop decreases-loop
 loop-less-2 c = (turn c.before.before.before.before.before.before.before).fewer
 
-loop-again-2 : tie.Need-loop-preserved-2 invariant-loop decreases-loop
+loop-again-2 : tie.Need-loop-rest-preserved invariant-loop decreases-loop
 loop-again-2 c =
-    let outside = c.before.before.before.before in
-    let left = outside.before.before.before in (
-      next left.before.before.before.loop.invariant.0 (nesting_next _ _ (turn left) outside.before.is_member.ensures outside.if1.false)
-          c.before.before.write-nesting.ensures,
-      (turn left).small,
+    (
+      next c.loop-rest.invariant.0 (nesting_next _ _ (turn c.before.before.before.before.before.before.before) c.is_member.ensures c.if-is_member.false)
+          c.write_nesting-n.ensures,
+      (turn c.before.before.before.before.before.before.before).small,
     )
 
-add_at : tie.Need-overflow-add-at invariant-loop decreases-loop
+add_at : tie.Need-overflow_add-at invariant-loop decreases-loop
 add_at c = let r = (loop-again-2 c).0 in omega arith
 
-same_length : tie.Need-same-length invariant-loop decreases-loop
+same_length : tie.Need-shape_of-out invariant-loop decreases-loop
 same_length c = search rules
 
 returns : tie.Need-returns invariant-loop decreases-loop
-returns c = finish c.before.loop.invariant.0 (nestings_end _ _ _ c.loop-test.false)
+returns c = finish c.loop-rest.invariant.0 (nestings_end _ _ _ c.loop-rest-test.false)
 
-pub write-nestings-of-spec : {M : Type 1} → statement M
-write-nestings-of-spec =
+pub write_nestings_of_spec : {M : Type 1} → statement M
+write_nestings_of_spec =
     tie.close
     (tie.spec invariant-loop decreases-loop mul-rest shared-slice-read-rest loop-holds first-member-requires without-first-requires mul-is-member
     shared-slice-read-is-member is-member-requires loop-less loop-again sub-write-nesting part-write-nesting-start part-write-nesting-end
