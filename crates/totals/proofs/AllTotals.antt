@@ -107,7 +107,8 @@ length_totals analyses = go (replicate 60 0) analyses (length-replicate {A = ℕ
     go : (fixed : List ℕ) (left : List Analysis) → length fixed ≡ 60
         → length (foldl (λ f a. entered a.space.properties a.conditions (length a.space.members) f) fixed left) ≡ 60
     go fixed [] e = e
-    go fixed (a ∷ left) e = go _ left (length_set_all _ fixed a.space.properties ∙ e)
+    go fixed (a ∷ left) e =
+        go (entered a.space.properties a.conditions (length a.space.members) fixed) left (length_set_all _ fixed a.space.properties ∙ e)
 
 -- a property's entry in it
 entered_at : (a : Analysis) (fixed : List ℕ) (c : ℕ) → c < length fixed

@@ -8,94 +8,75 @@ use Rattle.previews.proofs.Committing.{lent_inside, lent_alike, lent_same, commi
 use Rattle.previews.proofs.commit.Statement.{statement}
 use Rattle.previews.proofs.commit.Tie as tie
 
--- earlier points of the function, each reached from the next: start, objects counted, admitted, the word that it was
-abbrev entry : tie.After-lent-count → tie.Start
-entry c = c.before.before.before.before
-
-abbrev lending : tie.After-admit → tie.After-lent-count
-lending c = c.before.before.before.before
-
-abbrev admitting : tie.After-enum-told → tie.After-admit
-admitting c = c.before.before
-
 -- six objects are kept
-six : (c : tie.After-lent-count) → length (entry c).args.changes.objects ≡ 6
+six : (c : tie.After-lent_count-lent) → length c.args.changes.objects ≡ 6
 six c = search rules
 
-lent-count-requires : tie.Need-lent-count-requires
+lent-count-requires : tie.Need-lent_count-lent-requires
 lent-count-requires c κs = search rules
 
-sub-admit : tie.Need-overflow-sub-admit
+sub-admit : tie.Need-slice_bounds-admit-count
 sub-admit c = search rules
 
-part-admit-start : tie.Need-slice-bounds-admit-start
+part-admit-start : tie.Need-slice_bounds-admit-start
 part-admit-start c = search rules
 
-part-admit-end : tie.Need-slice-bounds-admit-end
-part-admit-end c = let counted = c.before.before in lent_inside (entry counted).args.changes (six counted) counted.lent-count.ensures
+part-admit-end : tie.Need-slice_bounds-admit-end
+part-admit-end c = lent_inside c.args.changes (six c) c.lent_count-lent.ensures
 
-admit-requires : tie.Need-admit-requires
+admit-requires : tie.Need-admit-admitted-requires
 admit-requires c κs = search rules
 
-enum_told : tie.Need-enum-told
+enum_told : tie.Need-enum_told-1
 enum_told c = search rules
 
-same_length : tie.Need-same-length
+same_length : tie.Need-shape_of-state-in_default
 same_length c = search rules
 
-returns : tie.Need-returns
+returns : tie.Need-returns-in_default
 returns c =
-    let admitted = c.before in
-    let counted = lending admitted in
-    let refused = not_counted _ c.match.keys2 in
-    commit_refused _ _ _ (preview_of (entry counted).args.changes)
-    (lent_alike (entry counted).args.changes (six counted) counted.lent-count.ensures _ _ _ ∙ refused_so admitted.admit.ensures refused.1)
+    let refused = not_counted _ c.in_default.in_default-own.keys2 in
+    commit_refused _ _ _ (preview_of c.args.changes)
+    (lent_alike c.args.changes (six c.before.before.before) c.lent_count-lent.ensures _ _ _ ∙ refused_so c.admit-admitted.ensures refused.1)
     refused.1
 
-sub-commit-admitted : tie.Need-overflow-sub-commit-admitted
+sub-commit-admitted : tie.Need-slice_bounds-commit_admitted-count
 sub-commit-admitted c = search rules
 
-part-commit-admitted-start : tie.Need-slice-bounds-commit-admitted-start
+part-commit-admitted-start : tie.Need-slice_bounds-commit_admitted-start
 part-commit-admitted-start c = search rules
 
-part-commit-admitted-end : tie.Need-slice-bounds-commit-admitted-end
+part-commit-admitted-end : tie.Need-slice_bounds-commit_admitted-end
 part-commit-admitted-end c =
-    let told = c.before.before.before.before in
-    ((admitting told).admit.ensures.granted _ told.enum_told.given.1).inside
+    (c.admit-admitted.ensures.granted _ c.in-Count.is).inside
 
-sub-commit-admitted-2 : tie.Need-overflow-sub-commit-admitted-2
+sub-commit-admitted-2 : tie.Need-slice_bounds-commit_admitted-count-2
 sub-commit-admitted-2 c = search rules
 
-part-commit-admitted-start-2 : tie.Need-slice-bounds-commit-admitted-start-2
+part-commit-admitted-start-2 : tie.Need-slice_bounds-commit_admitted-start-2
 part-commit-admitted-start-2 c = search rules
 
-part-commit-admitted-end-2 : tie.Need-slice-bounds-commit-admitted-end-2
+part-commit-admitted-end-2 : tie.Need-slice_bounds-commit_admitted-end-2
 part-commit-admitted-end-2 c =
-    let counted = lending (admitting c.before.before.before.before.before.before.before) in
-    lent_inside (entry counted).args.changes (six counted) counted.lent-count.ensures
+    lent_inside c.args.changes (six c.before.before.before.before.before.before.before.before) c.lent_count-lent.ensures
 
-commit-admitted-requires : tie.Need-commit-admitted-requires
+commit-admitted-requires : tie.Need-commit_admitted-requires
 commit-admitted-requires c κs =
-    let told = c.before.before.before.before.before.before.before.before in
-    let granted = (admitting told).admit.ensures.granted _ told.enum_told.given.1 in
+    let granted = c.admit-admitted.ensures.granted _ c.in-Count.is in
     record { ready = granted.ready; holds = granted.allowed }
 
-same-length-2 : tie.Need-same-length-2
+same-length-2 : tie.Need-shape_of-state
 same-length-2 c = search rules
 
-returns-2 : tie.Need-returns-2
+returns-2 : tie.Need-returns
 returns-2 c =
-    let done = c.before.before in
-    let told = done.before.before.before.before.before.before.before.before.before in
-    let admitted = admitting told in
-    let counted = lending admitted in
-    let granted = admitted.admit.ensures.granted _ told.enum_told.given.1 in
-    commit_granted _ _ _ (preview_of (entry counted).args.changes)
-    (lent_alike (entry counted).args.changes (six counted) counted.lent-count.ensures _ _ _ ∙ granted.is)
-    (lent_same (entry counted).args.changes (six counted) counted.lent-count.ensures granted) done.commit-admitted.ensures
+    let granted = c.admit-admitted.ensures.granted _ c.in-Count.is in
+    commit_granted _ _ _ (preview_of c.args.changes)
+    (lent_alike c.args.changes (six c.before.before.before.before.before.before.before.before.before.before.before.before) c.lent_count-lent.ensures _ _ _ ∙ granted.is)
+    (lent_same c.args.changes (six c.before.before.before.before.before.before.before.before.before.before.before.before) c.lent_count-lent.ensures granted) c.commit_admitted.ensures
 
-pub commit-spec : {M : Type 1} → statement M
-commit-spec =
+pub commit_spec : {M : Type 1} → statement M
+commit_spec =
     tie.close
     (tie.spec lent-count-requires sub-admit part-admit-start part-admit-end admit-requires enum_told same_length returns sub-commit-admitted
     part-commit-admitted-start part-commit-admitted-end sub-commit-admitted-2 part-commit-admitted-start-2 part-commit-admitted-end-2

@@ -15,78 +15,72 @@ use Rattle.previews.proofs.missing.Tie as tie
 abbrev absent : ℕ → List ℕ → ℕ → Bool
 absent count state n = not (member n (numbers_in count state))
 
-abbrev invariant-loop : tie.invariant-loop
+abbrev invariant-loop : tie.invariant-loop-i
 invariant-loop state count facts facts-count numbers₀ new₀ i₀ numbers new i = (i ≤ facts-count) × Picked (absent count state) facts.numbers i new numbers
 
-abbrev decreases-loop : tie.decreases-loop
+abbrev decreases-loop : tie.decreases-loop-i
 decreases-loop state count facts facts-count numbers₀ new₀ i₀ numbers new i = facts-count - i
 
--- the start of the function, reached from the loop
-abbrev entry : tie.At-loop invariant-loop decreases-loop → tie.Start invariant-loop decreases-loop
-entry c = c.before.before
-
 -- the place that is looked at is one of eight
-fewer : (c : tie.In-loop invariant-loop decreases-loop) → c.before.loop.i < 8
-fewer c = let few = (entry c.before).pre.0.few in omega arith
+fewer : (c : tie.In-loop-i invariant-loop decreases-loop) → c.loop-i.i < 8
+fewer c = let few = c.requires.0.few in omega arith
 
-inside : (c : tie.In-loop invariant-loop decreases-loop) → c.before.loop.i < length (entry c.before).args.t1.numbers
-inside c = let few = (entry c.before).pre.0.few in let size = (entry c.before).pre.0.size in omega arith
+inside : (c : tie.In-loop-i invariant-loop decreases-loop) → c.loop-i.i < length c.args.facts.numbers
+inside c = let few = c.requires.0.few in let size = c.requires.0.size in omega arith
 
 -- and so is the next one that is written
-new_inside : (c : tie.Else1 invariant-loop decreases-loop) → c.before.before.before.before.loop.new < 8
-new_inside c = let more = c.before.before.before in room_picked (fewer more) (inside more) more.before.loop.invariant.1
+new_inside : (c : tie.Else-has_row invariant-loop decreases-loop) → c.loop-i.new < 8
+new_inside c = room_picked (fewer c.before.before.before) (inside c.before.before.before) c.loop-i.invariant.1
 
-loop-holds : tie.Need-loop-init invariant-loop decreases-loop
+loop-holds : tie.Need-loop-i-init invariant-loop decreases-loop
 loop-holds c = (omega arith, none_picked)
 
-mul-n : tie.Need-overflow-mul-n invariant-loop decreases-loop
-mul-n c = let few = (entry c.before).pre.0.few in omega arith
+mul-n : tie.Need-offset_bounds-facts-i invariant-loop decreases-loop
+mul-n c = let few = c.requires.0.few in omega arith
 
-element-copy-out-n : tie.Need-element-copy-out-n invariant-loop decreases-loop
-element-copy-out-n c = let few = (entry c.before).pre.0.few in omega arith
+element-copy-out-n : tie.Need-bounds-facts-i invariant-loop decreases-loop
+element-copy-out-n c = let few = c.requires.0.few in omega arith
 
-has-row-requires : tie.Need-has-row-requires invariant-loop decreases-loop
-has-row-requires c κs = (entry c.before.before).pre.1
+has-row-requires : tie.Need-has_row-requires invariant-loop decreases-loop
+has-row-requires c κs = c.requires.1
 
-add-i : tie.Need-overflow-add-i invariant-loop decreases-loop
+add-i : tie.Need-overflow_add-i invariant-loop decreases-loop
 add-i c = omega arith
 
-loop-less : tie.Need-loop-smaller invariant-loop decreases-loop
+loop-less : tie.Need-loop-i-smaller-then-has_row invariant-loop decreases-loop
 loop-less c = omega arith
 
-loop-again : tie.Need-loop-preserved invariant-loop decreases-loop
+loop-again : tie.Need-loop-i-preserved-then-has_row invariant-loop decreases-loop
 loop-again c =
-    let more = c.before.before.before in
-    (omega arith, picked_skipped (fewer more) (inside more) more.before.loop.invariant.1 (sym (ap not c.before.has_row.ensures) ∙ ap not c.if1.true))
+    (omega arith, picked_skipped (fewer c.before.before.before) (inside c.before.before.before) c.loop-i.invariant.1 (sym (ap not c.has_row.ensures) ∙ ap not c.if-has_row.true))
 
-mul-numbers : tie.Need-overflow-mul-numbers invariant-loop decreases-loop
+mul-numbers : tie.Need-offset_bounds-numbers-new invariant-loop decreases-loop
 mul-numbers c = let few = new_inside c in omega arith
 
-array-write-numbers : tie.Need-array-write-numbers invariant-loop decreases-loop
+array-write-numbers : tie.Need-bounds-numbers-new invariant-loop decreases-loop
 array-write-numbers c = new_inside c
 
-add-new : tie.Need-overflow-add-new invariant-loop decreases-loop
+add-new : tie.Need-overflow_add-new invariant-loop decreases-loop
 add-new c = let few = new_inside c in omega arith
 
-add-i-2 : tie.Need-overflow-add-i-2 invariant-loop decreases-loop
+add-i-2 : tie.Need-overflow_add-i-in-loop-i invariant-loop decreases-loop
 add-i-2 c = omega arith
 
-loop-less-2 : tie.Need-loop-smaller-2 invariant-loop decreases-loop
+loop-less-2 : tie.Need-loop-i-smaller invariant-loop decreases-loop
 loop-less-2 c = omega arith
 
-loop-again-2 : tie.Need-loop-preserved-2 invariant-loop decreases-loop
+loop-again-2 : tie.Need-loop-i-preserved invariant-loop decreases-loop
 loop-again-2 c =
-    let more = c.before.before.before in
-    (omega arith, picked_next (fewer more) (inside more) more.before.loop.invariant.1 (sym (ap not c.before.has_row.ensures) ∙ ap not c.if1.false))
+    (omega arith, picked_next (fewer c.before.before.before) (inside c.before.before.before) c.loop-i.invariant.1 (sym (ap not c.has_row.ensures) ∙ ap not c.if-has_row.false))
 
 returns : tie.Need-returns invariant-loop decreases-loop
 returns c =
-    let within = c.before.loop.invariant.0 in
-    let past = c.loop-test.false in
-    picked_all (entry c.before).args.t1.count (omega arith) c.before.loop.invariant.1
+    let within = c.loop-i.invariant.0 in
+    let past = c.loop-i-test.false in
+    picked_all c.args.facts.count (omega arith) c.loop-i.invariant.1
 
-pub missing-spec : {M : Type 1} → statement M
-missing-spec =
+pub missing_spec : {M : Type 1} → statement M
+missing_spec =
     tie.close
     (tie.spec invariant-loop decreases-loop loop-holds mul-n element-copy-out-n has-row-requires add-i loop-less loop-again mul-numbers array-write-numbers
     add-new add-i-2 loop-less-2 loop-again-2 returns)

@@ -7,37 +7,37 @@ use Rattle.laws.proofs.Agreeing.{Agreeing, agreeing_none, agreeing_next, agreein
 use Rattle.previews.proofs.same_bytes.Statement.{statement}
 use Rattle.previews.proofs.same_bytes.Tie as tie
 
-abbrev invariant-loop : tie.invariant-loop
+abbrev invariant-loop : tie.invariant-loop-i
 invariant-loop a b i₀ i = Agreeing a b i
 
-abbrev decreases-loop : tie.decreases-loop
+abbrev decreases-loop : tie.decreases-loop-i
 decreases-loop a b i₀ i = length a - i
 
-loop-holds : tie.Need-loop-init invariant-loop decreases-loop
+loop-holds : tie.Need-loop-i-init invariant-loop decreases-loop
 loop-holds c = agreeing_none
 
-shared-slice-read-if1 : tie.Need-shared-slice-read-if1 invariant-loop decreases-loop
+shared-slice-read-if1 : tie.Need-bounds-a-i invariant-loop decreases-loop
 shared-slice-read-if1 c = search rules
 
-shared-slice-read-if1-2 : tie.Need-shared-slice-read-if1-2 invariant-loop decreases-loop
+shared-slice-read-if1-2 : tie.Need-bounds-b-i invariant-loop decreases-loop
 shared-slice-read-if1-2 c = search rules
 
-returns : tie.Need-returns invariant-loop decreases-loop
-returns c = agreeing_other c.before.before.before.before.loop.invariant c.if1.true
+returns : tie.Need-returns-then-a-i invariant-loop decreases-loop
+returns c = agreeing_other c.loop-i.invariant c.if-a-i.true
 
-add-i : tie.Need-overflow-add-i invariant-loop decreases-loop
+add-i : tie.Need-overflow_add-i invariant-loop decreases-loop
 add-i c = search rules
 
-loop-less : tie.Need-loop-smaller invariant-loop decreases-loop
+loop-less : tie.Need-loop-i-smaller invariant-loop decreases-loop
 loop-less c = omega arith
 
-loop-again : tie.Need-loop-preserved invariant-loop decreases-loop
-loop-again c = agreeing_next c.before.before.before.before.loop.invariant c.before.before.before.loop-test.true c.if1.false
+loop-again : tie.Need-loop-i-preserved invariant-loop decreases-loop
+loop-again c = agreeing_next c.loop-i.invariant c.loop-i-test.true c.if-a-i.false
 
-returns-2 : tie.Need-returns-2 invariant-loop decreases-loop
-returns-2 c = agreeing_all c.before.loop.invariant c.before.before.requires c.loop-test.false
+returns-2 : tie.Need-returns invariant-loop decreases-loop
+returns-2 c = agreeing_all c.loop-i.invariant c.requires c.loop-i-test.false
 
-pub same-bytes-spec : {M : Type 1} → statement M
-same-bytes-spec =
+pub same_bytes_spec : {M : Type 1} → statement M
+same_bytes_spec =
     tie.close
     (tie.spec invariant-loop decreases-loop loop-holds shared-slice-read-if1 shared-slice-read-if1-2 returns add-i loop-less loop-again returns-2)

@@ -7,49 +7,46 @@ use Rattle.previews.proofs.RowLists.{other_number, rows_compared}
 use Rattle.previews.proofs.same_rows.Statement.{statement}
 use Rattle.previews.proofs.same_rows.Tie as tie
 
-returns : tie.Need-returns
-returns c = other_number _ _ c.if1.true
+returns : tie.Need-returns-then-given-count
+returns c = other_number _ _ c.if-given-count.true
 
-mul-end : tie.Need-overflow-mul-end
+mul-end : tie.Need-overflow_mul-end
 mul-end c = search rules
 
-sub-same-bytes : tie.Need-overflow-sub-same-bytes
+sub-same-bytes : tie.Need-slice_bounds-same_bytes-count
 sub-same-bytes c = search rules
 
-part-same-bytes-start : tie.Need-slice-bounds-same-bytes-start
+part-same-bytes-start : tie.Need-slice_bounds-same_bytes-start
 part-same-bytes-start c = search rules
 
-part-same-bytes-end : tie.Need-slice-bounds-same-bytes-end
+part-same-bytes-end : tie.Need-slice_bounds-same_bytes-end
 part-same-bytes-end c =
-    let start = c.before.before.before.before.before in
-    let few = start.requires in
-    let size : length start.args.given.rows ≡ 32 = search rules in
+    let few = c.requires in
+    let size : length c.args.given.rows ≡ 32 = search rules in
     omega arith
 
-sub-same-bytes-2 : tie.Need-overflow-sub-same-bytes-2
+sub-same-bytes-2 : tie.Need-slice_bounds-same_bytes-count-2
 sub-same-bytes-2 c = search rules
 
-part-same-bytes-start-2 : tie.Need-slice-bounds-same-bytes-start-2
+part-same-bytes-start-2 : tie.Need-slice_bounds-same_bytes-start-2
 part-same-bytes-start-2 c = search rules
 
-part-same-bytes-end-2 : tie.Need-slice-bounds-same-bytes-end-2
+part-same-bytes-end-2 : tie.Need-slice_bounds-same_bytes-end-2
 part-same-bytes-end-2 c =
-    let start = c.before.before.before.before.before.before.before in
-    let few = start.requires in
-    let size : length start.args.found.rows ≡ 32 = search rules in
+    let few = c.requires in
+    let size : length c.args.found.rows ≡ 32 = search rules in
     omega arith
 
-same-bytes-requires : tie.Need-same-bytes-requires
+same-bytes-requires : tie.Need-same_bytes-requires
 same-bytes-requires c κs = search rules
 
-returns-2 : tie.Need-returns-2
+returns-2 : tie.Need-returns
 returns-2 c =
-    let start = c.before.before.before.before.before.before.before.before.before in
-    rows_compared _ _ (search rules) (search rules) start.requires c.before.before.before.before.before.before.before.if1.false
+    rows_compared _ _ (search rules) (search rules) c.requires c.if-given-count.false
     c.same_bytes.ensures
 
-pub same-rows-spec : {M : Type 1} → statement M
-same-rows-spec =
+pub same_rows_spec : {M : Type 1} → statement M
+same_rows_spec =
     tie.close
     (tie.spec returns mul-end sub-same-bytes part-same-bytes-start part-same-bytes-end sub-same-bytes-2 part-same-bytes-start-2
     part-same-bytes-end-2 same-bytes-requires returns-2)

@@ -10,5 +10,5 @@ returns : tie.Need-returns
 unfolding blank_changes rows_for padded flat_map
 returns c = refl
 
-pub without-changes-spec : {M : Type 1} → statement M
-without-changes-spec = tie.close (tie.spec returns)
+pub without_changes_spec : {M : Type 1} → statement M
+without_changes_spec = tie.close (tie.spec returns)
