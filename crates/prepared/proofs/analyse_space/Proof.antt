@@ -10,74 +10,62 @@ use Rattle.prepared.proofs.Analysing.{own_kept, own_inside, own_low, sizes_low, 
 use Rattle.prepared.proofs.analyse_space.Statement.{statement}
 use Rattle.prepared.proofs.analyse_space.Tie as tie
 
--- the start, from the own properties
-abbrev entry : tie.After-own-properties → tie.Start
-entry c = c.before.before.before.before.before.before.before.before.before.before.before
-
--- the analysis, from the end
-abbrev done : tie.After-slice-known6 → tie.After-analyse
-done c = c.before.before.before.before.before.before
-
 -- the own properties, as they are lent
-own_lent : (c : tie.After-own-properties)
-    → take (c.own-properties.result.count - 0) c.own-properties.result.properties
-    ≡ own_of_space (entry c).args.prepared (entry c).args.number
+own_lent : (c : tie.After-own_properties-own)
+    → take (c.own_properties-own.result.count - 0) c.own_properties-own.result.properties
+    ≡ own_of_space c.args.prepared c.args.number
 unfolding own_of_space
 own_lent c =
-    ap (λ (n : ℕ). take n c.own-properties.result.properties) (sub-zero c.own-properties.result.count)
-    ∙ own_kept c.own-properties.ensures
+    ap (λ (n : ℕ). take n c.own_properties-own.result.properties) (sub-zero c.own_properties-own.result.count)
+    ∙ own_kept c.own_properties-own.ensures
 
-slice-aggregate-own-properties : tie.Need-slice-aggregate-own-properties
+slice-aggregate-own-properties : tie.Need-slice_bounds-own_properties-end
 slice-aggregate-own-properties c = search rules
 
-element-copy-out-own-properties : tie.Need-element-copy-out-own-properties
-element-copy-out-own-properties c = (sizes_low c.before.before.before.before.before.before.before.before.before.requires).1.1
+element-copy-out-own-properties : tie.Need-bounds-spaces-number
+element-copy-out-own-properties c = (sizes_low c.requires).1.1
 
-own-properties-requires : tie.Need-own-properties-requires
+own-properties-requires : tie.Need-own_properties-own-requires
 own-properties-requires c κs =
-    let s = c.before.before.before.before.before.before.before.before.before.before in
-    ((sizes_low s.requires).0, (sizes_low s.requires).1.0)
+    ((sizes_low c.requires).0, (sizes_low c.requires).1.0)
 
-sub-analyse : tie.Need-overflow-sub-analyse
+sub-analyse : tie.Need-slice_bounds-analyse-count
 sub-analyse c = search rules
 
-part-analyse-start : tie.Need-slice-bounds-analyse-start
+part-analyse-start : tie.Need-slice_bounds-analyse-start
 part-analyse-start c = search rules
 
-part-analyse-end : tie.Need-slice-bounds-analyse-end
+part-analyse-end : tie.Need-slice_bounds-analyse-end
 unfolding own_of_space
 part-analyse-end c =
-    let own = c.before.before in
-    own_inside own.own-properties.ensures (own_low (entry own).requires)
+    own_inside c.own_properties-own.ensures (own_low c.requires)
 
-mul-analyse : tie.Need-overflow-mul-analyse
-mul-analyse c = omega (arith, (sizes_low (entry c.before.before.before).requires).1.1)
+mul-analyse : tie.Need-offset_bounds-spaces-number
+mul-analyse c = omega (arith, (sizes_low c.requires).1.1)
 
-element-copy-out-analyse : tie.Need-element-copy-out-analyse
-element-copy-out-analyse c = (sizes_low (entry c.before.before.before).requires).1.1
+element-copy-out-analyse : tie.Need-bounds-spaces-number-2
+element-copy-out-analyse c = (sizes_low c.requires).1.1
 
-analyse-requires : tie.Need-analyse-requires
+analyse-requires : tie.Need-analyse-analysed-requires
 analyse-requires c κs =
-    let own = c.before.before.before.before.before.before.before in
-    analysable_space (entry own).requires (own_lent own)
+    analysable_space c.requires (own_lent c.before.before.before.before.before.before)
 
-same_length : tie.Need-same-length
-same_length c = (done c).analyse.auto.1.1.1.1.1.1.0
+same_length : tie.Need-shape_of-starts
+same_length c = c.analyse-analysed.auto.starts
 
-same-length-2 : tie.Need-same-length-2
-same-length-2 c = (done c).analyse.auto.1.1.1.1.1.1.1.0
+same-length-2 : tie.Need-shape_of-finishes
+same-length-2 c = c.analyse-analysed.auto.finishes
 
-same-length-3 : tie.Need-same-length-3
-same-length-3 c = (done c).analyse.auto.1.1.1.1.1.1.1.1.0
+same-length-3 : tie.Need-shape_of-conditions
+same-length-3 c = c.analyse-analysed.auto.conditions
 
 returns : tie.Need-returns
 unfolding own_of_space
 returns c =
-    let own = (done c).before.before.before.before.before.before.before.before in
-    found_at (entry own).pre (own_lent own) own.own-properties.ensures (done c).analyse.ensures
+    found_at c.requires (own_lent c.before.before.before.before.before.before.before.before.before.before.before.before.before) c.own_properties-own.ensures c.analyse-analysed.ensures
 
-pub analyse-space-spec : {M : Type 1} → statement M
-analyse-space-spec =
+pub analyse_space_spec : {M : Type 1} → statement M
+analyse_space_spec =
     tie.close
     (tie.spec
     slice-aggregate-own-properties

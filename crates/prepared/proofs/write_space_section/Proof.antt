@@ -7,81 +7,66 @@ use Rattle.prepared.proofs.Within.{both_within}
 use Rattle.prepared.proofs.write_space_section.Statement.{statement}
 use Rattle.prepared.proofs.write_space_section.Tie as tie
 
--- earlier points of the function, each reached from the next: start, the space's own lines written, the kind known to be mixed
-abbrev entry : tie.After-write-found → tie.Start
-entry c = c.before.before.before.before.before.before.before.before.before.before
-
-abbrev written : tie.After-enum-told → tie.After-write-found
-written c = c.before.before.before.before.before
-
-abbrev mixed : tie.After-write-rescue-arg4 → tie.After-enum-told
+abbrev mixed : tie.After-write_rescue-arg-in-Mixed-3-1 → tie.In-Mixed
 mixed c = c.before.before.before.before
 
-write-found-requires : tie.Need-write-found-requires
+write-found-requires : tie.Need-write_found-at-requires
 write-found-requires c κs = search rules
 
-enum_told : tie.Need-enum-told
+enum_told : tie.Need-enum_told-1
 enum_told c = search rules
 
-sub-write-rescue : tie.Need-overflow-sub-write-rescue
+sub-write-rescue : tie.Need-slice_bounds-write_rescue-count
 sub-write-rescue c =
-    let s = entry (written c) in
-    (room_for_rescue s.pre.0.found.of c.enum_told.given.1 s.pre.1 (written c).write-found.ensures).0
+    (room_for_rescue c.requires.0.found.of c.in-Mixed.is c.requires.1 c.write_found-at.ensures).0
 
-part-write-rescue-start : tie.Need-slice-bounds-write-rescue-start
+part-write-rescue-start : tie.Need-slice_bounds-write_rescue-start
 part-write-rescue-start c = sub-write-rescue c
 
-part-write-rescue-end : tie.Need-slice-bounds-write-rescue-end
+part-write-rescue-end : tie.Need-slice_bounds-write_rescue-end
 part-write-rescue-end c = search rules
 
-write-rescue-requires : tie.Need-write-rescue-requires
+write-rescue-requires : tie.Need-write_rescue-n-requires
 write-rescue-requires c κs =
-    let told = mixed c in
-    let s = entry (written told) in
-    (s.pre.0, (room_for_rescue s.pre.0.found.of told.enum_told.given.1 s.pre.1 (written told).write-found.ensures).1)
+    (c.requires.0, (room_for_rescue c.requires.0.found.of c.in-Mixed.is c.requires.1 c.write_found-at.ensures).1)
 
-returns : tie.Need-returns
+returns : tie.Need-returns-in-Mixed
 returns c t h =
-    let rescued = c.before.before.before.before.before.before.before.before in
-    let told = mixed rescued.before in
-    section_mixed h.of told.enum_told.given.1 (written told).write-found.ensures (rescued.write-rescue.ensures t h)
+    section_mixed h.of c.in-Mixed.is c.write_found-at.ensures (c.write_rescue-n.ensures t h)
 
-add-result : tie.Need-overflow-add-result
+add-result : tie.Need-overflow_add-result
 add-result c =
-    let rescued = c.before.before.before.before.before.before.before.before in
-    let told = mixed rescued.before in
-    let s = entry (written told) in
     omega (
       arith,
-      both_within (written told).write-found.ensures (sub-write-rescue told) (rescued.write-rescue.ensures _ s.pre.0.found)
-          rescued.write-rescue.auto.0,
-      (written told).write-found.kept.0,
-      s.good.0,
+      both_within c.write_found-at.ensures (sub-write-rescue c.before.before.before.before.before.before.before.before.before.before.before.before.before) (c.write_rescue-n.ensures _ c.requires.0.found)
+          c.write_rescue-n.auto.out,
+      c.write_found-at.auto.out,
+      c.well_formed.0,
     )
 
-same_length : tie.Need-same-length
+same_length : tie.Need-shape_of-out-in-Mixed
 same_length c = search rules
 
-same-length-2 : tie.Need-same-length-2
+same-length-2 : tie.Need-shape_of-starts
 same-length-2 c = search rules
 
-same-length-3 : tie.Need-same-length-3
+same-length-3 : tie.Need-shape_of-finishes
 same-length-3 c = search rules
 
-same-length-4 : tie.Need-same-length-4
+same-length-4 : tie.Need-shape_of-conditions-in-Mixed
 same-length-4 c = search rules
 
-same-length-5 : tie.Need-same-length-5
+same-length-5 : tie.Need-shape_of-out-in_default
 same-length-5 c = search rules
 
-same-length-6 : tie.Need-same-length-6
+same-length-6 : tie.Need-shape_of-conditions-in_default
 same-length-6 c = search rules
 
-returns-2 : tie.Need-returns-2
-returns-2 c t h = section_other h.of c.match.keys2 c.before.before.before.before.write-found.ensures
+returns-2 : tie.Need-returns-in_default
+returns-2 c t h = section_other h.of c.in_default.in_default-own.keys2 c.write_found-at.ensures
 
-pub write-space-section-spec : {M : Type 1} → statement M
-write-space-section-spec =
+pub write_space_section_spec : {M : Type 1} → statement M
+write_space_section_spec =
     tie.close
     (tie.spec write-found-requires enum_told sub-write-rescue part-write-rescue-start part-write-rescue-end write-rescue-requires add-result
     same_length same-length-2 same-length-3 same-length-4 returns same-length-5 same-length-6 returns-2)
