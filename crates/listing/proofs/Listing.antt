@@ -22,14 +22,13 @@ use Rattle.prepared.proofs.Lending.{given_filled}
 use Rattle.prepared.proofs.SectionsOf.{section_of_space, section_closing}
 
 -- the tables lent for a task, and lent on to be filled, are given to what follows
-pub tables_given : {task : Kept} {r : Prepared} {preconditions deletes adds counts p d a c : List ℕ} {B E F : Type 0}
+pub tables_given : {task : Kept} {r : Prepared} {preconditions deletes adds counts p d a c : List ℕ} {B E : Type 0}
     → Represented task (task_of task) × (B × (RoomForBags (parameters_in (task_of task).schemas) preconditions deletes adds × ((3840 ≤ length counts) × E)))
     → PreparedOf (task_of task) r preconditions deletes adds counts p d a c
-    → (length p ≡ length preconditions)
-    × ((length d ≡ length deletes) × ((length a ≡ length adds) × ((length c ≡ length counts) × F)))
+    → (length p ≡ length preconditions) × (length d ≡ length deletes) × (length a ≡ length adds) × (length c ≡ length counts)
     → Given (task_of task) r p d a c
 tables_given pre filled kept =
-    given_filled pre.0.checked pre.1.1.0 pre.1.1.1.0 filled (kept.0, (kept.1.0, (kept.1.1.0, kept.1.1.1.0)))
+    given_filled pre.0.checked pre.1.1.0 pre.1.1.1.0 filled (kept.0, (kept.1, (kept.2, kept.3)))
 
 -- the section of a space
 pub space_listed : {t : Task} {number : ℕ} {p : Prepared} {f : Found} {conditions : List ℕ} → FoundOf t number p f conditions

@@ -10,38 +10,28 @@ use Rattle.listing.proofs.Totalling.{SameLengths, analysable_again, Entered, ent
 use Rattle.listing.proofs.fixed_totals.Statement.{statement}
 use Rattle.listing.proofs.fixed_totals.Tie as tie
 
-abbrev invariant-loop : tie.invariant-loop
+abbrev invariant-loop : tie.invariant-loop-number
 invariant-loop prepared deletes adds counts starts₀ finishes₀ conditions₀ count fixed₀ number₀ starts finishes conditions fixed number =
     Entered prepared deletes adds counts number fixed
     × (length fixed ≡ 60)
     × SameLengths starts₀ finishes₀ conditions₀ starts finishes conditions
     × (number ≤ count)
 
-abbrev decreases-loop : tie.decreases-loop
+abbrev decreases-loop : tie.decreases-loop-number
 decreases-loop prepared deletes adds counts starts₀ finishes₀ conditions₀ count fixed₀ number₀ starts finishes conditions fixed number =
     count - number
 
--- earlier points of the function, each reached from the next: start, loop, body, space analysed
-abbrev entry : tie.At-loop invariant-loop decreases-loop → tie.Start invariant-loop decreases-loop
-entry c = c.before.before.before.before.before.before.before.before
-
-abbrev body : tie.After-analyse-space invariant-loop decreases-loop → tie.In-loop invariant-loop decreases-loop
-body c = c.before.before.before.before
-
-abbrev analysed : tie.After-enter-space-arg invariant-loop decreases-loop → tie.After-analyse-space invariant-loop decreases-loop
-analysed c = c.before.before.before.before.before.before.before.before
-
 -- the space can be analysed
-can : (c : tie.In-loop invariant-loop decreases-loop)
-    → SpaceReady c.before.loop.number (entry c.before).args.prepared (entry c.before).args.deletes.now
-    (entry c.before).args.adds.now (entry c.before).args.counts.now c.before.loop.starts c.before.loop.finishes
-    c.before.loop.conditions
+can : (c : tie.In-loop-number invariant-loop decreases-loop)
+    → SpaceReady c.loop-number.number c.args.prepared c.args.deletes.now
+    c.args.adds.now c.args.counts.now c.loop-number.starts c.loop-number.finishes
+    c.loop-number.conditions
 can c =
-    let l = c.before.loop in
-    let known = c.loop-test.true in
-    analysable_again ((entry c.before).pre l.number known) l.invariant.2 known
+    let l = c.loop-number in
+    let known = c.loop-number-test.true in
+    analysable_again (c.requires l.number known) l.invariant.2 known
 
-loop-holds : tie.Need-loop-init invariant-loop decreases-loop
+loop-holds : tie.Need-loop-number-init invariant-loop decreases-loop
 loop-holds c = (
   entered_none _ _ _ _,
   length-replicate {A = ℕ} 60 0,
@@ -49,56 +39,54 @@ loop-holds c = (
   omega arith,
 )
 
-analyse-space-requires : tie.Need-analyse-space-requires invariant-loop decreases-loop
+analyse-space-requires : tie.Need-analyse_space-found-requires invariant-loop decreases-loop
 analyse-space-requires c κs = can c.before.before.before
 
-slice-aggregate-enter-space : tie.Need-slice-aggregate-enter-space invariant-loop decreases-loop
-slice-aggregate-enter-space c = sym (body c.before.before.before.before.before.before.before).before.loop.inv.1
+slice-aggregate-enter-space : tie.Need-slice_bounds-enter_space-end invariant-loop decreases-loop
+slice-aggregate-enter-space c = sym c.loop-number.invariant.1
 
-enter-space-requires : tie.Need-enter-space-requires invariant-loop decreases-loop
+enter-space-requires : tie.Need-enter_space-requires invariant-loop decreases-loop
 enter-space-requires c κs =
-    let found = analysed c in
-    let h = can (body found) in (
-      record { task = h.task; of = found_of h found.analyse-space.ensures found.analyse-space.kept.1.1.1.1.1.1.1.0 },
-      (body found).before.loop.inv.1,
+    let h = can c.before.before.before.before.before.before.before.before.before.before.before in (
+      record { task = h.task; of = found_of h c.analyse_space-found.ensures c.analyse_space-found.auto.conditions },
+      c.loop-number.invariant.1,
     )
 
-add-number : tie.Need-overflow-add-number invariant-loop decreases-loop
-add-number c = omega (arith, (sizes_low (can (body (analysed c.before.before)))).1.1)
+add-number : tie.Need-overflow_add-number invariant-loop decreases-loop
+add-number c = omega (arith, (sizes_low (can c.before.before.before.before.before.before.before.before.before.before.before.before.before)).1.1)
 
-loop-less : tie.Need-loop-smaller invariant-loop decreases-loop
-loop-less c = omega (arith, (body (analysed c.before.before)).loop-test.taken)
+loop-less : tie.Need-loop-number-smaller invariant-loop decreases-loop
+loop-less c = omega (arith, c.loop-number-test.true)
 
-loop-again : tie.Need-loop-preserved invariant-loop decreases-loop
+loop-again : tie.Need-loop-number-preserved invariant-loop decreases-loop
 loop-again c =
-    let found = analysed c.before.before in
-    let h = can (body found) in
-    let l = (body found).before.loop in
-    let kept = found.analyse-space.kept.1.1.1.1.1 in (
-      entered_next h found.analyse-space.ensures kept.1.1.0 _ c.before.enter-space.ensures l.inv.0,
-      c.before.enter-space.auto.0 ∙ l.inv.1,
+    let h = can c.before.before.before.before.before.before.before.before.before.before.before.before.before in
+    let l = c.loop-number in
+    let kept = c.analyse_space-found.auto in (
+      entered_next h c.analyse_space-found.ensures kept.conditions _ c.enter_space.ensures l.invariant.0,
+      c.enter_space.auto.fixed ∙ l.invariant.1,
       record {
-        starts_kept = kept.0 ∙ l.inv.2.starts_kept;
-        finishes_kept = kept.1.0 ∙ l.inv.2.finishes_kept;
-        conditions_kept = kept.1.1.0 ∙ l.inv.2.conditions_kept;
+        starts_kept = kept.starts ∙ l.invariant.2.starts_kept;
+        finishes_kept = kept.finishes ∙ l.invariant.2.finishes_kept;
+        conditions_kept = kept.conditions ∙ l.invariant.2.conditions_kept;
       },
-      omega (arith, (body found).loop-test.taken),
+      omega (arith, c.loop-number-test.true),
     )
 
-same_length : tie.Need-same-length invariant-loop decreases-loop
-same_length c = c.before.loop.invariant.2.starts_kept
+same_length : tie.Need-shape_of-starts invariant-loop decreases-loop
+same_length c = c.loop-number.invariant.2.starts_kept
 
-same-length-2 : tie.Need-same-length-2 invariant-loop decreases-loop
-same-length-2 c = c.before.loop.invariant.2.finishes_kept
+same-length-2 : tie.Need-shape_of-finishes invariant-loop decreases-loop
+same-length-2 c = c.loop-number.invariant.2.finishes_kept
 
-same-length-3 : tie.Need-same-length-3 invariant-loop decreases-loop
-same-length-3 c = c.before.loop.invariant.2.conditions_kept
+same-length-3 : tie.Need-shape_of-conditions invariant-loop decreases-loop
+same-length-3 c = c.loop-number.invariant.2.conditions_kept
 
 returns : tie.Need-returns invariant-loop decreases-loop
-returns c = entered_all c.loop-test.false c.before.loop.invariant.0
+returns c = entered_all c.loop-number-test.false c.loop-number.invariant.0
 
-pub fixed-totals-spec : {M : Type 1} → statement M
-fixed-totals-spec =
+pub fixed_totals_spec : {M : Type 1} → statement M
+fixed_totals_spec =
     tie.close
     (tie.spec
     invariant-loop
