@@ -3,14 +3,14 @@ use Prim.Native.Nat.{ℕ, zero, suc, ◌+◌, ◌-◌, ◌≤◌, ◌<◌, min, 
 use native.Mathlib.Nat.{suc_inj, suc-ne-zero, le_refl}
 use native.Mathlib.Omega.{arith}
 use mathlib.Core.Path.{◌≡◌, refl, sym, ap, ◌∙◌, subst}
-use mathlib.Core.Bool.{Bool, true, false, cond, not}
+use mathlib.Core.Bool.{Bool, true, false, cond}
 use mathlib.Core.List.{List, [], ◌∷◌, zip_with, Memᴰ}
 use mathlib.Core.List.Memᴰ
 use lib.Dec.{leb, eqb, ltb}
 use lib.ListN.{length, get_or, length-map, get_or-eq_default}
 use lib.Seq.{ext_get_or}
 use borrow.Author.Tests.{eqb-true, eqb-false, eq-eqb, ne_eqb, leb-true, le-leb, ltb-true, ltb-false, lt-ltb}
-use Rattle.laws.specs.Lists.{any, all, up_to, sum, same}
+use Rattle.laws.specs.Lists.{all, up_to, sum, same}
 use Rattle.laws.specs.Bags.{Bag, plus, less, meet, contains, is_empty, single, support, restrict, listed}
 use Rattle.laws.proofs.Tests.{never, and_left, and_right, and_intro, by_test, same_test, cond_true, cond_false}
 use Rattle.laws.proofs.Mapped.{get_d_map}
