@@ -1,5 +1,9 @@
 // An open input read to its end, of which the first bytes are kept in a window.
+#![tactic(auto)]
+
 ghost use Rattle.input.specs.Reads.{FrontRead, Keeps};
+
+use std::io::Read;
 
 // What reading an input answers: how many bytes of the window were read, or that a read failed.
 #[derive(Clone, Copy)]
@@ -9,17 +13,15 @@ pub enum Reading {
 }
 
 // Reads until the window is full, the input ends or a read fails. The end is met once, so that a terminal is asked for it once.
-fn fill(input: i32, window: &mut [u8]) -> Reading
+fn fill<R: Read>(input: &mut R, window: &mut [u8]) -> Reading
     ensures { FrontRead result window.new }
 {
     let mut kept: usize = 0;
     while kept < window.len() {
-        let got = libc::read(input, &mut window[kept..]);
-        let more = io::count(got, &window[kept..]);
+        let Ok(more) = input.read(&mut window[kept..]) else {
+            return Reading::Failed;
+        };
         if more == 0 {
-            if got < 0 {
-                return Reading::Failed;
-            }
             return Reading::Front(kept);
         }
         kept += more;
@@ -29,16 +31,15 @@ fn fill(input: i32, window: &mut [u8]) -> Reading
 
 // Reads an input on to its end, so that whoever writes to it is not cut off. The bytes kept stay as many, unless a read fails.
 // A proved loop has to end, and nothing says that the input does: the turns are counted down from a number that no run uses up.
-fn read_on(input: i32, kept: usize) -> Reading
+fn read_on<R: Read>(input: &mut R, kept: usize) -> Reading
     ensures { Keeps kept result }
 {
-    let mut rest = io::large_buffer();
+    let mut rest = [0u8; 65536];
     let mut turns = u64::MAX;
     while turns > 0 {
-        let got = libc::read(input, &mut rest);
-        if got < 0 {
+        let Ok(got) = input.read(&mut rest) else {
             return Reading::Failed;
-        }
+        };
         if got == 0 {
             break;
         }
@@ -48,7 +49,7 @@ fn read_on(input: i32, kept: usize) -> Reading
 }
 
 // Reads an input to its end and keeps as many bytes as the window holds. What is behind them is read only where the window is full.
-pub fn read_front(input: i32, window: &mut [u8]) -> Reading
+pub fn read_front<R: Read>(input: &mut R, window: &mut [u8]) -> Reading
     ensures { FrontRead result window.new }
 {
     let reading = fill(input, window);
