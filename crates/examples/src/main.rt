@@ -1,23 +1,30 @@
 // The examples of document 000, and well-known domains: each argument names a card's file, which is printed as its name and its listing.
-use libc::STDOUT_FILENO;
-use printer::print_from;
+// A file that cannot be opened is named on standard error with the reason, and the others are printed all the same.
+#![tactic(auto)]
 
-fn main() {
+use printer::print_from;
+use std::fs::File;
+use std::{env, io};
+
+fn main(rt: HostRuntime) -> io::Result<()> {
     let mut window = [0u8; 5306];
     let mut out = [0u8; 65536];
-    let count = os::arg_count();
-    for i in 1..count {
-        let mut path = io::buffer();
-        let length = os::arg(i, &mut path);
-        let name = &path[0..length];
-        let card = os::open_read(name);
-        if card < 0 {
-            os::fail(name);
-            continue;
+    for name in env::args(&rt)?.skip(1) {
+        match File::open(&rt, &name) {
+            Ok(mut card) => {
+                let _ = println!(rt; "{name}");
+                print_from(
+                    &mut card,
+                    &mut rt.stdout(),
+                    &mut rt.stderr(),
+                    &mut window,
+                    &mut out,
+                );
+            }
+            Err(error) => {
+                let _ = eprintln!(rt; "{name}: {error}");
+            }
         }
-        io::write_all(STDOUT_FILENO, name);
-        io::write_all(STDOUT_FILENO, b"\n");
-        print_from(card, &mut window, &mut out);
-        libc::close(card);
     }
+    Ok(())
 }

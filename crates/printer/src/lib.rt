@@ -1,5 +1,7 @@
-// One card from an open input, of any length, and its listing on standard output, or the line that refuses it. What fails is said on
-// standard error: a read that fails is not a card that ends, and a listing that is cut off is not to pass for a listing.
+// One card from an open input, of any length, and its listing to a writer, or the line that refuses it. What fails is said to a second
+// writer: a read that fails is not a card that ends, and a listing that is cut off is not to pass for a listing.
+#![tactic(auto)]
+
 mod printing;
 mod refusals;
 
@@ -9,10 +11,10 @@ ghost use Rattle.printer.specs.Leaves.{left_by_printing, Prints, PrintsFrom};
 
 use card::{OUTPUT_BYTES, Verdict};
 use input::{Reading, read_front};
-use libc::{STDERR_FILENO, STDOUT_FILENO};
 use printing::{Printing, print_listing};
 use reader::decode;
 use refusals::refused_line;
+use std::io::{Read, Write};
 
 // What became of an input: it could not be read; or the card at the front of the window, of so many bytes, was printed whole, or cut
 // off after so many of its sections were made.
@@ -24,7 +26,7 @@ pub enum Printed {
 }
 
 // Prints a card's listing, section by section from `out`, or the line that refuses it. A refused card has no section.
-fn print_card(card: &[u8], out: &mut [u8; OUTPUT_BYTES]) -> Printing
+fn print_card<W: Write>(card: &[u8], out: &mut [u8; OUTPUT_BYTES], listing: &mut W) -> Printing
     ensures { Prints (decode card.now) result out.old out.new }
 {
     let decoded = decode(card);
@@ -35,33 +37,36 @@ fn print_card(card: &[u8], out: &mut [u8; OUTPUT_BYTES]) -> Printing
             let line = refused_line(refusal);
             let length = line.length;
             let bytes = line.bytes;
-            let written = io::write_all(STDOUT_FILENO, &bytes[0..length]);
+            let written = listing.write_all(&bytes[0..length]).is_ok();
             Printing {
                 sections: 0,
                 written,
             }
         }
-        Verdict::Accepted => print_listing(task, out),
+        Verdict::Accepted => print_listing(task, out, listing),
     }
 }
 
 // Prints the card that an input brings to the front of `window`. The first 5,306 bytes decide (theorem `decode_window`).
-pub fn print_from(input: i32, window: &mut [u8; 5306], out: &mut [u8; OUTPUT_BYTES]) -> Printed
+pub fn print_from<R: Read, W: Write, E: Write>(
+    input: &mut R,
+    listing: &mut W,
+    complaints: &mut E,
+    window: &mut [u8; 5306],
+    out: &mut [u8; OUTPUT_BYTES],
+) -> Printed
     ensures { PrintsFrom result window.new out.old out.new }
 {
     let reading = read_front(input, window);
     let Reading::Front(n) = reading else {
-        io::write_all(STDERR_FILENO, b"stakestalk: the card cannot be read\n");
+        let _ = complaints.write_all(b"stakestalk: the card cannot be read\n");
         return Printed::Unread;
     };
     let bytes = &window[..];
-    let printing = print_card(&bytes[0..n], out);
+    let printing = print_card(&bytes[0..n], out, listing);
     if printing.written {
         return Printed::Whole(n);
     }
-    io::write_all(
-        STDERR_FILENO,
-        b"stakestalk: the listing cannot be written\n",
-    );
+    let _ = complaints.write_all(b"stakestalk: the listing cannot be written\n");
     Printed::CutOff(n, printing.sections)
 }

@@ -17,9 +17,9 @@ ghost use Rattle.printer.specs.Leaves.{in_turn, SpacePrinted, Reaches, Filled};
 
 use card::{OUTPUT_BYTES, Task};
 use closing::write_closing;
-use libc::STDOUT_FILENO;
 use prepared::{Prepared, analyse_space, enter_space, prepare, rows_at_most, write_space_section};
 use spaces::Spaces;
+use std::io::Write;
 
 // How far a listing was printed: how many of its sections were made, and whether all of it was written.
 #[derive(Clone, Copy)]
@@ -30,7 +30,7 @@ pub struct Printing {
 
 // Analyses a space, enters its totals, writes its section from byte 0 of `out`, prints it from there, and answers whether it was written
 // whole.
-fn print_space(
+fn print_space<W: Write>(
     number: usize,
     prepared: Prepared,
     deletes: &[u8],
@@ -41,6 +41,7 @@ fn print_space(
     conditions: &mut [u16],
     fixed: &mut [u32],
     out: &mut [u8],
+    listing: &mut W,
 ) -> bool
     requires space_ready { SpaceReady number prepared deletes.now adds.now counts.now starts.old finishes.old conditions.old }
     requires fixed_len { length fixed.old ≡ 60 }
@@ -63,16 +64,17 @@ fn print_space(
     let length = write_space_section(
         out, number, prepared, found, deletes, adds, counts, starts, finishes, conditions,
     );
-    io::write_all(STDOUT_FILENO, &out[0..length])
+    listing.write_all(&out[0..length]).is_ok()
 }
 
 // Writes the closing section and prints it, in the same way.
-fn print_closing(
+fn print_closing<W: Write>(
     task: Task,
     spaces: Spaces,
     preconditions: &[u8],
     fixed: &[u32],
     out: &mut [u8],
+    listing: &mut W,
 ) -> bool
     requires represented { Represented task (task_of task) }
     requires spaces_of { SpacesOf (task_of task) spaces }
@@ -82,11 +84,11 @@ fn print_closing(
     ensures { out.new ≡ in_turn (closing_lines (task_of task) (analysis (task_of task)) ∷ []) out.old }
 {
     let length = write_closing(out, task, spaces, fixed, preconditions);
-    io::write_all(STDOUT_FILENO, &out[0..length])
+    listing.write_all(&out[0..length]).is_ok()
 }
 
 // The sections of the spaces, and the closing one behind them, each written over the one before, until a write fails.
-fn print_sections(
+fn print_sections<W: Write>(
     task: Task,
     prepared: Prepared,
     preconditions: &[u8],
@@ -97,6 +99,7 @@ fn print_sections(
     finishes: &mut [u8],
     conditions: &mut [u16],
     out: &mut [u8],
+    listing: &mut W,
 ) -> Printing
     requires ready { Ready task prepared preconditions.now deletes.now adds.now counts.now }
     requires room_for_moves { RoomForMoves (rows_at_most (task_of task)) starts.old finishes.old conditions.old }
@@ -111,6 +114,7 @@ fn print_sections(
     while number < last {
         let written = print_space(
             number, prepared, deletes, adds, counts, starts, finishes, conditions, &mut fixed, out,
+            listing,
         );
         number = number + 1;
         if !written {
@@ -120,7 +124,7 @@ fn print_sections(
             };
         }
     }
-    let written = print_closing(task, spaces, preconditions, &fixed, out);
+    let written = print_closing(task, spaces, preconditions, &fixed, out, listing);
     Printing {
         sections: number + 1,
         written,
@@ -128,7 +132,7 @@ fn print_sections(
 }
 
 // The listing of a task, with tables lent to it.
-fn print_with(
+fn print_with<W: Write>(
     task: Task,
     preconditions: &mut [u8],
     deletes: &mut [u8],
@@ -138,6 +142,7 @@ fn print_with(
     finishes: &mut [u8],
     conditions: &mut [u16],
     out: &mut [u8],
+    listing: &mut W,
 ) -> Printing
     requires represented { Represented task (task_of task) }
     requires output_bytes_in_bounds { output_bytes ≤ length out.old }
@@ -169,11 +174,12 @@ fn print_with(
         finishes,
         conditions,
         out,
+        listing,
     )
 }
 
 // The listing of a task whose parameters and properties are at most 32 together.
-fn print_small(task: Task, out: &mut [u8]) -> Printing
+fn print_small<W: Write>(task: Task, out: &mut [u8], listing: &mut W) -> Printing
     requires represented { Represented task (task_of task) }
     requires task_bound { (rows_at_most (task_of task) ≤ 32) × (output_bytes ≤ length out.old) }
     ensures reaches { Reaches (sections (task_of task)) result }
@@ -196,11 +202,12 @@ fn print_small(task: Task, out: &mut [u8]) -> Printing
         &mut finishes,
         &mut conditions,
         out,
+        listing,
     )
 }
 
 // The listing of any task: at most 192 parameters, and 60 properties.
-fn print_large(task: Task, out: &mut [u8]) -> Printing
+fn print_large<W: Write>(task: Task, out: &mut [u8], listing: &mut W) -> Printing
     requires represented { Represented task (task_of task) }
     requires output_bytes_in_bounds { output_bytes ≤ length out.old }
     ensures reaches { Reaches (sections (task_of task)) result }
@@ -223,17 +230,22 @@ fn print_large(task: Task, out: &mut [u8]) -> Printing
         &mut finishes,
         &mut conditions,
         out,
+        listing,
     )
 }
 
 // Each section is written to `out` from byte 0 on and printed from there. A small task does not pay for clearing the tables of the largest.
-pub fn print_listing(task: Task, out: &mut [u8; OUTPUT_BYTES]) -> Printing
+pub fn print_listing<W: Write>(
+    task: Task,
+    out: &mut [u8; OUTPUT_BYTES],
+    listing: &mut W,
+) -> Printing
     requires { Represented task (task_of task) }
     ensures reaches { Reaches (sections (task_of task)) result }
     ensures out_after { out.new ≡ in_turn (take result.sections (sections (task_of task))) out.old }
 {
     if rows_at_most(task.predicates, task.schemas) <= 32 {
-        return print_small(task, out);
+        return print_small(task, out, listing);
     }
-    print_large(task, out)
+    print_large(task, out, listing)
 }

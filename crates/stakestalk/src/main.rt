@@ -1,9 +1,16 @@
 // The program: the card on standard input, its listing on standard output.
-use libc::STDIN_FILENO;
+#![tactic(auto)]
+
 use printer::print_from;
 
-fn main() {
+fn main(rt: HostRuntime) {
     let mut window = [0u8; 5306];
     let mut out = [0u8; 65536];
-    print_from(STDIN_FILENO, &mut window, &mut out);
+    print_from(
+        &mut rt.stdin(),
+        &mut rt.stdout(),
+        &mut rt.stderr(),
+        &mut window,
+        &mut out,
+    );
 }

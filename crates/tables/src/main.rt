@@ -4,13 +4,15 @@
 // A table is 5,276 bytes: predicate count, 20 arities, object count, schema count; 32 schemas of a role count and three lists, each a count and
 // eight atoms of four bytes; the fact count, high byte first, and 512 facts of four bytes; then how many bytes of the buffer are lent, high
 // byte first. An answer is the number of the refusal, or 0, and the length, high byte first; then come the buffer's 65,600 bytes.
+#![tactic(auto)]
+
 ghost use Rattle.std.specs.Prelude.{◌≡◌, ◌%◌, ◌≤◌, length};
 ghost use Rattle.writer.specs.Answers.{writing_says};
 ghost use Rattle.tables.specs.Flat.{byte_at, atom_from, atoms_from, schema_from, arities_from, schemas_from, facts_from, table_from, lent_from};
 ghost use Rattle.tables.specs.Front.{number_of, length_of, head_of, EncodesFront, Answers};
 
 use card::{ArityList, Atom, AtomList, FactList, Schema, SchemaList, Task, refusal_number};
-use libc::{STDIN_FILENO, STDOUT_FILENO};
+use std::io::{Read, Write};
 use writer::{Writing, encode};
 
 // The byte at a place; past the end there is 0.
@@ -207,18 +209,18 @@ fn answer(flat: &[u8], out: &mut [u8]) -> [u8; 3]
 }
 
 // Reads, answers and prints. It answers nothing and is lent nothing, so that it has no contract; what reached the output none could say.
-// A proved loop has to end, and nothing says that the input does: the turns are counted down from a number that no run uses up.
-fn main() {
+// A proved loop has to end, and nothing says that the input does: the turns are counted up to a number that no run reaches.
+fn main(rt: HostRuntime) {
+    let mut input = rt.stdin();
+    let mut output = rt.stdout();
     let mut flat = [0u8; 5276];
-    let mut turns = u64::MAX;
-    while turns > 0 {
-        if io::read_full(STDIN_FILENO, &mut flat) < 5276 {
+    for _ in 0..u64::MAX {
+        if input.read_exact(&mut flat).is_err() {
             return;
         }
         let mut out = [170u8; 65600];
         let head = answer(&flat, &mut out);
-        io::write_all(STDOUT_FILENO, &head);
-        io::write_all(STDOUT_FILENO, &out);
-        turns -= 1;
+        let _ = output.write_all(&head);
+        let _ = output.write_all(&out);
     }
 }
