@@ -1,15 +1,22 @@
--- What is kept of an input that is read on.
-use Rattle.std.proofs.Common.{◌≡◌, ℕ, ◌≤◌, List, length, subst, sym}
+-- What is kept of an input: each read adds the bytes that it brings to those kept so far.
+use Rattle.std.proofs.Common.{◌≡◌, ℕ, ◌+◌, ◌≤◌, List, ◌++◌, length, take, ap, subst, sym, ◌∙◌}
+use Rattle.std.proofs.Math.Seq.{take-append-add}
+use Rattle.std.proofs.lemmas.List.{take-append-le, length-take-le}
+use borrow.Rule.Slice.PartMut.{put_mid, post_of}
 use Rattle.input.specs.declared.Reading.{Reading}
-use Rattle.input.specs.declared.Reading.TheVariants.{Front, Failed}
-use Rattle.input.specs.Reads.{FrontRead, Keeps}
-
--- the bytes kept are those that filled the window
-pub kept_reads : (r : Reading) (window : List ℕ) {filled : Reading} {n : ℕ} → Keeps n r → filled ≡ Front n → FrontRead filled window → FrontRead r window
-kept_reads (Front k) window keeps is reads =
-    subst (λ (m : ℕ). m ≤ length window) (sym keeps) (subst (λ (r : Reading). FrontRead r window) is reads)
-kept_reads Failed window keeps is reads = tt
+use Rattle.input.specs.declared.Reading.TheVariants.{Front}
+use Rattle.input.specs.Reads.{FrontRead}
 
 -- the bytes read are within the window
 pub front_within : {r : Reading} {n : ℕ} (window : List ℕ) → r ≡ Front n → FrontRead r window → n ≤ length window
 front_within window is reads = subst (λ (r : Reading). FrontRead r window) is reads
+
+-- n bytes more, read into the window behind those kept
+pub front_more : (kept n room : ℕ) (window read : List ℕ) → kept ≤ length window → n ≤ length read
+    → take (kept + n) (put_mid kept room window read) ≡ take kept window ++ take n read
+front_more kept n room window read within brought =
+    let front = take kept window in
+    let behind = read ++ post_of kept room window in
+    ap (λ (k : ℕ). take (k + n) (front ++ behind)) (sym (length-take-le kept window within))
+    ∙ take-append-add front behind n
+    ∙ ap (λ (bytes : List ℕ). front ++ bytes) (take-append-le n read (post_of kept room window) brought)

@@ -1,7 +1,7 @@
 // An open input read to its end, of which the first bytes are kept in a window.
 #![tactic(auto)]
 
-ghost use Rattle.input.specs.Reads.{FrontRead, Keeps};
+ghost use Rattle.input.specs.Reads.{FrontOf, FrontRead, Keeps};
 
 use std::io::Read;
 
@@ -14,7 +14,8 @@ pub enum Reading {
 
 // Reads until the window is full, the input ends or a read fails. The end is met once, so that a terminal is asked for it once.
 fn fill<R: Read>(input: &mut R, window: &mut [u8]) -> Reading
-    ensures { FrontRead result window.new }
+    ensures within { FrontRead result window.new }
+    ensures bytes { FrontOf result (R.remaining input.old) window.new }
 {
     let mut kept: usize = 0;
     while kept < window.len() {
@@ -50,7 +51,8 @@ fn read_on<R: Read>(input: &mut R, kept: usize) -> Reading
 
 // Reads an input to its end and keeps as many bytes as the window holds. What is behind them is read only where the window is full.
 pub fn read_front<R: Read>(input: &mut R, window: &mut [u8]) -> Reading
-    ensures { FrontRead result window.new }
+    ensures within { FrontRead result window.new }
+    ensures bytes { FrontOf result (R.remaining input.old) window.new }
 {
     let reading = fill(input, window);
     let Reading::Front(kept) = reading else {
