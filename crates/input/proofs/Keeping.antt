@@ -3,13 +3,6 @@ use Rattle.std.proofs.Common.{◌≡◌, ℕ, ◌+◌, ◌≤◌, List, ◌++◌
 use Rattle.std.proofs.Math.Seq.{take-append-add}
 use Rattle.std.proofs.lemmas.List.{take-append-le, length-take-le}
 use borrow.Rule.Slice.PartMut.{put_mid, post_of}
-use Rattle.input.specs.declared.Reading.{Reading}
-use Rattle.input.specs.declared.Reading.TheVariants.{Front}
-use Rattle.input.specs.Reads.{FrontRead}
-
--- the bytes read are within the window
-pub front_within : {r : Reading} {n : ℕ} (window : List ℕ) → r ≡ Front n → FrontRead r window → n ≤ length window
-front_within window is reads = subst (λ (r : Reading). FrontRead r window) is reads
 
 -- n bytes more, read into the window behind those kept
 pub front_more : (kept n room : ℕ) (window read : List ℕ) → kept ≤ length window → n ≤ length read

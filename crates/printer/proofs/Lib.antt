@@ -1,3 +1,4 @@
 pub mod Showing
 pub mod Turns
 pub mod Answered
+pub mod Delivered

@@ -2,34 +2,34 @@
 use Prim.Native.Nat.{ℕ, ◌+◌, ◌≤◌, ◌<◌}
 use native.Mathlib.Numerals.{add-one}
 use native.Mathlib.Omega.{arith}
-use mathlib.Core.Path.{◌≡◌, refl, sym, ap, ◌∙◌, subst}
-use mathlib.Core.Bool.{false}
-use mathlib.Core.List.{List, [], ◌∷◌, foldl-append}
-use lib.ListN.{length, get_or, take, replicate}
-use lib.Seq.{take-suc}
-use Rattle.laws.proofs.Tests.{never}
+use mathlib.Core.Path.{◌≡◌, refl, sym, ap, ap₂, ◌∙◌, subst}
+use mathlib.Core.Bool.{Bool, true}
+use mathlib.Core.List.{List, [], ◌∷◌, foldl-append, flat_map}
+use lib.ListN.{length, get_or, take, drop, replicate}
+use lib.Seq.{take-suc, take-append_seam}
+use Rattle.std.proofs.Common.{Option}
+use Rattle.std.specs.Io.KnownBytes.{Appends}
 use Rattle.model.specs.Card.{Task}
-use Rattle.model.specs.Calls.{output}
+use Rattle.model.specs.Answer.{accepted}
+use Rattle.model.specs.Calls.{output, printed}
 use Rattle.model.specs.Analysis.{analysis}
 use Rattle.model.specs.Lines.{Line, section_lines, closing_lines, sections}
 use Rattle.model.specs.Text.{text}
-use Rattle.model.specs.Transitions.{properties}
 use Rattle.model.proofs.RuleCount.{properties_few}
-use Rattle.properties.specs.Parameters.{ParameterTables}
 use Rattle.properties.specs.Tables.{stride}
 use Rattle.text.specs.Written.{Writes}
 use Rattle.closing.proofs.TypedObjects.{spaces_few}
 use Rattle.totals.specs.Totals.{totals_of}
-use Rattle.totals.proofs.AllTotals.{length_totals}
 use Rattle.prepared.specs.Found.{SpaceReady, SpaceFound, FoundIn, analysis_at, found_totals}
-use Rattle.prepared.specs.Prepared.{RoomForMoves, PreparedOf, Given}
+use Rattle.prepared.specs.Prepared.{RoomForMoves, Given}
 use Rattle.prepared.specs.declared.Found.{Found}
 use Rattle.prepared.specs.declared.Prepared.{Prepared}
 use Rattle.prepared.proofs.Analysing.{found_in}
 use Rattle.prepared.proofs.SectionsOf.{section_count, section_of_space, section_closing}
 use Rattle.prepared.proofs.Totalling.{totals_none, totals_with}
+use Rattle.printer.proofs.Delivered.{next_given, all_given}
 use Rattle.printer.specs.declared.printing.Printing.{Printing}
-use Rattle.printer.specs.Leaves.{over, in_turn, SpacePrinted, Reaches, Filled}
+use Rattle.printer.specs.Leaves.{over, in_turn, SpacePrinted, SpaceDelivered, Reaches}
 
 -- a section that is written
 pub one_turn : (section : List Line) {out out' : List ℕ} {n : ℕ} → Writes (text section) out out' n → out' ≡ in_turn (section ∷ []) out
@@ -52,6 +52,28 @@ space_printed {number} {p} asked {f} {now_conditions = now_conditions} {out = ou
   totals =
       λ {t} {preconditions} given before.
       entered ∙ ap (found_totals number p f now_conditions) before ∙ totals_with (found_in asked found kept given).of;
+}
+
+-- what was written is at the front of the buffer
+pub written_front : {bytes before after : List ℕ} {n : ℕ} → Writes bytes before after n → take n after ≡ bytes
+written_front {bytes} {before} w =
+    ap₂ (λ (k : ℕ) (l : List ℕ). take k l) w.count w.buffer ∙ take-append_seam bytes (drop (length bytes) before)
+
+-- the section of a space, given to a writer from where it was written
+pub space_delivered : {number : ℕ} {p : Prepared} {deletes adds counts starts finishes conditions : List ℕ}
+    → SpaceReady number p deletes adds counts starts finishes conditions → {f : Found} {now_starts now_finishes now_conditions out out' : List ℕ} {n : ℕ}
+    → SpaceFound number p deletes adds counts f starts finishes conditions now_starts now_finishes now_conditions
+    → length now_conditions ≡ length conditions
+    → ((t : Task) → FoundIn t number p f deletes adds counts now_conditions → Writes (text (section_lines t number (analysis_at t number))) out out' n)
+    → (written : Bool) (before after : Option (List ℕ)) → (written ≡ true → Appends before after (take n out'))
+    → SpaceDelivered number p deletes adds counts written before after
+space_delivered {number} asked found kept section written before after given = record {
+  whole =
+      λ ended {t} {preconditions} in_tables.
+      let in_task = found_in asked found kept in_tables in
+      subst (Appends before after)
+      (written_front (section t in_task) ∙ ap text (sym (section_of_space t number in_task.of.known)))
+      (given ended);
 }
 
 -- What is known before the section with this number: what the sections so far leave in the buffer, and their totals.
@@ -79,10 +101,6 @@ room_again room k = record {
 pub spaces_low : {t : Task} {p : Prepared} {preconditions deletes adds counts : List ℕ} → Given t p preconditions deletes adds counts
     → p.spaces.count ≤ 60
 spaces_low {t} {p} given = spaces_few t p.spaces given.prepared.spaces_are (properties_few t given.checked)
-
--- the table of totals has its length
-pub fixed_long : {t : Task} {number : ℕ} {fixed out₀ out : List ℕ} → Before t number fixed out₀ out → length fixed ≡ 60
-fixed_long {t} {number} before = ap length before.totals ∙ length_totals (take number (analysis t))
 
 -- before the first
 pub before_first : (t : Task) (out : List ℕ) → Before t 0 (replicate stride 0) out out
@@ -118,19 +136,23 @@ module _ {t : Task} {p : Prepared} {preconditions deletes adds counts : List ℕ
       next_turn before (omega (arith, last, section_count t))
       (written ∙ ap (λ (section : List Line). in_turn (section ∷ []) out) (sym (section_closing t number last)))
 
+-- each space has a section
+pub space_there : {t : Task} {p : Prepared} {preconditions deletes adds counts : List ℕ} → Given t p preconditions deletes adds counts → {number : ℕ}
+    → number < p.spaces.count → number < length (sections t)
+space_there {t} given h = omega (arith, h, given.prepared.spaces_are.count, section_count t)
+
+-- the closing section given behind those of all spaces: that is all that is printed
+pub closing_given : {t : Task} {p : Prepared} {preconditions deletes adds counts : List ℕ} → Given t p preconditions deletes adds counts
+    → {number : ℕ} (first before after : Option (List ℕ)) → number ≡ p.spaces.count
+    → Appends first before (flat_map text (take number (sections t))) → Appends before after (text (closing_lines t (analysis t)))
+    → Appends first after (printed (accepted t))
+closing_given {t} given {number} first before after e earlier last =
+    let here = e ∙ given.prepared.spaces_are.count in
+    all_given first after t (number + 1) (omega (arith, here, section_count t))
+    (next_given first before after (sections t) number (omega (arith, here, section_count t)) earlier
+    (subst (Appends before after) (ap text (sym (section_closing t number here))) last))
+
 -- a listing of which the closing section was made
 pub to_the_end : {t : Task} {p : Prepared} {preconditions deletes adds counts : List ℕ} → Given t p preconditions deletes adds counts → {r : Printing}
     → r.sections ≡ p.spaces.count + 1 → Reaches (sections t) r
 to_the_end {t} given e = record { whole = λ w. omega (arith, e, given.prepared.spaces_are.count, section_count t) }
-
--- a listing that a write cut off
-pub cut_off : {sections : List (List Line)} {r : Printing} → r.written ≡ false → Reaches sections r
-cut_off e = record { whole = λ w. never (sym w ∙ e) }
-
--- the tables that were filled: every number of them
-pub filled : {t : Task} {r : Prepared} {preconditions deletes adds counts p d a c : List ℕ} → PreparedOf t r preconditions deletes adds counts p d a c
-    → Filled t preconditions deletes adds counts p d a c
-filled {t} {preconditions = preconditions} {deletes} {adds} {p = p} {d} {a} of = record {
-  parameters_are = subst (λ (n : ℕ). ParameterTables (properties t) t.schemas n preconditions deletes adds p d a) of.tables.counted of.tables;
-  counts_are = of.counts_are;
-}

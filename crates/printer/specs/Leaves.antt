@@ -1,12 +1,13 @@
--- What printing leaves in the buffer and in the tables lent to it.
-use Rattle.std.specs.Prelude.{ℕ, ◌+◌, ◌≤◌, ◌≡◌, true, length, get_or, take}
+-- What printing leaves in the buffer and in the tables lent to it, and what it gives the writer of the listing.
+use Rattle.std.specs.Prelude.{ℕ, ◌+◌, ◌≤◌, ◌≡◌, Bool, true, length, get_or, take, Option, IfSome}
+use Rattle.std.specs.Io.KnownBytes.{Keeps, Appends}
 use mathlib.Core.List.{List, [], ◌∷◌, foldl}
 use Rattle.model.specs.Answer.{Answer, refused, accepted}
 use Rattle.model.specs.Card.{Task, decode}
 use Rattle.model.specs.Analysis.{analysis}
 use Rattle.model.specs.Lines.{Line, sections}
 use Rattle.model.specs.Text.{text}
-use Rattle.model.specs.Calls.{output}
+use Rattle.model.specs.Calls.{output, printed, program}
 use Rattle.model.specs.Transitions.{properties}
 use Rattle.properties.specs.Tables.{rows_before}
 use Rattle.properties.specs.Represented.{object_bags}
@@ -51,12 +52,34 @@ PrintsFrom Unread window out out' = out' ≡ out
 PrintsFrom (Whole n) window out out' = (n ≤ length window) × (out' ≡ left_by_printing (decode (take n window)) out)
 PrintsFrom (CutOff n k) window out out' = (n ≤ length window) × (out' ≡ left_by_sections k (decode (take n window)) out)
 
+-- What the writer of the listing was given, where it says what it holds: nothing of an input that was not read, and of a card that was
+-- printed whole just what the program prints of it. Of a listing that was cut off the writer does not say how much it took.
+abbrev pub Delivers : Printed → List ℕ → Option (List ℕ) → Option (List ℕ) → Type 0
+Delivers Unread window before after = Keeps before after
+Delivers (Whole n) window before after = Appends before after (printed (decode (take n window)))
+Delivers (CutOff n k) window before after = Unit {0}
+
+-- The same of all the bytes that the input had, where it says them: what is behind the window decides nothing.
+abbrev pub DeliversProgram : Printed → Option (List ℕ) → Option (List ℕ) → Option (List ℕ) → Type 0
+DeliversProgram Unread card before after = Unit {0}
+DeliversProgram (Whole n) card before after = IfSome card (λ bytes. Appends before after (program bytes))
+DeliversProgram (CutOff n k) card before after = Unit {0}
+
 -- The section of a space was written and its totals entered, for each task whose tables were given.
 pub record SpacePrinted (number : ℕ) (p : Prepared) (deletes adds counts fixed fixed' out out' : List ℕ) : Type 0 where
   pub buffer : {t : Task} {preconditions : List ℕ} → Given t p preconditions deletes adds counts
       → out' ≡ in_turn (get_or (sections t) number [] ∷ []) out
   pub totals : {t : Task} {preconditions : List ℕ} → Given t p preconditions deletes adds counts
       → fixed ≡ totals_of (take number (analysis t)) → fixed' ≡ totals_of (take (number + 1) (analysis t))
+
+-- The writer was given the section of a space, if that ended well, for each task whose tables were given.
+pub record SpaceDelivered (number : ℕ) (p : Prepared) (deletes adds counts : List ℕ) (written : Bool) (before after : Option (List ℕ)) : Type 0 where
+  pub whole : written ≡ true → {t : Task} {preconditions : List ℕ} → Given t p preconditions deletes adds counts
+      → Appends before after (text (get_or (sections t) number []))
+
+-- The writer was given all that is printed of a task, if that ended well.
+abbrev pub ListingDelivered : Task → Printing → Option (List ℕ) → Option (List ℕ) → Type 0
+ListingDelivered t r before after = r.written ≡ true → Appends before after (printed (accepted t))
 
 -- The tables of a task were filled: every number of them, before and after.
 pub record Filled (t : Task) (preconditions deletes adds counts p d a c : List ℕ) : Type 0 where

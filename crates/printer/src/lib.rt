@@ -5,9 +5,11 @@
 mod printing;
 mod refusals;
 
-ghost use Rattle.std.specs.Prelude.{◌≡◌};
+ghost use Rattle.std.specs.Prelude.{◌≡◌, true};
+ghost use Rattle.std.specs.Io.KnownBytes.{Appends};
 ghost use Rattle.model.specs.Card.{decode};
-ghost use Rattle.printer.specs.Leaves.{left_by_printing, Prints, PrintsFrom};
+ghost use Rattle.model.specs.Calls.{printed};
+ghost use Rattle.printer.specs.Leaves.{left_by_printing, Prints, PrintsFrom, Delivers, DeliversProgram};
 
 use card::{OUTPUT_BYTES, Verdict};
 use input::{Reading, read_front};
@@ -27,7 +29,11 @@ pub enum Printed {
 
 // Prints a card's listing, section by section from `out`, or the line that refuses it. A refused card has no section.
 fn print_card<W: Write>(card: &[u8], out: &mut [u8; OUTPUT_BYTES], listing: &mut W) -> Printing
-    ensures { Prints (decode card.now) result out.old out.new }
+    ensures leaves { Prints (decode card.now) result out.old out.new }
+    ensures delivered { result.written ≡ true → Appends
+        (W.contents listing.old)
+        (W.contents listing.new)
+        (printed (decode card.now)) }
 {
     let decoded = decode(card);
     let verdict = decoded.verdict;
@@ -55,7 +61,13 @@ pub fn print_from<R: Read, W: Write, E: Write>(
     window: &mut [u8; 5306],
     out: &mut [u8; OUTPUT_BYTES],
 ) -> Printed
-    ensures { PrintsFrom result window.new out.old out.new }
+    ensures leaves { PrintsFrom result window.new out.old out.new }
+    ensures delivered { Delivers result window.new (W.contents listing.old) (W.contents listing.new) }
+    ensures program { DeliversProgram
+        result
+        (R.remaining input.old)
+        (W.contents listing.old)
+        (W.contents listing.new) }
 {
     let reading = read_front(input, window);
     let Reading::Front(n) = reading else {

@@ -1,10 +1,12 @@
 // An accepted card's listing, section after section, from tables that are filled once. Each space is analysed once: its section is written
 // and its totals are entered for the closing one. Printing ends at the first write that fails, so that a listing with a hole in it is never
 // printed.
-ghost use Rattle.std.specs.Prelude.{◌≡◌, [], ◌∷◌, ◌≤◌, length, take};
+ghost use Rattle.std.specs.Prelude.{◌≡◌, [], ◌∷◌, ◌≤◌, length, take, true};
+ghost use Rattle.std.specs.Io.KnownBytes.{Appends};
 ghost use Rattle.model.specs.Calls.{output_bytes};
 ghost use Rattle.model.specs.Analysis.{analysis};
 ghost use Rattle.model.specs.Lines.{closing_lines, sections};
+ghost use Rattle.model.specs.Text.{text};
 ghost use Rattle.card.specs.Represents.{task_of, Represented};
 ghost use Rattle.properties.specs.Parameters.{parameters_in, RoomForBags};
 ghost use Rattle.spaces.specs.SpaceTable.{SpacesOf};
@@ -13,7 +15,7 @@ ghost use Rattle.closing.specs.Typing.{PreconditionRows};
 ghost use Rattle.prepared.specs.Prepared.{rows_at_most, RoomForMoves};
 ghost use Rattle.prepared.specs.Found.{SpaceReady};
 ghost use Rattle.printer.specs.Ready.{Ready};
-ghost use Rattle.printer.specs.Leaves.{in_turn, SpacePrinted, Reaches, Filled};
+ghost use Rattle.printer.specs.Leaves.{in_turn, SpacePrinted, SpaceDelivered, ListingDelivered, Reaches, Filled};
 
 use card::{OUTPUT_BYTES, Task};
 use closing::write_closing;
@@ -46,7 +48,7 @@ fn print_space<W: Write>(
     requires space_ready { SpaceReady number prepared deletes.now adds.now counts.now starts.old finishes.old conditions.old }
     requires fixed_len { length fixed.old ≡ 60 }
     requires output_bytes_in_bounds { output_bytes ≤ length out.old }
-    ensures { SpacePrinted
+    ensures printed { SpacePrinted
         number
         prepared
         deletes.now
@@ -56,6 +58,15 @@ fn print_space<W: Write>(
         fixed.new
         out.old
         out.new }
+    ensures delivered { SpaceDelivered
+        number
+        prepared
+        deletes.now
+        adds.now
+        counts.now
+        result
+        (W.contents listing.old)
+        (W.contents listing.new) }
 {
     let found = analyse_space(
         number, prepared, deletes, adds, counts, starts, finishes, conditions,
@@ -81,7 +92,11 @@ fn print_closing<W: Write>(
     requires fixed_value { fixed.now ≡ fixed_table (task_of task) }
     requires precondition_rows { PreconditionRows (task_of task) preconditions.now }
     requires output_bytes_in_bounds { output_bytes ≤ length out.old }
-    ensures { out.new ≡ in_turn (closing_lines (task_of task) (analysis (task_of task)) ∷ []) out.old }
+    ensures out_after { out.new ≡ in_turn (closing_lines (task_of task) (analysis (task_of task)) ∷ []) out.old }
+    ensures delivered { result ≡ true → Appends
+        (W.contents listing.old)
+        (W.contents listing.new)
+        (text (closing_lines (task_of task) (analysis (task_of task)))) }
 {
     let length = write_closing(out, task, spaces, fixed, preconditions);
     listing.write_all(&out[0..length]).is_ok()
@@ -106,6 +121,7 @@ fn print_sections<W: Write>(
     requires output_bytes_in_bounds { output_bytes ≤ length out.old }
     ensures reaches { Reaches (sections (task_of task)) result }
     ensures out_after { out.new ≡ in_turn (take result.sections (sections (task_of task))) out.old }
+    ensures delivered { ListingDelivered (task_of task) result (W.contents listing.old) (W.contents listing.new) }
 {
     let spaces = prepared.spaces;
     let last = spaces.count;
@@ -161,6 +177,7 @@ fn print_with<W: Write>(
         counts.new }
     ensures reaches { Reaches (sections (task_of task)) result }
     ensures out_after { out.new ≡ in_turn (take result.sections (sections (task_of task))) out.old }
+    ensures delivered { ListingDelivered (task_of task) result (W.contents listing.old) (W.contents listing.new) }
 {
     let prepared = prepare(task, preconditions, deletes, adds, counts);
     print_sections(
@@ -184,6 +201,7 @@ fn print_small<W: Write>(task: Task, out: &mut [u8], listing: &mut W) -> Printin
     requires task_bound { (rows_at_most (task_of task) ≤ 32) × (output_bytes ≤ length out.old) }
     ensures reaches { Reaches (sections (task_of task)) result }
     ensures out_after { out.new ≡ in_turn (take result.sections (sections (task_of task))) out.old }
+    ensures delivered { ListingDelivered (task_of task) result (W.contents listing.old) (W.contents listing.new) }
 {
     let mut preconditions = [0u8; 1920];
     let mut deletes = [0u8; 1920];
@@ -212,6 +230,7 @@ fn print_large<W: Write>(task: Task, out: &mut [u8], listing: &mut W) -> Printin
     requires output_bytes_in_bounds { output_bytes ≤ length out.old }
     ensures reaches { Reaches (sections (task_of task)) result }
     ensures out_after { out.new ≡ in_turn (take result.sections (sections (task_of task))) out.old }
+    ensures delivered { ListingDelivered (task_of task) result (W.contents listing.old) (W.contents listing.new) }
 {
     let mut preconditions = [0u8; 11520];
     let mut deletes = [0u8; 11520];
@@ -243,6 +262,7 @@ pub fn print_listing<W: Write>(
     requires { Represented task (task_of task) }
     ensures reaches { Reaches (sections (task_of task)) result }
     ensures out_after { out.new ≡ in_turn (take result.sections (sections (task_of task))) out.old }
+    ensures delivered { ListingDelivered (task_of task) result (W.contents listing.old) (W.contents listing.new) }
 {
     if rows_at_most(task.predicates, task.schemas) <= 32 {
         return print_small(task, out, listing);

@@ -15,7 +15,8 @@ pub fn refused_line(refusal: Refusal) -> Line
     ensures { Shows (refusal_number refusal) result }
 {
     let n = refusal_number(refusal);
-    if n < 10 {
+    let has_one_digit = n < 10;
+    if has_one_digit {
         return Line {
             bytes: [
                 b'r',
