@@ -6,7 +6,7 @@
  *   2  something could not be read or written; standard error has what, and standard output is no listing
  * Nothing is printed before the whole listing has been made, so that a refusal leaves no half listing.
  *
- * Build: cc -Iinclude command/stakestalk-list.c target/staticlib/libcapi.a -o target/bin/stakestalk-list */
+ * Build: cc -Iinclude command/stakestalk-list.c crates/capi/out/libcapi.a -o target/stakestalk-list */
 #include <errno.h>
 #include <fcntl.h>
 #include <signal.h>
@@ -18,7 +18,7 @@
 
 enum { LISTED = 0, REFUSED = 1, FAILED = 2 };
 
-/* A card is at most 5,305 bytes long, so that one byte more decides (theorem decode-window). */
+/* A card is at most 5,305 bytes long, so that one byte more decides (theorem decode_window). */
 enum { WINDOW = 5306 };
 
 /* Bytes made so far, in memory of their own. */

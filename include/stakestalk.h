@@ -1,4 +1,4 @@
-/* Stakestalk: press-table analyser. C interface of the proved library, target/staticlib/libcapi.a.
+/* Stakestalk: press-table analyser. C interface of the proved library, crates/capi/out/libcapi.a.
  *
  * The library is x86-64 code for Linux, in the calling convention of that system, as the Rattle toolchain writes it
  * (target x86_64-unknown-linux-gnu). Of the C library it uses memcpy and memset, and no heap, no files, no global data.

@@ -1,4 +1,4 @@
-//! The proved library, target/staticlib/libcapi.a, by its C interface (include/stakestalk.h).
+//! The proved library, crates/capi/out/libcapi.a, by its C interface (include/stakestalk.h).
 
 use crate::card::MAX_PARAMETERS;
 use crate::open::Given;

@@ -1,6 +1,6 @@
 //! The examples of source document 000 and the well-known domains, which the program crate `examples` prints: the description makes
 //! the card, and the card's listing is under its name in the file `stdout`. So both implementations print what is stored there: this
-//! test holds the reference to it, `rt check examples` and `rt ci` the proved program.
+//! test holds the reference to it, `rt ci` the proved program.
 
 use reference::examples::card;
 use reference::listing;

@@ -1,7 +1,7 @@
 //! Every line of each small example's listing, held to all states that its presses reach.
 //!
 //! The listing is the stored one, crates/examples/stdout. Both implementations print it: tests/examples.rs makes it from the card by the
-//! reference, and `rt check examples` and `rt ci` hold what the proved program prints to that file.
+//! reference, and `rt ci` holds what the proved program prints to that file.
 
 use reference::comparison::every_press;
 use reference::examples::{card, task};

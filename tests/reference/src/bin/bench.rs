@@ -35,7 +35,7 @@ struct Side {
 
 const SIDES: [Side; 2] = [
     Side { calls: &Reference, program: concat!(env!("CARGO_MANIFEST_DIR"), "/../../target/reference/release/listing") },
-    Side { calls: &Proved, program: concat!(env!("CARGO_MANIFEST_DIR"), "/../../target/bin/examples") },
+    Side { calls: &Proved, program: concat!(env!("CARGO_MANIFEST_DIR"), "/../../crates/examples/out/examples") },
 ];
 
 fn work(row: &str, side: &str, times: &str) {

@@ -1,7 +1,7 @@
 //! The proved card writer against the reference's, on tables that no card can carry: the program `tables` (crates/tables) is handed random
 //! tables in flat form, and for each its answer and every byte of the buffer are compared.
 //!
-//!     tables [SEED [TABLES]]      or TABLES_SEED, TABLES in the environment; wants target/bin/tables (`rt check tables`)
+//!     tables [SEED [TABLES]]      or TABLES_SEED, TABLES in the environment; wants crates/tables/out/tables (`rt run </dev/null` there)
 //!
 //! Ends at the first difference with the table in hex and with status 1. A run of 2,000 tables or more fails too if one of the writer's
 //! answers never came up: accepted, 2 to 13, 21.
@@ -98,10 +98,10 @@ fn main() -> ExitCode {
     let wanted = number(2, "TABLES", TABLES);
     println!("seed {seed}, {wanted} tables");
 
-    let program = concat!(env!("CARGO_MANIFEST_DIR"), "/../../target/bin/tables");
+    let program = concat!(env!("CARGO_MANIFEST_DIR"), "/../../crates/tables/out/tables");
     let child = Command::new(program).stdin(Stdio::piped()).stdout(Stdio::piped()).spawn();
     let Ok(mut child) = child else {
-        println!("no program {program}: `rt check tables` builds it\n0 passed, 1 failed");
+        println!("no program {program}: `rt run </dev/null` in crates/tables builds it\n0 passed, 1 failed");
         return ExitCode::FAILURE;
     };
     let (Some(stdin), Some(mut stdout)) = (child.stdin.take(), child.stdout.take()) else { return ExitCode::FAILURE };
