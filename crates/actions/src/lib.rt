@@ -1,4 +1,6 @@
 // An action's ground facts as the numbers of their rows, and what is asked of its objects.
+#![tactic(auto)]
+
 ghost use Rattle.std.specs.Prelude.{◌≤◌, ◌<◌, true, ◌≡◌, map, ◌++◌, ltb, length, get_or, drop};
 ghost use Rattle.laws.specs.Lists.{all, member, distinct, padded};
 ghost use Rattle.model.specs.Card.{in_range};

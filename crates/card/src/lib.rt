@@ -1,4 +1,6 @@
 // A planning task as a card describes it, and the reader's refusals. What each stands for is in specs/Represents.antt.
+#![tactic(auto)]
+
 ghost use Rattle.std.specs.Prelude.{[], ◌≡◌};
 ghost use Rattle.card.specs.Represents.{refusal_number, blank_atom, atoms_for, blank_schema, arities_for, facts_for};
 

@@ -4,10 +4,10 @@ use native.Mathlib.Nat.{pow-suc, lt_of_lt_of_le, le_of_lt, le_refl}
 use native.Mathlib.Omega.{arith}
 use mathlib.Core.Path.{◌≡◌, refl, sym, ap, ap₂, ◌∙◌, subst, fun_ext}
 use mathlib.Core.Bool.{Bool, true, false, cond}
-use mathlib.Core.List.{List, [], ◌∷◌}
+use mathlib.Core.List.{List, ◌∷◌}
 use borrow.Author.Tests.{eqb-true, eqb-false}
 use lib.Bits.{bit_and}
-use lib.Count.{ones, count_trailing_zeros}
+use lib.Count.{count_trailing_zeros}
 use lib.Dec.{eqb}
 use lib.ListN.{length}
 use lib.Pow.{shr-shr, pow_mono, pow_pos}

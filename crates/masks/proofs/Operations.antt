@@ -1,10 +1,10 @@
 -- Which numbers are members of a mask that an operation makes; every such mask is below 2 ^ 64.
-use Prim.Native.Nat.{ℕ, zero, suc, ◌+◌, ◌-◌, ◌*◌, ◌/◌, ◌%◌, ◌^◌, ◌≤◌, ◌<◌, min, max}
+use Prim.Native.Nat.{ℕ, zero, suc, ◌+◌, ◌*◌, ◌/◌, ◌%◌, ◌^◌, ◌≤◌, ◌<◌, min, max}
 use native.Mathlib.Nat.{mod-lt, div-eq_of_lt, le_of_suc-le-suc, not-suc-le-zero, lt_of_lt_of_le, one-mul}
 use native.Mathlib.Omega.{arith}
-use mathlib.Core.Path.{◌≡◌, refl, sym, ap, ap₂, ◌∙◌, subst}
+use mathlib.Core.Path.{◌≡◌, refl, sym, ap, ◌∙◌}
 use mathlib.Core.Bool.{Bool, true, false, cond, not, ◌&&◌, ◌||◌}
-use mathlib.Core.List.{List, [], ◌∷◌}
+use mathlib.Core.List.{List}
 use borrow.Author.Tests.{ltb-true, ltb-false, eq-eqb, ne_eqb}
 use lib.Bits.{bit_and, bit_or, and_shr, or_shr, and_step, or_step, and_lt, or_lt}
 use lib.Dec.{eqb, ltb}
@@ -16,7 +16,7 @@ use Rattle.laws.proofs.Mapped.{keep_ext}
 use Rattle.masks.specs.Sets.{is_member, members_of, mask_of, single_of, all_below, union_of, common_of}
 use Rattle.masks.proofs.Ascending.{Ascending, Below}
 use Rattle.masks.proofs.Kept.{flags, mask_kept, one_kept, all_kept}
-use Rattle.masks.proofs.Members.{next_digit, member_listed, mask_members, members_mask, members_below}
+use Rattle.masks.proofs.Members.{next_digit, member_listed, mask_members, members_mask}
 
 -- ---- unions and what masks have in common
 

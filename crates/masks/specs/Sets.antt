@@ -1,5 +1,5 @@
 -- A set of numbers below 64, kept in a mask: the number whose binary digits are 1 at the places of its members.
-use Rattle.std.specs.Prelude.{ℕ, ◌-◌, ◌/◌, ◌%◌, ◌^◌, Bool, List, [], ◌∷◌, map, eqb, get_or, drop}
+use Rattle.std.specs.Prelude.{ℕ, ◌-◌, ◌/◌, ◌%◌, ◌^◌, Bool, List, map, eqb, get_or, drop}
 use Rattle.std.specs.Int.Bits.{bit_and, bit_or}
 use Rattle.laws.specs.Lists.{keep, up_to, sum}
 

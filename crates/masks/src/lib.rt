@@ -1,4 +1,6 @@
 // Sets of numbers below 64 in masks of 64 bits: objects of a task, or places of a table. The members are listed in ascending order.
+#![tactic(auto)]
+
 ghost use Rattle.std.specs.Prelude.{◌≡◌, ◌<◌, ◌≤◌, eqb, length};
 ghost use Rattle.masks.specs.Sets.{is_member, members_of, first_member, without_first, single_of, all_below, union_of, common_of};
 

@@ -11,7 +11,6 @@ use Rattle.laws.specs.Lists.{all, sum, up_to, padded}
 use Rattle.laws.proofs.Tests.{and_left}
 use Rattle.laws.proofs.Lists.{all_at, mem_get_d, length_up_to, get_d_up_to}
 use Rattle.laws.proofs.Fronts.{sum_take_next, sum_take_all}
-use Rattle.model.specs.Card as model
 use Rattle.model.specs.Card.{between}
 use Rattle.model.specs.Writer.{known}
 use Rattle.model.proofs.Checked.{between_low, between_high}

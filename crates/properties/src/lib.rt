@@ -1,4 +1,6 @@
 // Properties, and the bags of parameters and objects, in tables of rows.
+#![tactic(auto)]
+
 pub mod arities;
 pub mod parameters;
 

@@ -1,4 +1,6 @@
 // Sets of numbers, kept as ascending lists at the front of an array, with 0 behind them.
+#![tactic(auto)]
+
 ghost use Rattle.std.specs.Prelude.{◌+◌, ◌≤◌, ◌<◌, true, ◌≡◌, length, take};
 ghost use Rattle.sets.specs.Numbers.{rising, place, found, without, inserted, without_all, inserted_all, gap_closed, room_made, SetKept, Becomes};
 

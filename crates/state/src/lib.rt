@@ -1,4 +1,6 @@
 // The rows of a state as ascending numbers: well-formedness, loading from a buffer and storing to it.
+#![tactic(auto)]
+
 ghost use Rattle.std.specs.Prelude.{◌+◌, ◌-◌, ◌*◌, ◌≤◌, true, ◌≡◌, length, take, drop, replicate};
 ghost use mathlib.Core.List.{◌++◌, ◌∷◌, [], flat_map};
 ghost use Rattle.laws.specs.Lists.{member};

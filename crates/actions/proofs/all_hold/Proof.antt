@@ -1,5 +1,4 @@
 -- The first i atoms hold.
-use borrow.Author.Tests.{not-true, not-false}
 use Prim.Native.Nat.{◌-◌}
 use native.Mathlib.Omega.{arith}
 use Rattle.card.specs.Represents.{blank_atom}

@@ -46,12 +46,11 @@ loop-less c = omega arith
 
 loop-again : tie.Need-loop-i-preserved invariant-loop decreases-loop
 unfolding blank_atom
-loop-again c =
-    (
-      omega arith,
-      length-set c.loop-i.numbers c.loop-i.i _ ∙ c.loop-i.invariant.1,
-      facts_step _ _ _ c.requires _ _ _ c.loop-i-test.true c.loop-i.invariant.2 c.fact_number.ensures,
-    )
+loop-again c = (
+  omega arith,
+  length-set c.loop-i.numbers c.loop-i.i _ ∙ c.loop-i.invariant.1,
+  facts_step _ _ _ c.requires _ _ _ c.loop-i-test.true c.loop-i.invariant.2 c.fact_number.ensures,
+)
 
 same_length : tie.Need-shape_of-numbers invariant-loop decreases-loop
 same_length c = c.loop-i.invariant.1

@@ -1,6 +1,5 @@
 -- `masks::single` meets its contract: a 1 shifted to its place.
 use borrow.Author.Rules.{rules}
-use lib.Pow.{shl_exact}
 use Rattle.masks.specs.Sets.{single_of}
 use Rattle.masks.proofs.Operations.{one_shifted}
 use Rattle.masks.proofs.single.Statement.{statement}

@@ -3,7 +3,6 @@ use Prim.Native.Nat.{ℕ, ◌*◌}
 use mathlib.Core.Path.{◌≡◌, sym, ◌∙◌}
 use mathlib.Core.Bool.{Bool, true, ◌&&◌}
 use native.Mathlib.Omega.{arith}
-use borrow.Author.Tests.{not-true, not-false}
 use Rattle.model.specs.Strips.{row_right}
 use Rattle.state.specs.Rows.{row_at}
 use Rattle.state.proofs.RightRows.{row_unknown, row_places, place_test, first_fails, second_fails, third_decides}

@@ -3,7 +3,6 @@ use Prim.Native.Nat.{◌-◌, ◌*◌, ◌≤◌}
 use mathlib.Core.Path.{◌≡◌, sym, ◌∙◌}
 use native.Mathlib.Omega.{arith}
 use lib.ListN.{drop}
-use borrow.Author.Tests.{not-true, not-false}
 use Rattle.state.specs.Rows.{rows_in}
 use Rattle.state.proofs.RightRows.{rows_start, rows_end, rows_wrong, rows_low, rows_again}
 use Rattle.state.proofs.rows_right.Statement.{statement}
@@ -48,12 +47,11 @@ loop-less : tie.Need-loop-i-smaller invariant-loop decreases-loop
 loop-less c = omega arith
 
 loop-again : tie.Need-loop-i-preserved invariant-loop decreases-loop
-loop-again c =
-    (
-      omega arith,
-      rows_again _ _ _ _ c.loop-i.invariant.1 c.loop-i-test.true
-          (sym c.row_right.ensures ∙ c.if-not-row_right.false) c.row-n.ensures c.if-n-least.false,
-    )
+loop-again c = (
+  omega arith,
+  rows_again _ _ _ _ c.loop-i.invariant.1 c.loop-i-test.true
+      (sym c.row_right.ensures ∙ c.if-not-row_right.false) c.row-n.ensures c.if-n-least.false,
+)
 
 returns-3 : tie.Need-returns invariant-loop decreases-loop
 returns-3 c =

@@ -131,21 +131,20 @@ mul-enter-schema c = omega (arith, few c.before.before.before.before)
 
 enter-schema-requires : tie.Need-enter_schema-requires invariant-loop decreases-loop
 unfolding taken
-enter-schema-requires c κs =
+enter-schema-requires c κs = (
+  c.requires.0,
+  (
+    c.requires.1.0.each_right _ no_schema c.loop-i-test.true,
     (
-      c.requires.0,
-      (
-        c.requires.1.0.each_right _ no_schema c.loop-i-test.true,
-        (
-          c.numbered-numbers.ensures.firsts,
-          record {
-            preconditions_room = room c.before.before.before.before (given_preconditions c.before.before.before.before.before.before.before.before.before.before.before) c.loop-i.invariant.preconditions_passed;
-            deletes_room = room c.before.before.before.before (given_deletes c.before.before.before.before.before.before.before.before.before.before.before) c.loop-i.invariant.deletes_passed;
-            adds_room = room c.before.before.before.before (given_adds c.before.before.before.before.before.before.before.before.before.before.before) c.loop-i.invariant.adds_passed;
-          },
-        ),
-      ),
-    )
+      c.numbered-numbers.ensures.firsts,
+      record {
+        preconditions_room = room c.before.before.before.before (given_preconditions c.before.before.before.before.before.before.before.before.before.before.before) c.loop-i.invariant.preconditions_passed;
+        deletes_room = room c.before.before.before.before (given_deletes c.before.before.before.before.before.before.before.before.before.before.before) c.loop-i.invariant.deletes_passed;
+        adds_room = room c.before.before.before.before (given_adds c.before.before.before.before.before.before.before.before.before.before.before) c.loop-i.invariant.adds_passed;
+      },
+    ),
+  ),
+)
 
 add-count : tie.Need-overflow_add-count invariant-loop decreases-loop
 unfolding taken

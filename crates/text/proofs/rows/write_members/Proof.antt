@@ -1,9 +1,9 @@
 -- The loop's invariant: the members of the mask that is left remain to be written. The mask gets smaller.
 use Prim.Native.Nat.{◌^◌, ◌<◌}
-use mathlib.Core.Path.{refl, sym, subst}
+use mathlib.Core.Path.{refl}
 use native.Mathlib.Omega.{arith}
 use borrow.Author.Rules.{rules}
-use Rattle.masks.specs.Sets.{members_of, without_first}
+use Rattle.masks.specs.Sets.{members_of}
 use Rattle.masks.proofs.Walking.{walk}
 use Rattle.text.specs.Numbers.{numbers}
 use Rattle.text.proofs.NumberRows.{member_first, no_member}

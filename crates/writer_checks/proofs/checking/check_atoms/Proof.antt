@@ -58,12 +58,11 @@ loop-less c = omega arith
 
 loop-again : tie.Need-loop-i-preserved invariant-loop decreases-loop
 unfolding atoms_of blank_atom
-loop-again c =
-    (
-      omega arith,
-      item_passed _ _ _ blank_atom _ _ _ c.loop-i.invariant.1 c.loop-i-test.true _
-          c.check_schema_atom-checked.ensures c.in-Passed.is,
-    )
+loop-again c = (
+  omega arith,
+  item_passed _ _ _ blank_atom _ _ _ c.loop-i.invariant.1 c.loop-i-test.true _
+      c.check_schema_atom-checked.ensures c.in-Passed.is,
+)
 
 returns-2 : tie.Need-returns invariant-loop decreases-loop
 unfolding atoms_of
