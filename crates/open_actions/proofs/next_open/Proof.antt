@@ -5,35 +5,29 @@ use Rattle.open_actions.proofs.Answering.{card_refused, card_accepted}
 use Rattle.open_actions.proofs.next_open.Statement.{statement}
 use Rattle.open_actions.proofs.next_open.Tie as tie
 
--- what the card reader answers, from its word that the card is accepted
-abbrev reading : tie.After-enum-told → tie.After-decode
-reading c = c.before.before.before
-
-decode-requires : tie.Need-decode-requires
+decode-requires : tie.Need-decode-decoded-requires
 decode-requires c κs = search rules
 
-enum-known-verdict : tie.Need-enum-known-verdict
+enum-known-verdict : tie.Need-enum_known-verdict
 enum-known-verdict c = search rules
 
-without-action-requires : tie.Need-without-action-requires
+without-action-requires : tie.Need-without_action-requires
 without-action-requires c κs = search rules
 
-enum_told : tie.Need-enum-told
+enum_told : tie.Need-enum_told-1
 enum_told c = search rules
 
-next-open-of-requires : tie.Need-next-open-of-requires
-next-open-of-requires c κs = represented _ _ (reading c).decode.ensures c.enum_told.given.1
+next-open-of-requires : tie.Need-next_open_of-requires
+next-open-of-requires c κs = represented _ _ c.decode-decoded.ensures c.in-Accepted.is
 
-returns : tie.Need-returns
+returns : tie.Need-returns-in-Refused
 returns c =
-    let refused = c.before.before in
-    card_refused refused.before.before.before.decode.ensures _ _ _ refused.verdict.given.1 c.without-action.ensures
+    card_refused c.decode-decoded.ensures _ _ _ c.in-Refused.is c.without_action.ensures
 
-returns-2 : tie.Need-returns-2
+returns-2 : tie.Need-returns-in-Accepted
 returns-2 c =
-    let accepted = c.before in
-    card_accepted (reading accepted).decode.ensures _ _ _ accepted.enum_told.given.1 c.next-open-of.ensures
+    card_accepted c.decode-decoded.ensures _ _ _ c.in-Accepted.is c.next_open_of.ensures
 
-pub next-open-spec : {M : Type 1} → statement M
-next-open-spec =
+pub next_open_spec : {M : Type 1} → statement M
+next_open_spec =
     tie.close (tie.spec decode-requires enum-known-verdict without-action-requires enum_told next-open-of-requires returns returns-2)

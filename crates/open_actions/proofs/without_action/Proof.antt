@@ -8,5 +8,5 @@ returns : tie.Need-returns
 unfolding padded
 returns c = refl
 
-pub without-action-spec : {M : Type 1} → statement M
-without-action-spec = tie.close (tie.spec returns)
+pub without_action_spec : {M : Type 1} → statement M
+without_action_spec = tie.close (tie.spec returns)

@@ -4,14 +4,14 @@ use borrow.Author.Rules.{rules}
 use Rattle.open_actions.proofs.rows.repeat_agrees.Statement.{statement}
 use Rattle.open_actions.proofs.rows.repeat_agrees.Tie as tie
 
-returns : tie.Need-returns
+returns : tie.Need-returns-then-arity-k
 returns c = search rules
 
-returns-2 : tie.Need-returns-2
-returns-2 c = λ same. eq-eqb _ _ (same c.before.if1.false c.if2.true)
+returns-2 : tie.Need-returns-then-one-other
+returns-2 c = λ same. eq-eqb _ _ (same c.if-arity-k.false c.if-one-other.true)
 
-returns-3 : tie.Need-returns-3
+returns-3 : tie.Need-returns-else-one-other
 returns-3 c = search rules
 
-pub repeat-agrees-spec : {M : Type 1} → statement M
-repeat-agrees-spec = tie.close (tie.spec returns returns-2 returns-3)
+pub repeat_agrees_spec : {M : Type 1} → statement M
+repeat_agrees_spec = tie.close (tie.spec returns returns-2 returns-3)

@@ -8,75 +8,75 @@ use borrow.Author.Rules.{rules}
 use Rattle.open_actions.proofs.rows.row_agrees.Statement.{statement}
 use Rattle.open_actions.proofs.rows.row_agrees.Tie as tie
 
-mul_at : tie.Need-overflow-mul-at
+mul_at : tie.Need-overflow_mul-at
 mul_at c = search rules
 
-shared-slice-read-if1 : tie.Need-shared-slice-read-if1
+shared-slice-read-if1 : tie.Need-bounds-state-at
 shared-slice-read-if1 c = search rules
 
-returns : tie.Need-returns
-returns c = λ y shows agrees. absurd (c.if1.true shows.predicate)
+returns : tie.Need-returns-then-state-at
+returns c = λ y shows agrees. absurd (c.if-state-at.true shows.predicate)
 
-add-first : tie.Need-overflow-add-first
+add-first : tie.Need-overflow_add-first
 add-first c = search rules
 
-shared-slice-read-first : tie.Need-shared-slice-read-first
+shared-slice-read-first : tie.Need-bounds-state-at-2
 shared-slice-read-first c = search rules
 
-add-second : tie.Need-overflow-add-second
+add-second : tie.Need-overflow_add-second
 add-second c = search rules
 
-shared-slice-read-second : tie.Need-shared-slice-read-second
+shared-slice-read-second : tie.Need-bounds-state-at-3
 shared-slice-read-second c = search rules
 
-add-third : tie.Need-overflow-add-third
+add-third : tie.Need-overflow_add-third
 add-third c = search rules
 
-shared-slice-read-third : tie.Need-shared-slice-read-third
+shared-slice-read-third : tie.Need-bounds-state-at-4
 shared-slice-read-third c = search rules
 
-place-agrees-requires : tie.Need-place-agrees-requires
+place-agrees-requires : tie.Need-place_agrees-requires
 place-agrees-requires c κs =
-    let pre = c.before.before.before.before.before.before.before.before.requires.1 in
+    let pre = c.requires.1 in
     (λ h. pre.first, pre.few)
 
-returns-2 : tie.Need-returns-2
-returns-2 c = λ y shows agrees. sym (not-true _ c.if2.true) ∙ c.before.place-agrees.ensures (λ h m. shows.first h ∙ agrees.same _ m)
+returns-2 : tie.Need-returns-then-not-place_agrees
+returns-2 c = λ y shows agrees. sym (c.if-not-place_agrees.true) ∙ c.place_agrees.ensures (λ h m. shows.first h ∙ agrees.same _ m)
 
-place-agrees-requires-2 : tie.Need-place-agrees-requires-2
+place-agrees-requires-2 : tie.Need-place_agrees-requires-2
 place-agrees-requires-2 c κs = search rules
 
-returns-3 : tie.Need-returns-3
-returns-3 c = λ y shows agrees. sym (not-true _ c.if3.true) ∙ c.before.place-agrees2.ensures (λ h m. shows.second h ∙ agrees.same _ m)
+returns-3 : tie.Need-returns-then-not-place_agrees-2
+returns-3 c = λ y shows agrees. sym (c.if-not-place_agrees-2.true) ∙ c.place_agrees-2.ensures (λ h m. shows.second h ∙ agrees.same _ m)
 
-place-agrees-requires-3 : tie.Need-place-agrees-requires-3
+place-agrees-requires-3 : tie.Need-place_agrees-requires-3
 place-agrees-requires-3 c κs = search rules
 
-returns-4 : tie.Need-returns-4
-returns-4 c = λ y shows agrees. sym (not-true _ c.if4.true) ∙ c.before.place-agrees3.ensures (λ h m. shows.third h ∙ agrees.same _ m)
+returns-4 : tie.Need-returns-then-not-place_agrees-3
+returns-4 c = λ y shows agrees. sym (c.if-not-place_agrees-3.true) ∙ c.place_agrees-3.ensures (λ h m. shows.third h ∙ agrees.same _ m)
 
-repeat-agrees-requires : tie.Need-repeat-agrees-requires
+repeat-agrees-requires : tie.Need-repeat_agrees-requires
 repeat-agrees-requires c κs = search rules
 
-returns-5 : tie.Need-returns-5
-returns-5 c = λ y shows agrees. sym (not-true _ c.if5.true)
-    ∙ c.before.repeat-agrees.ensures (λ h e. shows.first (omega arith) ∙ ap (λ (p : ℕ). get_or y p 0) e ∙ sym (shows.second h))
+returns-5 : tie.Need-returns-then-not-repeat_agrees
+returns-5 c = λ y shows agrees. sym (c.if-not-repeat_agrees.true)
+    ∙ c.repeat_agrees.ensures (λ h e. shows.first (omega arith) ∙ ap (λ (p : ℕ). get_or y p 0) e ∙ sym (shows.second h))
 
-repeat-agrees-requires-2 : tie.Need-repeat-agrees-requires-2
+repeat-agrees-requires-2 : tie.Need-repeat_agrees-requires-2
 repeat-agrees-requires-2 c κs = search rules
 
-returns-6 : tie.Need-returns-6
-returns-6 c = λ y shows agrees. sym (not-true _ c.if6.true)
-    ∙ c.before.repeat-agrees2.ensures (λ h e. shows.first (omega arith) ∙ ap (λ (p : ℕ). get_or y p 0) e ∙ sym (shows.third h))
+returns-6 : tie.Need-returns-then-not-repeat_agrees-2
+returns-6 c = λ y shows agrees. sym (c.if-not-repeat_agrees-2.true)
+    ∙ c.repeat_agrees-2.ensures (λ h e. shows.first (omega arith) ∙ ap (λ (p : ℕ). get_or y p 0) e ∙ sym (shows.third h))
 
-repeat-agrees-requires-3 : tie.Need-repeat-agrees-requires-3
+repeat-agrees-requires-3 : tie.Need-repeat_agrees-requires-3
 repeat-agrees-requires-3 c κs = search rules
 
-returns-7 : tie.Need-returns-7
-returns-7 c = λ y shows agrees. c.repeat-agrees3.ensures (λ h e. shows.second (omega arith) ∙ ap (λ (p : ℕ). get_or y p 0) e ∙ sym (shows.third h))
+returns-7 : tie.Need-returns
+returns-7 c = λ y shows agrees. c.repeat_agrees-3.ensures (λ h e. shows.second (omega arith) ∙ ap (λ (p : ℕ). get_or y p 0) e ∙ sym (shows.third h))
 
-pub row-agrees-spec : {M : Type 1} → statement M
-row-agrees-spec =
+pub row_agrees_spec : {M : Type 1} → statement M
+row_agrees_spec =
     tie.close
     (tie.spec mul_at shared-slice-read-if1 returns add-first shared-slice-read-first add-second shared-slice-read-second add-third
     shared-slice-read-third place-agrees-requires returns-2 place-agrees-requires-2 returns-3 place-agrees-requires-3 returns-4 repeat-agrees-requires

@@ -8,26 +8,25 @@ use Rattle.open_actions.specs.Bindings.{query_of}
 use Rattle.open_actions.proofs.schemas.rest_of_schema.Statement.{statement}
 use Rattle.open_actions.proofs.schemas.rest_of_schema.Tie as tie
 
-next-of-requires : tie.Need-next-of-requires
+next-of-requires : tie.Need-next_of-binding-requires
 next-of-requires c κs = search rules
 
-without-action-requires : tie.Need-without-action-requires
+without-action-requires : tie.Need-without_action-requires
 without-action-requires c κs = search rules
 
-returns : tie.Need-returns
+returns : tie.Need-returns-then-not-binding
 returns c =
-    inr (record { none_open = c.before.before.before.next_of.ensures.none (not-true _ c.before.if1.true); is = c.without-action.ensures })
+    inr (record { none_open = c.next_of-binding.ensures.none (not-true _ c.if-not-binding.true); is = c.without_action.ensures })
 
-returns-2 : tie.Need-returns-2
+returns-2 : tie.Need-returns
 unfolding query_of schema_of
 returns-2 c =
-    let searched = c.before.before.before in
     inl (record {
-      binding = searched.next_of.result;
-      chooses = searched.next_of.ensures;
-      found = not-false _ c.before.if1.false;
+      binding = c.next_of-binding.result;
+      chooses = c.next_of-binding.ensures;
+      found = not-false _ c.if-not-binding.false;
       is = refl;
     })
 
-pub rest-of-schema-spec : {M : Type 1} → statement M
-rest-of-schema-spec = tie.close (tie.spec next-of-requires without-action-requires returns returns-2)
+pub rest_of_schema_spec : {M : Type 1} → statement M
+rest_of_schema_spec = tie.close (tie.spec next-of-requires without-action-requires returns returns-2)

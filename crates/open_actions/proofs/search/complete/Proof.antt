@@ -6,28 +6,28 @@ use borrow.Author.Rules.{rules}
 use Rattle.open_actions.proofs.search.complete.Statement.{statement}
 use Rattle.open_actions.proofs.search.complete.Tie as tie
 
-returns : tie.Need-returns
-returns c = found_anyway c.before.before.before.before.requires.full (not-true _ c.if1.true)
+returns : tie.Need-returns-then-not-exact
+returns c = found_anyway c.requires.full (c.if-not-exact.true)
 
-all-different-requires : tie.Need-all-different-requires
+all-different-requires : tie.Need-all_different-requires
 all-different-requires c κs = search rules
 
-returns-2 : tie.Need-returns-2
+returns-2 : tie.Need-returns-then-not-all_different
 returns-2 c =
-    let pre = c.before.before.before.before.before.before.requires in
-    whole pre.full (pre.all_bound (not-false _ c.before.before.if1.false))
-    (repeats pre c.before.all_different.ensures (not-true _ c.if2.true))
+    let pre = c.requires in
+    whole pre.full (pre.all_bound (c.if-not-exact.false))
+    (repeats pre c.all_different.ensures (c.if-not-all_different.true))
 
-allows-requires : tie.Need-allows-requires
+allows-requires : tie.Need-allows-found-requires
 allows-requires c κs =
-    action_ready c.before.before.before.before.before.before.requires c.before.all_different.ensures (not-false _ c.if2.false)
+    action_ready c.requires c.all_different.ensures (c.if-not-all_different.false)
 
-returns-3 : tie.Need-returns-3
+returns-3 : tie.Need-returns
 returns-3 c =
-    let pre = c.before.before.before.before.before.before.before.requires in
-    whole pre.full (pre.all_bound (not-false _ c.before.before.before.if1.false))
-    (decides pre c.before.before.all_different.ensures (not-false _ c.before.if2.false) c.allows.ensures)
+    let pre = c.requires in
+    whole pre.full (pre.all_bound (c.if-not-exact.false))
+    (decides pre c.all_different.ensures (c.if-not-all_different.false) c.allows-found.ensures)
 
-pub complete-spec : {M : Type 1} → statement M
-complete-spec =
+pub complete_spec : {M : Type 1} → statement M
+complete_spec =
     tie.close (tie.spec returns all-different-requires returns-2 allows-requires returns-3)

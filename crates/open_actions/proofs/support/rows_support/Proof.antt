@@ -11,124 +11,109 @@ use Rattle.open_actions.proofs.Supporting.{rows_before_lem, row_inside, rows_aft
 use Rattle.open_actions.proofs.support.rows_support.Statement.{statement}
 use Rattle.open_actions.proofs.support.rows_support.Tie as tie
 
-abbrev invariant-loop : tie.invariant-loop
+abbrev invariant-loop : tie.invariant-loop-i
 invariant-loop state count a arity parameter bound objects place end mask₀ i₀ mask i = Supported state i a arity parameter bound objects mask
 
-abbrev decreases-loop : tie.decreases-loop
+abbrev decreases-loop : tie.decreases-loop-i
 decreases-loop state count a arity parameter bound objects place end mask₀ i₀ mask i = end - i
 
--- earlier points of the function, each reached from the next: start, range, loop
-abbrev entry : tie.After-range-of invariant-loop decreases-loop → tie.Start invariant-loop decreases-loop
-entry c = c.before.before.before.before
-
-abbrev ranged : tie.At-loop invariant-loop decreases-loop → tie.After-range-of invariant-loop decreases-loop
-ranged c = c.before.before.before
-
 -- a byte of the state is below 256
-bytes_small : (c : tie.After-range-of invariant-loop decreases-loop) (k : ℕ) → get_or (entry c).args.state.now k 0 < 256
-bytes_small c k = omega (arith, c.before.before.before.shared-slice-known.given k)
+bytes_small : (c : tie.After-range_of-range invariant-loop decreases-loop) (k : ℕ) → get_or c.args.state.now k 0 < 256
+bytes_small c k = omega (arith, c.shared_slice_known-1.given k)
 
 -- a row of the range is in the state
 row_there :
-    (c : tie.In-loop invariant-loop decreases-loop) → 4 * c.before.loop.i + 4 ≤ length (entry (ranged c.before)).args.state.now
+    (c : tie.In-loop-i invariant-loop decreases-loop) → 4 * c.loop-i.i + 4 ≤ length c.args.state.now
 row_there c =
-    let ranges = ranged c.before in
-    row_inside (entry ranges).pre.0 (bytes_small ranges) ranges.range-of.ensures c.before.before.before.rows-below.ensures c.loop-test.true
+    row_inside c.requires.0 (bytes_small c.before.before.before.before) c.range_of-range.ensures c.rows_below-end.ensures c.loop-i-test.true
 
-place-of-requires : tie.Need-place-of-requires invariant-loop decreases-loop
+place-of-requires : tie.Need-place_of-place-requires invariant-loop decreases-loop
 place-of-requires c κs = search rules
 
-range-of-requires : tie.Need-range-of-requires invariant-loop decreases-loop
-range-of-requires c κs = c.before.before.before.requires.1
+range-of-requires : tie.Need-range_of-range-requires invariant-loop decreases-loop
+range-of-requires c κs = c.requires.1
 
-rows-below-requires : tie.Need-rows-below-requires invariant-loop decreases-loop
-rows-below-requires c κs = (entry c).requires.0
+rows-below-requires : tie.Need-rows_below-end-requires invariant-loop decreases-loop
+rows-below-requires c κs = c.requires.0
 
-rows-below-requires-2 : tie.Need-rows-below-requires-2 invariant-loop decreases-loop
-rows-below-requires-2 c κs = (entry c.before).pre.0
+rows-below-requires-2 : tie.Need-rows_below-i-requires invariant-loop decreases-loop
+rows-below-requires-2 c κs = c.requires.0
 
-loop-holds : tie.Need-loop-init invariant-loop decreases-loop
+loop-holds : tie.Need-loop-i-init invariant-loop decreases-loop
 loop-holds c =
-    let ranges = c.before.before in
-    rows_before_lem (entry ranges).requires.0 (bytes_small ranges) ranges.range-of.ensures c.rows-below2.ensures
+    rows_before_lem c.requires.0 (bytes_small c.before.before) c.range_of-range.ensures c.rows_below-i.ensures
 
-row-agrees-requires : tie.Need-row-agrees-requires invariant-loop decreases-loop
-row-agrees-requires c κs = (row_there c, (entry (ranged c.before)).pre.1)
+row-agrees-requires : tie.Need-row_agrees-requires invariant-loop decreases-loop
+row-agrees-requires c κs = (row_there c, c.requires.1)
 
-add-i : tie.Need-overflow-add-i invariant-loop decreases-loop
+add-i : tie.Need-overflow_add-i invariant-loop decreases-loop
 add-i c = omega arith
 
-loop-less : tie.Need-loop-smaller invariant-loop decreases-loop
+loop-less : tie.Need-loop-i-smaller-then-not-row_agrees invariant-loop decreases-loop
 loop-less c = omega arith
 
-loop-again : tie.Need-loop-preserved invariant-loop decreases-loop
-loop-again c = row_passed c.before.before.before.loop.invariant c.before.row-agrees.ensures (not-true _ c.if1.true)
+loop-again : tie.Need-loop-i-preserved-then-not-row_agrees invariant-loop decreases-loop
+loop-again c = row_passed c.loop-i.invariant c.row_agrees.ensures (c.if-not-row_agrees.true)
 
-all-below-requires : tie.Need-all-below-requires invariant-loop decreases-loop
+all-below-requires : tie.Need-all_below-requires invariant-loop decreases-loop
 all-below-requires c κs = omega arith
 
-returns : tie.Need-returns invariant-loop decreases-loop
-returns c = everything c.all-below.ensures
+returns : tie.Need-returns-then-place-eq0 invariant-loop decreases-loop
+returns c = everything c.all_below.ensures
 
-mul-o : tie.Need-overflow-mul-o invariant-loop decreases-loop
+mul-o : tie.Need-overflow_mul-o invariant-loop decreases-loop
 mul-o c = let there = row_there c.before.before.before in omega arith
 
-add-o : tie.Need-overflow-add-o invariant-loop decreases-loop
+add-o : tie.Need-overflow_add-o invariant-loop decreases-loop
 add-o c =
-    let turn = c.before.before.before in
-    let few = (ranged turn.before).before.place_of.ensures.at_most in
-    let there = row_there turn in
+    let few = c.place_of-place.ensures.at_most in
+    let there = row_there c.before.before.before in
     omega arith
 
-shared-slice-read-o : tie.Need-shared-slice-read-o invariant-loop decreases-loop
+shared-slice-read-o : tie.Need-bounds-state-i invariant-loop decreases-loop
 shared-slice-read-o c =
-    let turn = c.before.before.before.before in
-    let few = (ranged turn.before).before.place_of.ensures.at_most in
-    let there = row_there turn in
+    let few = c.place_of-place.ensures.at_most in
+    let there = row_there c.before.before.before.before in
     omega arith
 
-cast-o : tie.Need-overflow-cast-o invariant-loop decreases-loop
+cast-o : tie.Need-overflow_cast-o invariant-loop decreases-loop
 cast-o c =
-    let head = c.before.before.before.before.before in
-    omega (arith, c.shared-slice-known3.given (4 * head.loop.i + (ranged head).before.place_of.result))
+    omega (arith, c.shared_slice_known-in-loop-i-1.given (4 * c.loop-i.i + c.place_of-place.result))
 
-add-i-2 : tie.Need-overflow-add-i-2 invariant-loop decreases-loop
+add-i-2 : tie.Need-overflow_add-i-then-o-ge64 invariant-loop decreases-loop
 add-i-2 c = omega arith
 
-loop-less-2 : tie.Need-loop-smaller-2 invariant-loop decreases-loop
+loop-less-2 : tie.Need-loop-i-smaller-then-o-ge64 invariant-loop decreases-loop
 loop-less-2 c = omega arith
 
-loop-again-2 : tie.Need-loop-preserved-2 invariant-loop decreases-loop
+loop-again-2 : tie.Need-loop-i-preserved-then-o-ge64 invariant-loop decreases-loop
 loop-again-2 c =
-    let head = c.before.before.before.before.before.before in
-    no_object head.loop.invariant (ranged head).before.place_of.ensures c.before.before.if2.false c.if3.true
+    no_object c.loop-i.invariant c.place_of-place.ensures c.if-place-eq0.false c.if-o-ge64.true
 
 single-requires : tie.Need-single-requires invariant-loop decreases-loop
 single-requires c κs = omega arith
 
-union-requires : tie.Need-union-requires invariant-loop decreases-loop
+union-requires : tie.Need-union-mask-requires invariant-loop decreases-loop
 union-requires c κs = search rules
 
-add-i-3 : tie.Need-overflow-add-i-3 invariant-loop decreases-loop
+add-i-3 : tie.Need-overflow_add-i-in-loop-i invariant-loop decreases-loop
 add-i-3 c = omega arith
 
-loop-less-3 : tie.Need-loop-smaller-3 invariant-loop decreases-loop
+loop-less-3 : tie.Need-loop-i-smaller invariant-loop decreases-loop
 loop-less-3 c = omega arith
 
-loop-again-3 : tie.Need-loop-preserved-3 invariant-loop decreases-loop
+loop-again-3 : tie.Need-loop-i-preserved invariant-loop decreases-loop
 loop-again-3 c =
-    let head = c.before.before.before.before.before.before.before.before in
-    row_joins head.loop.invariant (ranged head).before.place_of.ensures c.before.before.before.before.if2.false
-    (c.union.ensures ∙ ap (union_of _) c.before.single.ensures)
+    row_joins c.loop-i.invariant c.place_of-place.ensures c.if-place-eq0.false
+    (c.union-mask.ensures ∙ ap (union_of _) c.single.ensures)
 
-returns-2 : tie.Need-returns-2 invariant-loop decreases-loop
+returns-2 : tie.Need-returns invariant-loop decreases-loop
 returns-2 c =
-    let ranges = ranged c.before in
-    rows_after (entry ranges).pre.0 (bytes_small ranges) ranges.range-of.ensures c.before.before.before.rows-below.ensures
-    c.loop-test.false c.before.loop.invariant
+    rows_after c.requires.0 (bytes_small c.before.before.before.before) c.range_of-range.ensures c.rows_below-end.ensures
+    c.loop-i-test.false c.loop-i.invariant
 
-pub rows-support-spec : {M : Type 1} → statement M
-rows-support-spec =
+pub rows_support_spec : {M : Type 1} → statement M
+rows_support_spec =
     tie.close
     (tie.spec invariant-loop decreases-loop place-of-requires range-of-requires rows-below-requires rows-below-requires-2 loop-holds row-agrees-requires add-i loop-less
     loop-again all-below-requires returns mul-o add-o shared-slice-read-o cast-o add-i-2 loop-less-2 loop-again-2 single-requires union-requires

@@ -1,0 +1,90 @@
+-- `descend` concludes what the search of the next level does, unless a note or an earlier parameter rules its object out; `search` adds one object
+-- of its level after the other.
+use borrow.Author.Tests.{not-true}
+use Rattle.std.proofs.Common.{◌∙◌, sym, ap, arith, length-set}
+use Rattle.laws.proofs.Tests.{never}
+use Rattle.masks.specs.Sets.{union_of}
+use Rattle.open_actions.proofs.Searching.{same_length, deeper}
+use Rattle.open_actions.proofs.Descending.{few_parameters, small, level_fits, inner}
+use Rattle.open_actions.proofs.Descending.{level_ready, level_recalls, level_stuck, taken_already, level_finds}
+use Rattle.open_actions.proofs.Descending.{turn_found, turn_back, turn_again, turn_end}
+use Rattle.open_actions.proofs.search.+descend_search.Goals as goal
+use Rattle.open_actions.proofs.search.+descend_search.Goals.{descend-then-owner-level, descend-else-owner-level}
+
+pub descend-single-this-requires : goal.descend-single-this-requires
+descend-single-this-requires t c = omega (arith, level_fits c.requires)
+
+pub descend-overflow_mul-place : goal.descend-overflow_mul-place
+descend-overflow_mul-place t c = omega (arith, level_fits c.requires)
+
+pub descend-overflow_add-place : goal.descend-overflow_add-place
+descend-overflow_add-place t c = omega (arith, level_fits c.requires, small c.requires)
+
+pub descend-recall-recalled-requires : goal.descend-recall-recalled-requires
+descend-recall-recalled-requires t c =
+    let longer = length-set c.args.objects.now c.args.level c.args.o in
+    (omega (arith, level_fits c.requires, small c.requires), omega (arith, few_parameters c.requires.ready))
+
+pub descend-returns-then-not-is_empty : goal.descend-returns-then-not-is_empty
+descend-returns-then-not-is_empty t c =
+    level_recalls c.requires c.single-this.ensures c.union-here.ensures c.recall-recalled.ensures c.is_empty.ensures c.if-not-is_empty.true
+
+pub descend-taken_by-owner-requires : goal.descend-taken_by-owner-requires
+descend-taken_by-owner-requires t c =
+    let longer = length-set c.args.objects.now c.args.level c.args.o in
+    (omega (arith, c.requires.inside), omega (arith, few_parameters c.requires.ready))
+
+pub descend-search-later-requires : goal.descend-search-later-requires
+descend-search-later-requires t c = (
+  deeper c.args.objects.now c.args.level c.args.o c.decreases c.requires.inside,
+  level_ready c.requires c.single-this.ensures c.union-here.ensures
+      (elim c.if-owner-level.branch [ descend-then-owner-level w ↦ λ e. never (sym e ∙ w.free-is) | descend-else-owner-level w ↦ λ e. sym w.free-is ∙ e ]),
+)
+
+pub descend-note-requires : goal.descend-note-requires
+descend-note-requires t c =
+    let long = same_length c.search-later.ensures.outcome.full c.requires.ready.full in
+    (omega (arith, level_fits c.requires, small c.requires), omega (arith, few_parameters c.requires.ready))
+
+pub descend-returns-then-not-later : goal.descend-returns-then-not-later
+descend-returns-then-not-later t c =
+    level_stuck c.requires c.single-this.ensures c.union-here.ensures c.search-later.ensures (not-true _ c.if-not-later.true) c.union.ensures c.note.ensures
+
+pub descend-single-requires : goal.descend-single-requires
+descend-single-requires t c = omega (arith, level_fits c.requires, c.if-owner-level-2.true)
+
+pub descend-returns-then-owner-level-2 : goal.descend-returns-then-owner-level-2
+descend-returns-then-owner-level-2 t c =
+    taken_already c.requires c.single-this.ensures c.union-here.ensures c.search-later.ensures c.taken_by-owner.ensures c.if-owner-level-2.true
+    c.single.ensures c.union-then-owner-level-2.ensures
+
+-- the search of the next level is exact if this one is, since no earlier parameter has the object
+pub descend-returns : goal.descend-returns
+descend-returns t c =
+    level_finds c.requires c.single-this.ensures c.union-here.ensures c.search-later.ensures
+    (elim c.if-owner-level.branch [
+      | descend-then-owner-level w ↦ absurd (omega (arith, w.if-owner-level.true, c.if-owner-level-2.false))
+      | descend-else-owner-level w ↦ w.free-is
+    ])
+
+pub search-returns-then-tried : goal.search-returns-then-tried
+search-returns-then-tried t c =
+    turn_found c.requires c.if-level-objects.false c.choices_for-left.ensures c.loop-o.invariant c.descend-tried.ensures c.if-tried.true
+
+pub search-is_member-requires-in-loop-o : goal.search-is_member-requires-in-loop-o
+search-is_member-requires-in-loop-o t c =
+    omega (arith, few_parameters c.requires.ready, inner c.requires c.if-level-objects.false)
+
+pub search-returns-then-not-is_member-2 : goal.search-returns-then-not-is_member-2
+search-returns-then-not-is_member-2 t c =
+    turn_back c.requires c.if-level-objects.false c.choices_for-left.ensures c.loop-o.invariant c.descend-tried.ensures c.if-tried.false
+    c.is_member-in-loop-o.ensures c.if-not-is_member-2.true
+
+pub search-loop-o-preserved : goal.search-loop-o-preserved
+search-loop-o-preserved t c =
+    turn_again c.requires c.if-level-objects.false c.choices_for-left.ensures c.loop-o.invariant c.descend-tried.ensures c.if-tried.false
+    (c.union-culprits.ensures ∙ ap (union_of _) c.common.ensures)
+
+pub search-returns : goal.search-returns
+search-returns t c =
+    turn_end c.requires c.if-level-objects.false c.choices_for-left.ensures c.loop-o.invariant c.loop-o-test.false
