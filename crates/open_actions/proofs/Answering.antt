@@ -12,13 +12,13 @@ use types.Run.{OneOf, miss}
 use borrow.Author.Tests.{eq-eqb, ne_eqb, lt-ltb, le-ltb}
 use Rattle.laws.specs.Lists.{padded, all, distinct}
 use Rattle.laws.proofs.Tests.{and_intro, and_false_left, and_false_right}
-use Rattle.model.specs.Answer.{Answer, refused, accepted, ◌>>=◌, ◌>>◌, need}
+use Rattle.model.specs.Answer.{Answer, refused, accepted, need}
 use Rattle.model.specs.Strips.{Action, well_formed, check_objects}
 use Rattle.model.specs.Open.{check_given, next_open_of, next_open}
 use Rattle.model.proofs.Answers.{then_accepted, then_refused, both_accepted, both_refused, need_accepted, need_refused, need_both}
 use Rattle.model.proofs.OpenActions.{action_of}
 use Rattle.model.proofs.OpenBySchema.{from_start}
-use Rattle.card.specs.Represents.{Decodes, refusal_number, schema_of, task_of, Represented}
+use Rattle.card.specs.Represents.{Decodes, schema_of, task_of, Represented}
 use Rattle.card.specs.declared.Decoded.{Decoded}
 use Rattle.card.specs.declared.Refusal.{Refusal}
 use Rattle.card.specs.declared.Schema.{Schema}

@@ -2,10 +2,9 @@
 use Prim.Native.Nat.{ℕ, zero, suc, ◌+◌, ◌-◌, ◌≤◌, ◌<◌}
 use native.Mathlib.Omega.{arith}
 use mathlib.Core.Path.{◌≡◌, refl, sym, ap, ◌∙◌, subst}
-use mathlib.Core.Bool.{Bool, true, false, cond, ◌&&◌, ◌||◌}
-use mathlib.Core.Logic.{◌⊎◌, inl, inr, ⊎_elim}
-use mathlib.Core.List.{List, [], ◌∷◌, ◌++◌}
-use lib.Dec.{ltb}
+use mathlib.Core.Bool.{Bool, true, false, cond, ◌||◌}
+use mathlib.Core.Logic.{⊎_elim}
+use mathlib.Core.List.{List, [], ◌∷◌}
 use lib.ListN.{length, get_or, set, replicate, length-set}
 use lib.Seq.{get_or-set_same, get_or-set_other}
 use borrow.Author.Tests.{lt-ltb, eq-eqb}
@@ -14,9 +13,7 @@ use Rattle.laws.proofs.Lists.{count_append}
 use Rattle.laws.proofs.Walks.{up_to_next}
 use Rattle.laws.proofs.Tests.{and_intro, or_cases, or_left, or_right, never, by_test}
 use Rattle.laws.proofs.Orders.{compared}
-use Rattle.model.specs.Card.{has}
-use Rattle.model.specs.Strips.{facts_in, ground}
-use Rattle.card.specs.Represents.{atom_of, blank_atom}
+use Rattle.card.specs.Represents.{blank_atom}
 use Rattle.card.specs.declared.AtomList.{AtomList}
 use Rattle.masks.specs.Sets.{is_member, union_of, common_of, single_of, all_below}
 use Rattle.masks.proofs.Operations.{union_member, common_member, single_member, all_member, none_member}

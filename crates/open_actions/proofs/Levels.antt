@@ -19,7 +19,7 @@ use Rattle.card.specs.declared.Schema.{Schema}
 use Rattle.state.proofs.Writing.{drop_zeros}
 use Rattle.masks.specs.Sets.{is_member, all_below}
 use Rattle.masks.proofs.Operations.{none_member, all_member}
-use Rattle.open_actions.specs.Masked.{Agree, Begins, StartsFrom}
+use Rattle.open_actions.specs.Masked.{Begins, StartsFrom}
 use Rattle.open_actions.specs.Bindings.{Query, query_of, open_binding, Full, Searchable, SearchOutcome}
 use Rattle.open_actions.specs.Schemas.{SchemaReady, BindingReady, NoneOpen, FirstOpen, FitTested, MayFit, Picks, BindingPicked}
 use Rattle.open_actions.specs.declared.search.Searched.{Searched}

@@ -2,14 +2,13 @@
 use Prim.Native.Nat.{ℕ, ◌+◌, ◌-◌, ◌*◌, ◌≤◌, ◌<◌}
 use native.Mathlib.Omega.{arith}
 use mathlib.Core.Path.{◌≡◌, refl, sym, ap, ◌∙◌, subst}
-use mathlib.Core.Bool.{Bool, true, false, ◌&&◌, ◌||◌}
+use mathlib.Core.Bool.{Bool, true, false}
 use mathlib.Core.Logic.{◌⊎◌, inl, inr, ⊎_elim}
-use mathlib.Core.List.{List, []}
-use lib.Dec.{ltb, eqb}
+use mathlib.Core.List.{List}
 use lib.ListN.{length, get_or, set, length-set}
 use lib.Seq.{get_or-set_same, get_or-set_other, ext_get_or}
 use borrow.Author.Tests.{eq-eqb, eqb-true}
-use Rattle.laws.specs.Lists.{all, distinct, before}
+use Rattle.laws.specs.Lists.{distinct, before}
 use Rattle.laws.proofs.Tests.{and_right, and_intro, and_false_left, or_cases, never, by_test}
 use Rattle.laws.proofs.Orders.{compared, before_irreflexive, before_transitive}
 use Rattle.laws.proofs.Numbers.{distinct_places}
@@ -17,7 +16,7 @@ use Rattle.model.proofs.Bindings.{FullBinding, full_at, full_intro, at_after}
 use Rattle.masks.specs.Sets.{is_member, union_of, common_of, single_of}
 use Rattle.masks.proofs.Operations.{union_member, common_member, single_member}
 use Rattle.open_actions.specs.Masked.{Agree, Inside, Begins, StartsFrom, BoundBelow, Covers}
-use Rattle.open_actions.specs.Bindings.{Query, open_binding, Full, Stuck, Earliest, SearchOutcome, Leaves}
+use Rattle.open_actions.specs.Bindings.{Query, open_binding, Full, Stuck, SearchOutcome, Leaves}
 use Rattle.open_actions.specs.declared.search.Searched.{Searched}
 use Rattle.open_actions.proofs.Choosing.{inside_refl, inside_trans, inside_left, inside_right, both_inside, agree_inside}
 

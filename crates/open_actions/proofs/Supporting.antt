@@ -4,9 +4,9 @@ use native.Mathlib.Nat.{not-suc-le-zero}
 use native.Mathlib.Omega.{arith}
 use mathlib.Core.Path.{◌≡◌, refl, sym, ap, ap₂, ◌∙◌, subst}
 use mathlib.Core.Bool.{Bool, true, false, ◌||◌}
-use mathlib.Core.Logic.{◌⊎◌, inl, inr, ⊎_elim}
+use mathlib.Core.Logic.{⊎_elim}
 use mathlib.Core.List.{List, [], ◌∷◌, map}
-use lib.Dec.{ltb, eqb}
+use lib.Dec.{ltb}
 use lib.ListN.{length, get_or, take, drop}
 use lib.Seq.{get_or-take, get_or-drop, drop-drop}
 use borrow.Author.Tests.{lt-ltb, le-ltb, eq-eqb}
@@ -25,8 +25,8 @@ use Rattle.state.specs.Rows.{row_number, row_at, numbers_in, RowsAscend}
 use Rattle.state.proofs.RowBytes.{four_at}
 use Rattle.state.proofs.Finding.{below_within, below_up_to, below_past}
 use Rattle.masks.specs.Sets.{is_member, union_of, single_of, common_of, all_below}
-use Rattle.masks.proofs.Operations.{union_member, single_member, all_member, none_member, common_member}
-use Rattle.open_actions.specs.Masked.{Agree, Inside}
+use Rattle.masks.proofs.Operations.{union_member, single_member, all_member, common_member}
+use Rattle.open_actions.specs.Masked.{Agree}
 use Rattle.open_actions.specs.Supports.{RowShows, ParametersWithin, parameters_of, PlaceOf, Ranges, Supported, AtomReady, AtomSupported}
 use Rattle.open_actions.specs.declared.support.Support.{Support}
 

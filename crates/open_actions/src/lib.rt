@@ -1,4 +1,6 @@
 // The open actions of a state, one at a time: the next one after a given one, by schema number, then by the objects of the parameters in order.
+#![tactic(auto)]
+
 mod choices;
 mod notes;
 mod room;

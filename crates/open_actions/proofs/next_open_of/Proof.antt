@@ -1,21 +1,13 @@
 -- 15, then the given action and the rest of its schema, then the schemas after it; with none given all schemas.
 use native.Mathlib.Omega.{arith}
-use mathlib.Core.Logic.{⊎_elim}
 use borrow.Author.Rules.{rules}
-use borrow.Author.Tests.{not-true, not-false}
 use Rattle.card.proofs.Counts.{predicates_inside}
 use Rattle.strips.proofs.Pressing.{part_right}
 use Rattle.open_actions.proofs.OverSchemas.{TaskReady, schemas_ready, says_among, given_small}
 use Rattle.open_actions.proofs.Answering.{state_refused, task_ready, first_answered, next_answered, later_answered, not_end}
 use Rattle.open_actions.proofs.next_open_of.Statement.{statement}
 use Rattle.open_actions.proofs.next_open_of.Tie as tie
-
--- the start of the function, reached from the test of the state, and from where the state has passed it
-abbrev entry : tie.After-well_formed-2 → tie.Start
-entry c = c.before.before.before.before.before.before
-
-abbrev start : tie.Else-not-well_formed → tie.Start
-start c = entry c.before
+use Rattle.open_actions.proofs.next_open_of.Lts.{in-Action+in-End, in_default}
 
 -- what is known of the task and the state from there on
 ready : (c : tie.Else-not-well_formed) → TaskReady c.args.task c.args.state.now c.args.count
@@ -85,10 +77,10 @@ returns-3 : tie.Need-returns
 returns-3 c =
     let passed = ready c.before.before.before.before in
     let says = says_among passed c.open_among.ensures in
-    ⊎_elim
-    (λ w. later_answered passed _ w.in-Action.is w.after_given-next.ensures w.in-End.is w.first-is says)
-    (λ w. first_answered passed _ w.in_default.is w.first-is says)
-    c.match-given.branch-raw
+    elim c.match-given.branch [
+      | in-Action+in-End w ↦ later_answered passed _ w.in-Action.is w.after_given-next.ensures w.in-End.is w.first-is says
+      | in_default w ↦ first_answered passed _ w.in_default.is w.first-is says
+    ]
 
 pub next_open_of_spec : {M : Type 1} → statement M
 next_open_of_spec =

@@ -3,7 +3,6 @@ use Prim.Native.Nat.{◌-◌, ◌*◌}
 use native.Mathlib.Omega.{arith}
 use lib.ListN.{length, get_or}
 use borrow.Author.Rules.{rules}
-use borrow.Author.Tests.{not-true}
 use Rattle.open_actions.proofs.Noting.{recalls_none, Comparing, compare_start, compare_skip, compare_same, recalls_all}
 use Rattle.open_actions.proofs.notes.recall.Statement.{statement}
 use Rattle.open_actions.proofs.notes.recall.Tie as tie

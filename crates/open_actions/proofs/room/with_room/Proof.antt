@@ -3,7 +3,6 @@ use Prim.Native.Nat.{◌-◌}
 use mathlib.Core.Path.{◌∙◌, ap}
 use native.Mathlib.Omega.{arith}
 use borrow.Author.Rules.{rules}
-use borrow.Author.Tests.{not-true}
 use Rattle.masks.specs.Sets.{union_of}
 use Rattle.open_actions.specs.Supports.{LeavesRoom}
 use Rattle.open_actions.proofs.Choosing.{room_start, room_skip, room_out, room_in, room_all}

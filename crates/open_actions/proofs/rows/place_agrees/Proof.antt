@@ -1,7 +1,7 @@
 -- A place past the arity, a parameter that is not bound, or the byte compared.
 use mathlib.Core.Path.{sym, ◌∙◌}
 use native.Mathlib.Omega.{arith}
-use borrow.Author.Tests.{eq-eqb, not-false}
+use borrow.Author.Tests.{eq-eqb}
 use borrow.Author.Rules.{rules}
 use Rattle.open_actions.proofs.rows.place_agrees.Statement.{statement}
 use Rattle.open_actions.proofs.rows.place_agrees.Tie as tie

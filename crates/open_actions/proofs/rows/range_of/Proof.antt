@@ -2,7 +2,6 @@
 use native.Mathlib.Omega.{arith}
 use mathlib.Core.Path.{sym, ◌∙◌}
 use borrow.Author.Rules.{rules}
-use borrow.Author.Tests.{not-false}
 use Rattle.open_actions.proofs.Supporting.{of_predicate_lem, of_object}
 use Rattle.open_actions.proofs.rows.range_of.Statement.{statement}
 use Rattle.open_actions.proofs.rows.range_of.Tie as tie

@@ -1,8 +1,6 @@
 -- The test of the last parameters, then the search from the first one on.
 use Prim.Native.Nat.{zero-le}
 use mathlib.Core.Path.{refl}
-use borrow.Author.Rules.{rules}
-use borrow.Author.Tests.{not-true}
 use Rattle.masks.specs.Sets.{all_below}
 use Rattle.open_actions.proofs.Searching.{same_length as one_length}
 use Rattle.open_actions.proofs.Noting.{kept_twice}

@@ -4,7 +4,6 @@ use native.Mathlib.Omega.{arith}
 use mathlib.Core.List.{List}
 use mathlib.Core.Path.{◌≡◌}
 use lib.ListN.{length}
-use borrow.Author.Tests.{not-true}
 use Rattle.open_actions.specs.Bindings.{query_of}
 use Rattle.open_actions.specs.Notes.{KeepsNotes}
 use Rattle.open_actions.proofs.Searching.{same_length as one_length}

@@ -4,10 +4,10 @@ use borrow.Author.Tests.{not-true}
 use Rattle.std.proofs.Common.{◌∙◌, sym, ap, arith, length-set}
 use Rattle.laws.proofs.Tests.{never}
 use Rattle.masks.specs.Sets.{union_of}
-use Rattle.open_actions.proofs.Searching.{same_length, deeper}
-use Rattle.open_actions.proofs.Descending.{few_parameters, small, level_fits, inner}
+use Rattle.open_actions.proofs.Searching.{same_length, deeper, at_this_level}
+use Rattle.open_actions.proofs.Descending.{few_parameters, small, level_fits, whole_ready, whole_says, choices_ready, inner, step_ready, stays_long}
 use Rattle.open_actions.proofs.Descending.{level_ready, level_recalls, level_stuck, taken_already, level_finds}
-use Rattle.open_actions.proofs.Descending.{turn_found, turn_back, turn_again, turn_end}
+use Rattle.open_actions.proofs.Descending.{turn_start, turn_skip, turn_found, turn_back, turn_again, turn_end}
 use Rattle.open_actions.proofs.search.+descend_search.Goals as goal
 use Rattle.open_actions.proofs.search.+descend_search.Goals.{descend-then-owner-level, descend-else-owner-level}
 
@@ -66,6 +66,29 @@ descend-returns t c =
       | descend-then-owner-level w ↦ absurd (omega (arith, w.if-owner-level.true, c.if-owner-level-2.false))
       | descend-else-owner-level w ↦ w.free-is
     ])
+
+pub search-complete-requires : goal.search-complete-requires
+search-complete-requires t c = whole_ready c.requires c.if-level-objects.true
+
+pub search-returns-then-level-objects : goal.search-returns-then-level-objects
+search-returns-then-level-objects t c = whole_says c.requires c.if-level-objects.true c.complete.ensures
+
+pub search-choices_for-left-requires : goal.search-choices_for-left-requires
+search-choices_for-left-requires t c = choices_ready c.requires
+
+pub search-loop-o-init : goal.search-loop-o-init
+search-loop-o-init t c = turn_start c.requires c.if-level-objects.false c.choices_for-left.ensures
+
+pub search-loop-o-preserved-then-not-is_member : goal.search-loop-o-preserved-then-not-is_member
+search-loop-o-preserved-then-not-is_member t c =
+    turn_skip c.requires c.if-level-objects.false c.choices_for-left.ensures c.loop-o.invariant c.is_member.ensures c.if-not-is_member.true
+
+pub search-descend-tried-requires : goal.search-descend-tried-requires
+search-descend-tried-requires t c = (
+  at_this_level c.args.objects.now c.loop-o.objects c.args.level c.decreases
+      (stays_long c.requires c.if-level-objects.false c.choices_for-left.ensures c.loop-o.invariant) (inner c.requires c.if-level-objects.false),
+  step_ready c.requires c.if-level-objects.false c.choices_for-left.ensures c.loop-o.invariant c.loop-o-test.true,
+)
 
 pub search-returns-then-tried : goal.search-returns-then-tried
 search-returns-then-tried t c =

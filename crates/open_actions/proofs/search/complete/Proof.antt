@@ -1,5 +1,4 @@
 -- A search that is not exact says nothing; in one that is, the binding decides.
-use borrow.Author.Tests.{not-true, not-false}
 use Rattle.open_actions.proofs.Searching.{found_anyway, whole}
 use Rattle.open_actions.proofs.Descending.{action_ready, decides, repeats}
 use borrow.Author.Rules.{rules}

@@ -2,7 +2,6 @@
 use Prim.Native.Nat.{◌-◌, ◌≤◌}
 use mathlib.Core.Path.{sym, ◌∙◌}
 use native.Mathlib.Omega.{arith}
-use borrow.Author.Tests.{not-false}
 use Rattle.open_actions.proofs.search.taken_by.Statement.{statement}
 use Rattle.open_actions.proofs.search.taken_by.Tie as tie
 

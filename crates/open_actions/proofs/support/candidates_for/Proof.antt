@@ -1,6 +1,5 @@
 -- Each atom leaves some of the candidates, or all.
 use Prim.Native.Nat.{◌-◌, ◌≤◌}
-use mathlib.Core.Path.{◌∙◌, sym}
 use native.Mathlib.Omega.{arith}
 use borrow.Author.Rules.{rules}
 use Rattle.card.specs.Represents.{blank_atom}

@@ -4,7 +4,6 @@ use mathlib.Core.Path.{◌∙◌, ap}
 use native.Mathlib.Omega.{arith}
 use lib.ListN.{length, get_or}
 use borrow.Author.Rules.{rules}
-use borrow.Author.Tests.{not-true}
 use Rattle.masks.specs.Sets.{union_of}
 use Rattle.open_actions.specs.Supports.{Supported}
 use Rattle.open_actions.proofs.Supporting.{rows_before_lem, row_inside, rows_after, everything, row_passed, no_object, row_joins}

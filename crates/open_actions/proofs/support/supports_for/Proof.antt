@@ -1,7 +1,6 @@
 -- One atom after the other.
 use Prim.Native.Nat.{◌-◌}
 use native.Mathlib.Omega.{arith}
-use borrow.Author.Rules.{rules}
 use Rattle.card.specs.Represents.{blank_atom}
 use Rattle.open_actions.specs.Supports.{no_support}
 use Rattle.open_actions.proofs.Choosing.{Filled, list_atom, none_filled, fill_next, supports_filled}
