@@ -1,4 +1,6 @@
 // A card read as a planning task, front to back: the task, or the refusal that reading meets first.
+#![tactic(auto)]
+
 ghost use Rattle.std.specs.Prelude.{◌≤◌, true, [], ◌≡◌, ltb, length, drop};
 ghost use Rattle.card.specs.Represents.{schemas_for, Decodes};
 ghost use Rattle.model.specs.Card.{in_range, byte_that, role_count, schema_lists, schema, predicates};

@@ -1,7 +1,7 @@
 -- An atom's arguments read one by one, and the atom that they make.
 use Prim.Native.Nat.{ℕ, suc, ◌-◌, ◌≤◌}
 use native.Mathlib.Omega.{arith}
-use mathlib.Core.List.{List, [], ◌∷◌}
+use mathlib.Core.List.{List}
 use mathlib.Core.Path.{◌≡◌, refl, ap, ◌∙◌, sym, subst⁻¹}
 use lib.Dec.{ltb}
 use lib.ListN.{length, drop, take, get_or}

@@ -1,4 +1,6 @@
 // An atom of a schema and a fact, read from a card. Each read answers an enum: a value with the cursor after it, or the refusal.
+#![tactic(auto)]
+
 ghost use Rattle.std.specs.Prelude.{◌≤◌, true, ◌≡◌, length};
 ghost use Rattle.laws.specs.Lists.{same, before};
 ghost use Rattle.model.specs.Card.{in_range};

@@ -1,5 +1,7 @@
 // A card's bytes from front to back: one byte, a byte in a range, a count of two bytes. Each read answers an enum: a value with the
 // cursor after it, or the refusal.
+#![tactic(auto)]
+
 ghost use Rattle.std.specs.Prelude.{◌≡◌, ltb, drop};
 ghost use Rattle.card.specs.Represents.{refusal_number};
 ghost use Rattle.model.specs.Card.{byte, byte_that, between, fact_count};

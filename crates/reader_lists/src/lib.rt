@@ -1,5 +1,7 @@
 // The lists of a card: arities, the atoms of a schema, facts. An array stands beside its step, since an enum holds no array;
 // beside a refusal it is blank.
+#![tactic(auto)]
+
 ghost use Rattle.std.specs.Prelude.{◌≤◌, true, ◌≡◌, length};
 ghost use Rattle.model.specs.Card.{in_range};
 ghost use Rattle.reader_atoms.specs.Atoms.{AtomsKept};

@@ -1,4 +1,6 @@
 // Spaces: which properties share one, and which objects are members, as masks.
+#![tactic(auto)]
+
 pub mod enabling;
 mod grouping;
 mod members;

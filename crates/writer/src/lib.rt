@@ -1,4 +1,6 @@
 // The card writer: a table by value, whatever bytes it holds, written as a card.
+#![tactic(auto)]
+
 mod output;
 
 ghost use Rattle.writer.specs.Answers.{Encodes};

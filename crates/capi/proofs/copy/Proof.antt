@@ -7,36 +7,36 @@ use Rattle.capi.proofs.Previewing.{Copied, none_copied, copied_next, copied_insi
 use Rattle.capi.proofs.copy.Statement.{statement}
 use Rattle.capi.proofs.copy.Tie as tie
 
-abbrev invariant-loop : tie.invariant-loop
+abbrev invariant-loop : tie.invariant-loop-i
 invariant-loop to₀ from i₀ to i = Copied from to₀ i to
 
-abbrev decreases-loop : tie.decreases-loop
+abbrev decreases-loop : tie.decreases-loop-i
 decreases-loop to₀ from i₀ to i = length from - i
 
-loop-holds : tie.Need-loop-init invariant-loop decreases-loop
+loop-holds : tie.Need-loop-i-init invariant-loop decreases-loop
 loop-holds c = none_copied
 
-shared-slice-read-to : tie.Need-shared-slice-read-to invariant-loop decreases-loop
+shared-slice-read-to : tie.Need-bounds-from-i invariant-loop decreases-loop
 shared-slice-read-to c = omega arith
 
-slice-write-to : tie.Need-slice-write-to invariant-loop decreases-loop
-slice-write-to c = let head = c.before.before in copied_inside head.before.requires head.loop.invariant c.before.loop-test.true
+slice-write-to : tie.Need-bounds-to-i invariant-loop decreases-loop
+slice-write-to c = copied_inside c.requires c.loop-i.invariant c.loop-i-test.true
 
-add-i : tie.Need-overflow-add-i invariant-loop decreases-loop
+add-i : tie.Need-overflow_add-i invariant-loop decreases-loop
 add-i c = omega arith
 
-loop-less : tie.Need-loop-smaller invariant-loop decreases-loop
+loop-less : tie.Need-loop-i-smaller invariant-loop decreases-loop
 loop-less c = omega arith
 
-loop-again : tie.Need-loop-preserved invariant-loop decreases-loop
-loop-again c = let head = c.before.before in copied_next head.before.requires head.loop.invariant c.before.loop-test.true
+loop-again : tie.Need-loop-i-preserved invariant-loop decreases-loop
+loop-again c = copied_next c.requires c.loop-i.invariant c.loop-i-test.true
 
 -- at the end all are
-copied : (c : tie.After-loop invariant-loop decreases-loop) → c.before.loop.to ≡ c.before.before.args.from.now
-copied c = copied_all c.before.before.requires c.before.loop.invariant c.loop-test.false
+copied : (c : tie.After-loop-i invariant-loop decreases-loop) → c.loop-i.to ≡ c.args.from.now
+copied c = copied_all c.requires c.loop-i.invariant c.loop-i-test.false
 
-same_length : tie.Need-same-length invariant-loop decreases-loop
-same_length c = ap length (copied c) ∙ sym c.before.before.requires
+same_length : tie.Need-shape_of-to invariant-loop decreases-loop
+same_length c = ap length (copied c) ∙ sym c.requires
 
 returns : tie.Need-returns invariant-loop decreases-loop
 returns c = copied c

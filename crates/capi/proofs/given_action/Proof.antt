@@ -6,13 +6,13 @@ use Rattle.capi.proofs.Asking.{given_none, given_some}
 use Rattle.capi.proofs.given_action.Statement.{statement}
 use Rattle.capi.proofs.given_action.Tie as tie
 
-returns : tie.Need-returns
+returns : tie.Need-returns-then-given-eq0
 returns c =
-    let fits : SFits w32 c.before.args.given = search rules in
-    given_none c.before.args.given _ fits c.if1.true
+    let fits : SFits w32 c.args.given = search rules in
+    given_none c.args.given _ fits c.if-given-eq0.true
 
-returns-2 : tie.Need-returns-2
-returns-2 c = given_some c.before.args.given _ c.if1.false
+returns-2 : tie.Need-returns
+returns-2 c = given_some c.args.given _ c.if-given-eq0.false
 
-pub given-action-spec : {M : Type 1} → statement M
-given-action-spec = tie.close (tie.spec returns returns-2)
+pub given_action_spec : {M : Type 1} → statement M
+given_action_spec = tie.close (tie.spec returns returns-2)

@@ -6,20 +6,20 @@ use Rattle.capi.proofs.Sizes.{does_small, initial_small}
 use Rattle.capi.proofs.stakestalk_initial.Statement.{statement}
 use Rattle.capi.proofs.stakestalk_initial.Tie as tie
 
-initial-requires : tie.Need-initial-requires
+initial-requires : tie.Need-initial-applied-requires
 initial-requires c κs = search rules
 
-applied-code-requires : tie.Need-applied-code-requires
-applied-code-requires c κs = does_small c.before.before.initial.ensures (initial_small _ _)
+applied-code-requires : tie.Need-applied_code-requires
+applied-code-requires c κs = does_small c.initial-applied.ensures (initial_small _ _)
 
-same_length : tie.Need-same-length
+same_length : tie.Need-shape_of-state
 same_length c = search rules
 
 returns : tie.Need-returns
 returns c =
-    let done = c.before.before.before.initial.ensures in
-    (same_code c.applied-code.result c.applied-code.type_inv c.applied-code.ensures (sym done.answer), done.buffer)
+    let done = c.initial-applied.ensures in
+    (same_code c.applied_code.result c.applied_code.type_inv c.applied_code.ensures (sym done.answer), done.buffer)
 
-pub stakestalk-initial-spec : {M : Type 1} → statement M
-stakestalk-initial-spec =
+pub stakestalk_initial_spec : {M : Type 1} → statement M
+stakestalk_initial_spec =
     tie.close (tie.spec initial-requires applied-code-requires same_length returns)

@@ -13,35 +13,31 @@ use Rattle.capi.proofs.Asking.{found_small, asked_so, number_answered, bytes_ans
 use Rattle.capi.proofs.stakestalk_next_open.Statement.{statement}
 use Rattle.capi.proofs.stakestalk_next_open.Tie as tie
 
--- the start of the function, reached from the call
-abbrev entry : tie.After-next-open → tie.Start
-entry c = c.before.before.before.before.before
-
 -- the answer says what the definitions do of what is given
-answered : (c : tie.After-next-open)
-    → Says (next_open (entry c).args.card.now (entry c).args.state.now (entry c).args.count
-    (given_of (given_as (entry c).args.given (entry c).args.schema) (entry c).args.objects.now)) c.next-open.result
+answered : (c : tie.After-next_open-next)
+    → Says (next_open c.args.card.now c.args.state.now c.args.count
+    (given_of (given_as c.args.given c.args.schema) c.args.objects.now)) c.next_open-next.result
 answered c =
-    let fits : SFits w32 (entry c).args.given = search rules in
+    let fits : SFits w32 c.args.given = search rules in
     asked_so _ _ _ _
-    (c.before.given-action.ensures ∙ ap (λ (z : ℤ). given_as z (entry c).args.schema) (to_z-of_z {w = w32} {z = (entry c).args.given} fits))
-    c.next-open.ensures
+    (c.given_action-after.ensures ∙ ap (λ (z : ℤ). given_as z c.args.schema) (to_z-of_z {w = w32} {z = c.args.given} fits))
+    c.next_open-next.ensures
 
-given-action-requires : tie.Need-given-action-requires
+given-action-requires : tie.Need-given_action-after-requires
 given-action-requires c κs = search rules
 
-next-open-requires : tie.Need-next-open-requires
+next-open-requires : tie.Need-next_open-next-requires
 next-open-requires c κs = search rules
 
-next-open-code-requires : tie.Need-next-open-code-requires
-next-open-code-requires c κs = found_small _ _ _ _ c.before.next-open.ensures
+next-open-code-requires : tie.Need-next_open_code-requires
+next-open-code-requires c κs = found_small _ _ _ _ c.next_open-next.ensures
 
 returns : tie.Need-returns
 returns c =
-    let called = c.before.before in (
-      same_code c.next-open-code.result c.next-open-code.type_inv c.next-open-code.ensures.0 (sym (number_answered (answered called))),
-      c.next-open-code.ensures.1 ∙ bytes_answered (entry called).args.found.now (answered called),
+    (
+      same_code c.next_open_code.result c.next_open_code.type_inv c.next_open_code.ensures.0 (sym (number_answered (answered c.before.before))),
+      c.next_open_code.ensures.1 ∙ bytes_answered c.args.found.now (answered c.before.before),
     )
 
-pub stakestalk-next-open-spec : {M : Type 1} → statement M
-stakestalk-next-open-spec = tie.close (tie.spec given-action-requires next-open-requires next-open-code-requires returns)
+pub stakestalk_next_open_spec : {M : Type 1} → statement M
+stakestalk_next_open_spec = tie.close (tie.spec given-action-requires next-open-requires next-open-code-requires returns)

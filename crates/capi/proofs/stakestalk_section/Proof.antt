@@ -7,59 +7,56 @@ use Rattle.capi.proofs.Sections.{short_small, first_answers, first_small, first_
 use Rattle.capi.proofs.stakestalk_section.Statement.{statement}
 use Rattle.capi.proofs.stakestalk_section.Tie as tie
 
-section-requires : tie.Need-section-requires
+section-requires : tie.Need-section-listed-requires
 section-requires c κs = search rules
 
-listed-code-requires : tie.Need-listed-code-requires
+listed-code-requires : tie.Need-listed_code-requires
 listed-code-requires c κs =
-    let start = c.before.before.before.before.before.before.before in
-    subst Small (sym c.before.before.section.ensures.answer)
-    (short_small start.args.number start.args.card.now start.args.out.now c.before.before.before.before.if1.true)
+    subst Small (sym c.section-listed.ensures.answer)
+    (short_small c.args.number c.args.card.now c.args.out.now c.if-out-lt-OUTPUT_BYTES.true)
 
-same_length : tie.Need-same-length
+same_length : tie.Need-shape_of-out-then-out-lt-OUTPUT_BYTES
 same_length c = search rules
 
-returns : tie.Need-returns
+returns : tie.Need-returns-then-out-lt-OUTPUT_BYTES
 returns c =
-    let done = c.before.before.before.section.ensures in
-    (same_code c.listed-code.result c.listed-code.type_inv c.listed-code.ensures (sym done.answer), done.buffer)
+    let done = c.section-listed.ensures in
+    (same_code c.listed_code.result c.listed_code.type_inv c.listed_code.ensures (sym done.answer), done.buffer)
 
-sub-section : tie.Need-overflow-sub-section
+sub-section : tie.Need-slice_bounds-section-count
 sub-section c = search rules
 
-part-section-start : tie.Need-slice-bounds-section-start
+part-section-start : tie.Need-slice_bounds-section-start
 part-section-start c = search rules
 
-part-section-end : tie.Need-slice-bounds-section-end
+part-section-end : tie.Need-slice_bounds-section-end
 part-section-end c = search rules
 
-section-requires-2 : tie.Need-section-requires-2
+section-requires-2 : tie.Need-section-listed-requires-2
 section-requires-2 c κs = search rules
 
-listed-code-requires-2 : tie.Need-listed-code-requires-2
+listed-code-requires-2 : tie.Need-listed_code-requires-2
 listed-code-requires-2 c κs =
-    let start = c.before.before.before.before.before.before.before in
-    let called = c.before.before.section2 in
+    let called = c.section-listed-2 in
     subst Small (sym called.ensures.answer)
-    (first_small start.args.number start.args.card.now start.args.out.now c.before.before.before.before.if1.false _
-    called.ensures.buffer called.auto.1.1.0)
+    (first_small c.args.number c.args.card.now c.args.out.now c.if-out-lt-OUTPUT_BYTES.false _
+    called.ensures.buffer called.auto.out)
 
-same-length-2 : tie.Need-same-length-2
+same-length-2 : tie.Need-shape_of-out
 same-length-2 c = search rules
 
-returns-2 : tie.Need-returns-2
+returns-2 : tie.Need-returns
 returns-2 c =
-    let start = c.before.before.before.before.before.before.before.before in
-    let room = c.before.before.before.before.before.if1.false in
-    let called = c.before.before.before.section2 in
+    let room = c.if-out-lt-OUTPUT_BYTES.false in
+    let called = c.section-listed-2 in
     let done = called.ensures in (
-      same_code c.listed-code2.result c.listed-code2.type_inv c.listed-code2.ensures
-          (sym (done.answer ∙ first_answers start.args.number start.args.card.now start.args.out.now room)),
-      first_leaves start.args.number start.args.card.now start.args.out.now room _ done.buffer called.auto.1.1.0,
+      same_code c.listed_code-2.result c.listed_code-2.type_inv c.listed_code-2.ensures
+          (sym (done.answer ∙ first_answers c.args.number c.args.card.now c.args.out.now room)),
+      first_leaves c.args.number c.args.card.now c.args.out.now room _ done.buffer called.auto.out,
     )
 
-pub stakestalk-section-spec : {M : Type 1} → statement M
-stakestalk-section-spec =
+pub stakestalk_section_spec : {M : Type 1} → statement M
+stakestalk_section_spec =
     tie.close
     (tie.spec
     section-requires

@@ -8,5 +8,5 @@ returns : tie.Need-returns
 unfolding version_number
 returns c = search rules
 
-pub stakestalk-version-spec : {M : Type 1} → statement M
-stakestalk-version-spec = tie.close (tie.spec returns)
+pub stakestalk_version_spec : {M : Type 1} → statement M
+stakestalk_version_spec = tie.close (tie.spec returns)

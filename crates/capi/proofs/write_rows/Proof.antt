@@ -7,50 +7,47 @@ use Rattle.capi.proofs.Previewing.{part_long, rows_put, put_long}
 use Rattle.capi.proofs.write_rows.Statement.{statement}
 use Rattle.capi.proofs.write_rows.Tie as tie
 
-cast-bytes : tie.Need-overflow-cast-bytes
+cast-bytes : tie.Need-overflow_cast-bytes
 cast-bytes c = search rules
 
-slice-write-bytes : tie.Need-slice-write-bytes
+slice-write-bytes : tie.Need-bounds-bytes-at
 slice-write-bytes c = search rules
 
-add_start : tie.Need-overflow-add-start
+add_start : tie.Need-overflow_add-start
 add_start c = search rules
 
-add-end : tie.Need-overflow-add-end
+add-end : tie.Need-overflow_add-end
 add-end c = search rules
 
-sub-copy : tie.Need-overflow-sub-copy
+sub-copy : tie.Need-slice_bounds-copy-count
 sub-copy c = search rules
 
-part-copy-start : tie.Need-slice-bounds-copy-start
+part-copy-start : tie.Need-slice_bounds-copy-start
 part-copy-start c = search rules
 
-part-copy-end : tie.Need-slice-bounds-copy-end
+part-copy-end : tie.Need-slice_bounds-copy-end
 part-copy-end c = search rules
 
-slice-aggregate-copy : tie.Need-slice-aggregate-copy
+slice-aggregate-copy : tie.Need-slice_bounds-copy-end-2
 slice-aggregate-copy c = search rules
 
 copy-requires : tie.Need-copy-requires
 copy-requires c κs =
-    let start = c.before.before.before.before.before in
-    part_long start.args.bytes.now start.args.rows.rows start.args.at _ start.requires.0 (search rules)
+    part_long c.args.bytes.now c.args.rows.rows c.args.at _ c.requires.0 (search rules)
 
-same_length : tie.Need-same-length
+same_length : tie.Need-shape_of-bytes
 same_length c =
-    let start = c.before.before.before.before.before.before.before.before in
     ap length
-    (rows_put start.args.bytes.now start.args.rows.rows start.args.at _ start.requires.0 (search rules) c.before.before.copy.ensures)
-    ∙ put_long start.args.bytes.now start.args.rows.rows start.args.at _ start.requires.0 (search rules)
+    (rows_put c.args.bytes.now c.args.rows.rows c.args.at _ c.requires.0 (search rules) c.copy.ensures)
+    ∙ put_long c.args.bytes.now c.args.rows.rows c.args.at _ c.requires.0 (search rules)
 
 returns : tie.Need-returns
 unfolding rows_shown
 returns c =
-    let start = c.before.before.before.before.before.before.before.before in
-    rows_put start.args.bytes.now start.args.rows.rows start.args.at _ start.requires.0 (search rules) c.before.before.copy.ensures
+    rows_put c.args.bytes.now c.args.rows.rows c.args.at _ c.requires.0 (search rules) c.copy.ensures
 
-pub write-rows-spec : {M : Type 1} → statement M
-write-rows-spec =
+pub write_rows_spec : {M : Type 1} → statement M
+write_rows_spec =
     tie.close
     (tie.spec
     cast-bytes

@@ -7,36 +7,36 @@ use Rattle.capi.proofs.Codes.{value_fits, value_code, refusal_code, same_code}
 use Rattle.capi.proofs.writing_code.Statement.{statement}
 use Rattle.capi.proofs.writing_code.Tie as tie
 
-enum-known-writing : tie.Need-enum-known-writing
+enum-known-writing : tie.Need-enum_known-writing
 enum-known-writing c = search rules
 
-cast-result : tie.Need-overflow-cast-result
+cast-result : tie.Need-overflow_cast-result
 unfolding writing_says
-cast-result c = value_fits _ _ c.before.before.before.requires (ap writing_says c.before.writing.given.1)
+cast-result c = value_fits _ _ c.requires (ap writing_says c.in-Written.is)
 
-enum-known-writing-2 : tie.Need-enum-known-writing-2
+enum-known-writing-2 : tie.Need-enum_known-writing-in-Refused-1
 enum-known-writing-2 c = search rules
 
-refusal-code-requires : tie.Need-refusal-code-requires
+refusal-code-requires : tie.Need-refusal_code-requires
 refusal-code-requires c κs = search rules
 
-enum_told : tie.Need-enum-told
+enum_told : tie.Need-enum_told-1
 enum_told c = search rules
 
-returns : tie.Need-returns
+returns : tie.Need-returns-in-Written
 unfolding writing_says
-returns c = value_code _ _ c.before.before.before.requires (ap writing_says c.before.writing.given.1)
+returns c = value_code _ _ c.requires (ap writing_says c.in-Written.is)
 
-returns-2 : tie.Need-returns-2
+returns-2 : tie.Need-returns-in-Refused
 unfolding writing_says
-returns-2 c = same_code c.refusal_code.result c.refusal_code.type_inv c.refusal_code.ensures (ap writing_says c.before.before.writing2.given.1)
+returns-2 c = same_code c.refusal_code.result c.refusal_code.type_inv c.refusal_code.ensures (ap writing_says c.in-Refused.is)
 
-returns-3 : tie.Need-returns-3
+returns-3 : tie.Need-returns-in-OutputShort
 unfolding signed writing_says
-returns-3 c = refusal_code _ 21 (ap writing_says c.enum_told.given.1)
+returns-3 c = refusal_code _ 21 (ap writing_says c.in-OutputShort.is)
 
-pub writing-code-spec : {M : Type 1} → statement M
-writing-code-spec =
+pub writing_code_spec : {M : Type 1} → statement M
+writing_code_spec =
     tie.close
     (tie.spec
     enum-known-writing

@@ -2,7 +2,6 @@
 use Prim.Native.Nat.{◌≤◌, ◌<◌}
 use mathlib.Core.Path.{refl, ◌∙◌}
 use native.Mathlib.Omega.{arith}
-use borrow.Author.Tests.{not-true, not-false}
 use Rattle.card.specs.Represents.{refusal_number}
 use Rattle.model.proofs.CheckParts.{between_intro, between_below, between_above}
 use Rattle.reader_bytes.proofs.Answers.{byte_that_ends, byte_that_passes, byte_that_fails}

@@ -1,6 +1,5 @@
 -- `schema_atom` reads as the definition does.
 use mathlib.Core.Path.{ap, sym, ◌∙◌}
-use borrow.Author.Tests.{not-true, not-false}
 use lib.ListN.{drop}
 use Rattle.model.specs.Answer.{refused}
 use Rattle.card.specs.Represents.{refusal_number, atoms_of}

@@ -2,7 +2,6 @@
 use Prim.Native.Nat.{◌+◌, ◌≤◌}
 use lib.ListN.{length}
 use native.Mathlib.Omega.{arith}
-use borrow.Author.Tests.{not-true, not-false}
 use Rattle.card.specs.Represents.{refusal_number}
 use Rattle.reader_bytes.proofs.Answers.{between_held}
 use Rattle.reader_bytes.proofs.Reading.{refuses_beside, byte_read, byte_within, byte_refusal}

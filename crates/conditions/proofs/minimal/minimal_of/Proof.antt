@@ -3,7 +3,6 @@ use Prim.Native.Nat.{◌-◌}
 use native.Mathlib.Omega.{arith}
 use mathlib.Core.Path.{sym, ◌∙◌}
 use borrow.Author.Rules.{rules}
-use Rattle.laws.proofs.Tests.{not-true, not-false}
 use Rattle.conditions.proofs.Containing.{least_by, minimal_found}
 use Rattle.conditions.proofs.Entering.{entered_none}
 use Rattle.conditions.proofs.Filling.{Picked, picked_start, picked_next, picked_skipped, place_inside}

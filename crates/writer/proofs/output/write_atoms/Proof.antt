@@ -40,14 +40,13 @@ loop-less c = omega arith
 
 loop-again : tie.Need-loop-i-preserved invariant-loop decreases-loop
 unfolding atoms_of blank_atom
-loop-again c =
-    (
-      omega arith,
-      c.write_atom-next.auto.out ∙ c.loop-i.invariant.1,
-      item_written atom_bytes _ _ _ _ atom_room _ _ _ c.loop-i-test.true
-          c.requires.1 c.loop-i.invariant.2
-          c.write_atom-next.ensures,
-    )
+loop-again c = (
+  omega arith,
+  c.write_atom-next.auto.out ∙ c.loop-i.invariant.1,
+  item_written atom_bytes _ _ _ _ atom_room _ _ _ c.loop-i-test.true
+      c.requires.1 c.loop-i.invariant.2
+      c.write_atom-next.ensures,
+)
 
 same_length : tie.Need-shape_of-out invariant-loop decreases-loop
 same_length c = omega arith
