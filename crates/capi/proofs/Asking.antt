@@ -3,7 +3,7 @@ use Prim.Native.Nat.{ℕ, zero, suc, ◌≤◌, ◌<◌}
 use native.Mathlib.Omega.{arith}
 use mathlib.Core.Path.{◌≡◌, refl, sym, ap, ◌∙◌, subst}
 use mathlib.Core.List.{List, [], ◌∷◌}
-use mathlib.Core.Option.{Option, none, some, some-injective}
+use mathlib.Core.Option.{Option, some}
 use lib.IntN.{ℤ, pos, negsuc}
 use lib.ListN.{length, get_or, take}
 use lib.Seq.{ext_get_or}
@@ -11,10 +11,10 @@ use mir.Syntax.{w32}
 use mir.Val.{SFits, to_z, of_z}
 use mir.Facts.{to_z-of_z, to_z_pos}
 use Rattle.laws.specs.Lists.{padded}
-use Rattle.model.specs.Answer.{Answer, refused, accepted}
+use Rattle.model.specs.Answer.{Answer, accepted}
 use Rattle.model.specs.Card.{decode}
-use Rattle.model.specs.Strips.{Action, facts_in, well_formed, schema_at}
-use Rattle.model.specs.Open.{open_after, check_given, next_open_of, next_open}
+use Rattle.model.specs.Strips.{Action, facts_in, well_formed}
+use Rattle.model.specs.Open.{check_given, next_open_of, next_open}
 use Rattle.model.proofs.Answers.{then_inv, both_inv, need_both_inv, one_value}
 use Rattle.model.proofs.Checked.{checked, schema_at_right}
 use Rattle.model.proofs.OpenActions.{open_named, answered_next}

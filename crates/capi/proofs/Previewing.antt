@@ -11,7 +11,7 @@ use lib.Seq.{length-take-le, paste, paste-zero, paste-suc, length-paste, take_al
 use Rattle.model.specs.Answer.{Answer, refused, accepted, ◌>>=◌}
 use Rattle.model.specs.Card.{Schema, decode}
 use Rattle.model.specs.Strips.{State, Action, fact_bytes, facts_in, well_formed}
-use Rattle.model.specs.Calls.{Call, next_state, press}
+use Rattle.model.specs.Calls.{Call, next_state}
 use Rattle.model.specs.Preview.{Preview, Asked, going, coming, preview, ask_of, ask, commit}
 use Rattle.model.proofs.Answers.{then_inv, need_both_inv, one_value, by_answer, accepted_not_refused}
 use Rattle.model.proofs.Buffer.{well_formed_lem}

@@ -1,4 +1,6 @@
 // The C interface of include/stakestalk.h: each call answers a number, document 01's value or minus the refusal's number.
+#![tactic(auto)]
+
 ghost use Rattle.std.specs.Prelude.{◌∷◌, ◌++◌, ◌≡◌, ◌+◌, ◌≤◌, ◌<◌, pos, length, take, drop};
 ghost use Rattle.model.specs.Answer.{refused};
 ghost use Rattle.model.specs.Calls.{initial, press, section};

@@ -1,4 +1,6 @@
 // The closing section of a listing: all `F`, all `C` and all `R` lines. Document 01, "Listing".
+#![tactic(auto)]
+
 mod ceilings;
 mod fixed;
 mod typing;

@@ -1,4 +1,6 @@
 // The listing call: one section per call, written as text.
+#![tactic(auto)]
+
 ghost use Rattle.std.specs.Prelude.{◌≡◌, List, ℕ, ◌≤◌, length};
 ghost use Rattle.model.specs.Card as model;
 ghost use Rattle.model.specs.Calls.{output_bytes};

@@ -9,7 +9,6 @@ use Rattle.laws.specs.Lists.{padded}
 use Rattle.laws.proofs.Walks.{keep_few}
 use Rattle.model.specs.Card.{Task}
 use Rattle.model.specs.Spaces as model
-use Rattle.model.specs.Transitions.{properties}
 use Rattle.model.proofs.Checked.{checked}
 use Rattle.model.proofs.ListedSpace.{space_of_analysis}
 use Rattle.model.proofs.Parts.{space_part}

@@ -1,4 +1,6 @@
 // A task with its tables filled, and each of its sections as text: those of its spaces, and the closing one behind them.
+#![tactic(auto)]
+
 ghost use Rattle.std.specs.Prelude.{◌≡◌, ◌≤◌, length};
 ghost use Rattle.model.specs.Card as model;
 ghost use Rattle.model.specs.Calls.{output_bytes};

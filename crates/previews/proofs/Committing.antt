@@ -8,7 +8,6 @@ use mathlib.Core.List.{List, []}
 use lib.Dec.{leb, ltb}
 use lib.ListN.{length, take}
 use borrow.Author.Tests.{ltb-true, ltb-false, lt-ltb, le-ltb, leb-true, leb-false, ne_eqb}
-use Rattle.laws.specs.Lists.{all}
 use Rattle.laws.proofs.Tests.{by_test, and_false_left, cond_true, cond_false}
 use Rattle.model.specs.Answer.{Answer, refused, accepted, ◌>>=◌, ◌>>◌, need}
 use Rattle.model.specs.Card.{Task, decode}

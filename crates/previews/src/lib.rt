@@ -1,4 +1,6 @@
 // What an action would do to a state, and doing it if that is still so (document 02, No. 4: asking and committing).
+#![tactic(auto)]
+
 ghost use Rattle.std.specs.Prelude.{◌≤◌, not, [], ◌≡◌, length, take};
 ghost use Rattle.laws.specs.Lists.{keep, member, same};
 ghost use Rattle.model.specs.Strips.{facts_in, limited, successor};

@@ -3,14 +3,14 @@
 --
 -- `Shows card buffer count given actions` says that calls on one state, the first of them handed the given action or none, and each later
 -- one the action answered before, answered these actions in turn and then the end. Each call does as `open_actions::next_open` promises.
-use Prim.Native.Nat.{ℕ, zero, suc, ◌+◌, ◌≤◌, ◌<◌}
+use Prim.Native.Nat.{ℕ, zero, suc, ◌+◌, ◌<◌}
 use native.Mathlib.Omega.{arith}
-use mathlib.Core.Path.{◌≡◌, refl, sym, ap, ◌∙◌}
+use mathlib.Core.Path.{◌≡◌, sym, ap, ◌∙◌}
 use mathlib.Core.Bool.{true}
 use mathlib.Core.List.{List, [], ◌∷◌}
 use mathlib.Core.Option.{Option, none, some}
 use lib.ListN.{length}
-use Rattle.model.specs.Answer.{Answer, accepted}
+use Rattle.model.specs.Answer.{accepted}
 use Rattle.model.specs.Card as model
 use Rattle.model.specs.Strips.{Action, facts_in, well_formed}
 use Rattle.model.specs.Open.{open_actions, next_open, and_then, one_by_one}

@@ -1,5 +1,7 @@
 // The section of a space as text: its `S` line and, for a property space, all `T`, all `M`, all `D`, all `X` and all `E` lines.
 // Document 01, "Listing", and document 02, No. 2.
+#![tactic(auto)]
+
 ghost use Rattle.std.specs.Prelude.{length};
 ghost use Rattle.masks.specs.Sets.{members_of};
 ghost use Rattle.model.specs.Text.{text};

@@ -1,4 +1,6 @@
 // The initial state and applying an action, on a state in a lent buffer.
+#![tactic(auto)]
+
 ghost use Rattle.std.specs.Prelude.{◌≡◌, ◌≤◌, length, take};
 ghost use Rattle.model.specs.Strips.{state_bytes, facts_in, limited, progress, successor};
 ghost use Rattle.model.specs.Open.{is_accepted};

@@ -18,7 +18,7 @@ use Rattle.model.specs.Answer.{accepted}
 use Rattle.model.specs.Card.{Task}
 use Rattle.model.specs.Writer.{check_task}
 use Rattle.model.specs.Transitions.{properties}
-use Rattle.model.specs.Spaces.{Space, spaces, static}
+use Rattle.model.specs.Spaces.{Space, static}
 use Rattle.model.specs.Analysis.{Analysis, analyse, analysis}
 use Rattle.model.specs.Lines.{count_of, one_number, totals_by}
 use Rattle.model.proofs.RuleCount.{properties_few}

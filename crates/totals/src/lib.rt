@@ -1,5 +1,7 @@
 // The totals that the properties of a space give (document 01, "Listing", `F`): where all conditions have one count of a property,
 // that many times the members.
+#![tactic(auto)]
+
 ghost use Rattle.std.specs.Prelude.{◌≡◌, ◌*◌, ◌≤◌, ◌<◌, length};
 ghost use Rattle.sections.specs.Limits.{column_of};
 ghost use Rattle.properties.specs.Tables.{bags_in};

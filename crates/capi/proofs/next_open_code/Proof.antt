@@ -1,6 +1,6 @@
 -- An action is written, and the number of its objects answered; any other answer is its number alone.
 use borrow.Author.Rules.{rules}
-use mathlib.Core.Path.{sym, ap, ◌∙◌}
+use mathlib.Core.Path.{ap, ◌∙◌}
 use Rattle.capi.specs.Numbers.{signed}
 use Rattle.capi.specs.Asking.{count_said, bytes_said}
 use Rattle.capi.proofs.Codes.{same_code}
@@ -40,11 +40,10 @@ enum-told-5 c = search rules
 
 returns : tie.Need-returns-in-Action
 unfolding bytes_said
-returns c =
-    (
-      few_code _ _ c.in-Action.is (c.requires.small _ _ c.in-Action.is).1,
-      c.action_bytes.ensures ∙ bytes_of c.args.next.objects c.args.found.now c.in-Action.is,
-    )
+returns c = (
+  few_code _ _ c.in-Action.is (c.requires.small _ _ c.in-Action.is).1,
+  c.action_bytes.ensures ∙ bytes_of c.args.next.objects c.args.found.now c.in-Action.is,
+)
 
 returns-2 : tie.Need-returns-in-End
 unfolding signed count_said bytes_said
@@ -52,11 +51,10 @@ returns-2 c = let start = c.args in told_of start.next.objects start.found.now c
 
 returns-3 : tie.Need-returns-in-CardRefused
 unfolding count_said bytes_said
-returns-3 c =
-    (
-      same_code c.refusal_code.result c.refusal_code.type_inv c.refusal_code.ensures (ap count_said c.in-CardRefused.is),
-      bytes_of c.args.next.objects c.args.found.now c.in-CardRefused.is,
-    )
+returns-3 c = (
+  same_code c.refusal_code.result c.refusal_code.type_inv c.refusal_code.ensures (ap count_said c.in-CardRefused.is),
+  bytes_of c.args.next.objects c.args.found.now c.in-CardRefused.is,
+)
 
 returns-4 : tie.Need-returns-in-StateMalformed
 unfolding signed count_said bytes_said

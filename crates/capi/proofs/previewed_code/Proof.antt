@@ -26,11 +26,10 @@ applied-code-requires-2 : tie.Need-applied_code-requires-2
 applied-code-requires-2 c κs = search rules
 
 returns-2 : tie.Need-returns
-returns-2 c =
-    (
-      same_code c.applied_code-2.result c.applied_code-2.type_inv c.applied_code-2.ensures refl,
-      c.write_changes.ensures ∙ shown_counted _ _ _ c.in-Count.is,
-    )
+returns-2 c = (
+  same_code c.applied_code-2.result c.applied_code-2.type_inv c.applied_code-2.ensures refl,
+  c.write_changes.ensures ∙ shown_counted _ _ _ c.in-Count.is,
+)
 
 pub previewed_code_spec : {M : Type 1} → statement M
 previewed_code_spec =

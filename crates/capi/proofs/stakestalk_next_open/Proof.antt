@@ -33,11 +33,10 @@ next-open-code-requires : tie.Need-next_open_code-requires
 next-open-code-requires c κs = found_small _ _ _ _ c.next_open-next.ensures
 
 returns : tie.Need-returns
-returns c =
-    (
-      same_code c.next_open_code.result c.next_open_code.type_inv c.next_open_code.ensures.0 (sym (number_answered (answered c.before.before))),
-      c.next_open_code.ensures.1 ∙ bytes_answered c.args.found.now (answered c.before.before),
-    )
+returns c = (
+  same_code c.next_open_code.result c.next_open_code.type_inv c.next_open_code.ensures.0 (sym (number_answered (answered c.before.before))),
+  c.next_open_code.ensures.1 ∙ bytes_answered c.args.found.now (answered c.before.before),
+)
 
 pub stakestalk_next_open_spec : {M : Type 1} → statement M
 stakestalk_next_open_spec = tie.close (tie.spec given-action-requires next-open-requires next-open-code-requires returns)

@@ -3,7 +3,6 @@ use Prim.Native.Nat.{ℕ, ◌-◌, ◌≤◌}
 use native.Mathlib.Omega.{arith}
 use mathlib.Core.Path.{◌≡◌, refl, sym, ◌∙◌}
 use lib.ListN.{length, length-replicate}
-use borrow.Author.Rules.{rules}
 use Rattle.prepared.specs.Found.{SpaceReady}
 use Rattle.prepared.proofs.Analysing.{found_of, sizes_low}
 use Rattle.listing.proofs.Totalling.{SameLengths, analysable_again, Entered, entered_none, entered_next, entered_all}

@@ -1,6 +1,5 @@
 -- Tables for 192 parameters, and for 252 moves.
 use native.Mathlib.Omega.{arith}
-use borrow.Author.Rules.{rules}
 use Rattle.properties.proofs.ParameterRows.{rows_few}
 use Rattle.prepared.proofs.Cleared.{cleared_length}
 use Rattle.prepared.proofs.Lending.{rows_most, cleared_tables}

@@ -1,6 +1,5 @@
 -- Tables for 32 rows.
 use native.Mathlib.Omega.{arith}
-use borrow.Author.Rules.{rules}
 use Rattle.card.specs.Represents.{task_of}
 use Rattle.prepared.proofs.Cleared.{cleared_length}
 use Rattle.prepared.proofs.Lending.{parameters_fewer, cleared_tables}

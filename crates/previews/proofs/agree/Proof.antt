@@ -1,6 +1,5 @@
 -- The facts that go, then those that come.
 use borrow.Author.Rules.{rules}
-use borrow.Author.Tests.{not-true, not-false}
 use Rattle.previews.proofs.RowLists.{gone_differs, gone_agrees}
 use Rattle.previews.proofs.agree.Statement.{statement}
 use Rattle.previews.proofs.agree.Tie as tie

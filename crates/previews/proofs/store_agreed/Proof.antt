@@ -1,6 +1,5 @@
 -- 23, or the next state is stored.
 use borrow.Author.Rules.{rules}
-use borrow.Author.Tests.{not-true, not-false}
 use Rattle.previews.proofs.Committing.{not_agreed, agreed_stored}
 use Rattle.previews.proofs.store_agreed.Statement.{statement}
 use Rattle.previews.proofs.store_agreed.Tie as tie

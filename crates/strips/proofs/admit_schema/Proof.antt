@@ -3,7 +3,6 @@ use borrow.Author.Rules.{rules}
 use mathlib.Core.Path.{◌≡◌, sym, ◌∙◌}
 use mathlib.Core.Bool.{true}
 use lib.Dec.{ltb}
-use borrow.Author.Tests.{not-true, not-false}
 use Rattle.laws.specs.Lists.{all, distinct}
 use Rattle.card.specs.Represents.{schema_of}
 use Rattle.strips.specs.Steps.{ActionReady}

@@ -3,7 +3,6 @@ use borrow.Author.Rules.{rules}
 use mathlib.Core.Path.{◌≡◌, refl}
 use mathlib.Core.Bool.{true}
 use native.Mathlib.Omega.{arith}
-use borrow.Author.Tests.{not-true, not-false}
 use Rattle.model.specs.Strips.{Action}
 use Rattle.card.proofs.Counts.{predicates_inside}
 use Rattle.strips.specs.Answers.{applied_says}
@@ -69,11 +68,10 @@ part-admit-schema-end : tie.Need-slice_bounds-admit_schema-end
 part-admit-schema-end c = predicates_inside _ c.requires
 
 admit-schema-requires : tie.Need-admit_schema-answer-requires
-admit-schema-requires c κs =
-    (
-      state_kept _ c.requires _ _ (action c.before.before.before.before.before.before.before.before.before.before.before) c.well_formed-2.ensures (passed c.before.before),
-      schema_kept _ c.requires _ _ (action c.before.before.before.before.before.before.before.before.before.before.before) c.well_formed-2.ensures (passed c.before.before) _ c.if-schema_count-number.false,
-    )
+admit-schema-requires c κs = (
+  state_kept _ c.requires _ _ (action c.before.before.before.before.before.before.before.before.before.before.before) c.well_formed-2.ensures (passed c.before.before),
+  schema_kept _ c.requires _ _ (action c.before.before.before.before.before.before.before.before.before.before.before) c.well_formed-2.ensures (passed c.before.before) _ c.if-schema_count-number.false,
+)
 
 enum_told : tie.Need-enum_told-1
 enum_told c = search rules

@@ -2,7 +2,6 @@
 use mathlib.Core.Path.{◌≡◌, sym, ◌∙◌}
 use mathlib.Core.Bool.{true}
 use native.Mathlib.Omega.{arith}
-use borrow.Author.Tests.{not-true, not-false}
 use Rattle.model.specs.Strips.{facts_in, applicable}
 use Rattle.card.specs.Represents.{schema_of}
 use Rattle.strips.proofs.Applying.{state_formed, rows_ascend, preconditions_bound, adds_bound, test_says, missing_closes, adds_fit, missing_decides}

@@ -8,7 +8,6 @@ use lib.Dec.{eqb}
 use lib.ListN.{length, get_or}
 use Rattle.laws.proofs.Counting.{count_most}
 use Rattle.laws.specs.Lists.{up_to}
-use Rattle.laws.proofs.Tests.{not-true, not-false}
 use Rattle.model.specs.Lines.{of_predicate, ceiling, ceilings}
 use Rattle.model.specs.Text.{text}
 use Rattle.card.specs.Represents.{task_of, facts_of}

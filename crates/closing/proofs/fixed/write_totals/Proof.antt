@@ -133,12 +133,11 @@ loop-less-2 : tie.Need-loop-p-smaller invariant-loop decreases-loop
 loop-less-2 c = less_left c.loop-p-test.true
 
 loop-again-2 : tie.Need-loop-p-preserved invariant-loop decreases-loop
-loop-again-2 c =
-    (
-      next c.loop-p.invariant.0 (line_next _ _ _ c.loop-p-test.true (line c.before.before.before.before)) c.write_total-n.ensures,
-      one_more c.loop-p-test.true,
-      begins c.before.before.before.before.before.before.before,
-    )
+loop-again-2 c = (
+  next c.loop-p.invariant.0 (line_next _ _ _ c.loop-p-test.true (line c.before.before.before.before)) c.write_total-n.ensures,
+  one_more c.loop-p-test.true,
+  begins c.before.before.before.before.before.before.before,
+)
 
 add_at : tie.Need-overflow_add-at invariant-loop decreases-loop
 add_at c = let r = (loop-again-2 c).0 in omega arith

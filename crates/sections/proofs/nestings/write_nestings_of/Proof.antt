@@ -51,11 +51,10 @@ loop-less : tie.Need-loop-rest-smaller-then-is_member invariant-loop decreases-l
 loop-less c = (turn c.before.before.before).fewer
 
 loop-again : tie.Need-loop-rest-preserved-then-is_member invariant-loop decreases-loop
-loop-again c =
-    (
-      remains_as (nesting_skipped _ _ (turn c.before.before.before) c.is_member.ensures c.if-is_member.true) c.loop-rest.invariant.0,
-      (turn c.before.before.before).small,
-    )
+loop-again c = (
+  remains_as (nesting_skipped _ _ (turn c.before.before.before) c.is_member.ensures c.if-is_member.true) c.loop-rest.invariant.0,
+  (turn c.before.before.before).small,
+)
 
 sub-write-nesting : tie.Need-slice_bounds-write_nesting-count invariant-loop decreases-loop
 sub-write-nesting c = search rules
@@ -74,12 +73,11 @@ loop-less-2 : tie.Need-loop-rest-smaller invariant-loop decreases-loop
 loop-less-2 c = (turn c.before.before.before.before.before.before.before).fewer
 
 loop-again-2 : tie.Need-loop-rest-preserved invariant-loop decreases-loop
-loop-again-2 c =
-    (
-      next c.loop-rest.invariant.0 (nesting_next _ _ (turn c.before.before.before.before.before.before.before) c.is_member.ensures c.if-is_member.false)
-          c.write_nesting-n.ensures,
-      (turn c.before.before.before.before.before.before.before).small,
-    )
+loop-again-2 c = (
+  next c.loop-rest.invariant.0 (nesting_next _ _ (turn c.before.before.before.before.before.before.before) c.is_member.ensures c.if-is_member.false)
+      c.write_nesting-n.ensures,
+  (turn c.before.before.before.before.before.before.before).small,
+)
 
 add_at : tie.Need-overflow_add-at invariant-loop decreases-loop
 add_at c = let r = (loop-again-2 c).0 in omega arith
