@@ -1,5 +1,5 @@
 -- A refused card's line is printed, and an accepted card's listing.
-use Rattle.std.proofs.Common.{refl, sym, ◌∙◌}
+use Rattle.std.proofs.Common.{ℕ, take, refl, sym, ap, ◌∙◌}
 use Rattle.std.proofs.Math.Nat.{sub-zero}
 use Rattle.card.proofs.Deciding.{represented, refuses, accepts}
 use Rattle.printer.proofs.Answered.{refused_prints, accepted_prints}
@@ -15,7 +15,8 @@ returns-in-Refused-clause-leaves g c = refused_prints _ c.decode-decoded.result 
 pub returns-in-Refused-clause-delivered : goal.returns-in-Refused-clause-delivered
 returns-in-Refused-clause-delivered g c =
     λ w.
-    given_printed _ _ c.args.card.now (rw (sub-zero c.refused_line-line.result.length) c.refused_line-line.ensures.text)
+    given_printed _ _ c.args.card.now
+    (ap (λ (k : ℕ). take k c.refused_line-line.result.bytes) (sub-zero c.refused_line-line.result.length) ∙ c.refused_line-line.ensures.text)
     (refuses _ c.decode-decoded.result c.decode-decoded.ensures c.in-Refused.refusal c.in-Refused.is)
     (if_ok c.write_all.result c.write_all.ensures.bytes (sym c.is_ok-written.ensures.value ∙ w))
 
