@@ -13,6 +13,7 @@ pub enum Reading {
 }
 
 // Reads until the window is full, the input ends or a read fails. The end is met once, so that a terminal is asked for it once.
+#[tactic(auto, using(crate::proofs::Keeping::kept_more))]
 fn fill<R: Read>(input: &mut R, window: &mut [u8]) -> Reading
     ensures within { FrontRead result window.new }
     ensures bytes { FrontOf result (R.remaining input.old) window.new }
