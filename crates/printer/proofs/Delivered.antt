@@ -25,14 +25,14 @@ pub given_printed : (before after : Option (List ℕ)) (card : List ℕ) {bytes 
 given_printed before after card shows is given = subst (Appends before after) (shows ∙ ap printed (sym is)) given
 
 -- what is printed of the front of an input is what the program prints of all of it
-pub of_the_whole : (known : Option (List ℕ)) (window : List ℕ) (n : ℕ) (before after : Option (List ℕ)) → length window ≡ 5306
-    → FrontOf (Front n) known window → Appends before after (printed (decode (take n window)))
+pub of_the_whole : (known : Option (List ℕ)) (window : List ℕ) (n size : ℕ) (before after : Option (List ℕ)) → size ≡ n → length window ≡ 5306
+    → FrontOf (Front n) known window → Appends before after (printed (decode (take size window)))
     → IfSome known (λ bytes. Appends before after (program bytes))
 unfolding program
-of_the_whole None window n before after long front given = tt
-of_the_whole (Some bytes) window n before after long front given =
-    let same = ap decode (front ∙ ap (λ (k : ℕ). take k bytes) long) ∙ decode_window bytes in
-    subst (λ (answer : Answer Task). Appends before after (printed answer)) same given
+of_the_whole None window n size before after same long front given = tt
+of_the_whole (Some bytes) window n size before after same long front given =
+    let card = ap (λ (k : ℕ). take k window) same ∙ front ∙ ap (λ (k : ℕ). take k bytes) long in
+    subst (λ (answer : Answer Task). Appends before after (printed answer)) (ap decode card ∙ decode_window bytes) given
 
 -- nothing is given before the first section
 pub none_given : (held : Option (List ℕ)) (all : List (List Line)) → Appends held held (flat_map text (take 0 all))

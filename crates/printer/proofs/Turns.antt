@@ -3,12 +3,13 @@ use Prim.Native.Nat.{ℕ, ◌+◌, ◌≤◌, ◌<◌}
 use native.Mathlib.Numerals.{add-one}
 use native.Mathlib.Omega.{arith}
 use mathlib.Core.Path.{◌≡◌, refl, sym, ap, ap₂, ◌∙◌, subst}
-use mathlib.Core.Bool.{Bool, true}
+use mathlib.Core.Bool.{Bool, true, false}
 use mathlib.Core.List.{List, [], ◌∷◌, foldl-append, flat_map}
 use lib.ListN.{length, get_or, take, drop, replicate}
 use lib.Seq.{take-suc, take-append_seam}
 use Rattle.std.proofs.Common.{Option}
 use Rattle.std.specs.Io.KnownBytes.{Appends}
+use Rattle.laws.proofs.Tests.{never}
 use Rattle.model.specs.Card.{Task}
 use Rattle.model.specs.Answer.{accepted}
 use Rattle.model.specs.Calls.{output, printed}
@@ -156,3 +157,7 @@ closing_given {t} given {number} first before after e earlier last =
 pub to_the_end : {t : Task} {p : Prepared} {preconditions deletes adds counts : List ℕ} → Given t p preconditions deletes adds counts → {r : Printing}
     → r.sections ≡ p.spaces.count + 1 → Reaches (sections t) r
 to_the_end {t} given e = record { whole = λ w. omega (arith, e, given.prepared.spaces_are.count, section_count t) }
+
+-- a listing that a write cut off
+pub cut_off : {sections : List (List Line)} {r : Printing} → r.written ≡ false → Reaches sections r
+cut_off e = record { whole = λ w. never (sym w ∙ e) }

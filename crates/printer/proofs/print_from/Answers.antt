@@ -6,5 +6,5 @@ use Rattle.printer.proofs.print_from.Goals as goal
 
 pub returns-then-printing-clause-program : goal.returns-then-printing-clause-program
 returns-then-printing-clause-program g c =
-    of_the_whole _ c.read_front-reading.new.window _ _ _ (search rules) c.in-Front.ensures.bytes
-    (rw (sub-zero c.in-Front.n) at (c.print_card-printing.ensures.delivered c.if-printing.true))
+    of_the_whole _ c.read_front-reading.new.window _ _ _ _ (sub-zero c.in-Front.n) (search rules) c.in-Front.ensures.bytes
+    (c.print_card-printing.ensures.delivered c.if-printing.true)

@@ -4,7 +4,7 @@ use Rattle.model.specs.Lines.{sections}
 use Rattle.card.specs.Represents.{task_of}
 use Rattle.prepared.proofs.Lending.{analysable_given}
 use Rattle.prepared.proofs.Totalling.{totals_all, preconditions_given}
-use Rattle.printer.proofs.Turns.{room_again, spaces_low, before_first, space_next, closing_next, space_there, closing_given, to_the_end}
+use Rattle.printer.proofs.Turns.{room_again, spaces_low, before_first, space_next, closing_next, space_there, closing_given, to_the_end, cut_off}
 use Rattle.printer.proofs.Delivered.{none_given, next_given}
 use Rattle.printer.proofs.printing.print_sections.Goals as goal
 
@@ -19,6 +19,9 @@ loop-number-init g c = record {
 pub print_space-written-requires-clause-space_ready : goal.print_space-written-requires-clause-space_ready
 print_space-written-requires-clause-space_ready g c =
     analysable_given c.requires.ready.given (room_again c.requires.room_for_moves c.loop-number.invariant.kept) c.loop-number-test.true
+
+pub returns-then-not-written-clause-reaches : goal.returns-then-not-written-clause-reaches
+returns-then-not-written-clause-reaches g c = cut_off refl
 
 pub returns-then-not-written-clause-out_after : goal.returns-then-not-written-clause-out_after
 returns-then-not-written-clause-out_after g c =
