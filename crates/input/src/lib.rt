@@ -64,3 +64,62 @@ pub fn read_front<R: Read>(input: &mut R, window: &mut [u8]) -> Reading
     }
     read_on(input, kept)
 }
+
+#[cfg(test)]
+mod tests {
+    use super::*;
+    use std::io;
+    use std::io::ErrorKind;
+
+    // Three bytes, and then a read that fails.
+    #[derive(Drop)]
+    struct Breaking {
+        left: usize,
+    }
+
+    impl Read for Breaking {
+        fn read(&mut self, buf: &mut [u8]) -> io::Result<usize> {
+            if self.left == 0 {
+                return Err(io::Error::from(ErrorKind::Other));
+            }
+            if buf.is_empty() {
+                return Ok(0);
+            }
+            buf[0] = 7;
+            self.left -= 1;
+            Ok(1)
+        }
+    }
+
+    fn kept(reading: Reading) -> usize {
+        match reading {
+            Reading::Front(n) => n,
+            Reading::Failed => 99,
+        }
+    }
+
+    #[test]
+    fn keeps_the_front(rt: HostRuntime) {
+        let mut window = [0u8; 3];
+        let n = kept(read_front(&mut b"abcde".as_slice(), &mut window));
+        assert_eq!(rt; n, 3);
+        assert_eq!(rt; window, [b'a', b'b', b'c']);
+    }
+
+    #[test]
+    fn keeps_a_short_input(rt: HostRuntime) {
+        let mut window = [0u8; 3];
+        let n = kept(read_front(&mut b"ab".as_slice(), &mut window));
+        assert_eq!(rt; n, 2);
+        assert_eq!(rt; window, [b'a', b'b', 0]);
+    }
+
+    // In the window, and behind it.
+    #[test]
+    fn tells_a_read_that_fails(rt: HostRuntime) {
+        let mut long = [0u8; 8];
+        assert_eq!(rt; kept(read_front(&mut Breaking { left: 3 }, &mut long)), 99);
+        let mut short = [0u8; 2];
+        assert_eq!(rt; kept(read_front(&mut Breaking { left: 3 }, &mut short)), 99);
+    }
+}
