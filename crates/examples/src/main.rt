@@ -1,5 +1,6 @@
 // The examples of document 000, and well-known domains: each argument names a card's file, which is printed as its name and its listing.
-// A file that cannot be opened is named on standard error with the reason, and the others are printed all the same.
+// A file that cannot be opened is named on standard error with the reason, and the others are printed all the same. The names are copied
+// first: where memory runs out, or a name is not text, nothing is printed and the program ends with that error.
 #![tactic(auto)]
 
 use printer::print_from;
