@@ -39,7 +39,7 @@ action_small card buffer count given a e =
     both_inv (check_given t given) _ answered (λ passed answered.
     let s = facts_in t.arities count buffer in
     let right = checked t (decode_checks card t decoded) in
-    let named = open_named t s a (answered_next t s given a (one_value answered)).is_open_lem in
+    let named = open_named t s a (answered_next t s given a (one_value answered)).open_now in
     let few = right.few_schemas in
     let known = named.schema_known in
     let short = (schema_at_right t right a.schema known).few_parameters in

@@ -1,6 +1,6 @@
 -- Demand 3: after every history of presses on an accepted card, everything that its listing says is true.
 --
--- listing-holds: for every run of bytes C that decode accepts, every buffer that the opening call accepts, and every list of press
+-- listing_holds: for every run of bytes C that decode accepts, every buffer that the opening call accepts, and every list of press
 -- calls on C (any schema number, any list of object numbers, each accepted or refused by any number), `Holds` of specs/Truth.antt is so
 -- of the state in the buffer up to the count last answered.
 use Prim.Native.Nat.{ℕ, ◌≤◌, ◌<◌}

@@ -1,6 +1,6 @@
 -- Document 02, No. 4: histories that mix presses, asking and committing.
 --
--- mixed-holds: for every run of bytes C that decode accepts, every buffer that the opening call accepts, and every list of calls on C that
+-- mixed_holds: for every run of bytes C that decode accepts, every buffer that the opening call accepts, and every list of calls on C that
 -- press, ask or commit (any schema number and objects, any preview, each accepted or refused by any number), `Holds` of specs/Truth.antt is
 -- so of the state in the buffer up to the count last answered by a press or a commit.
 use Prim.Native.Nat.{ℕ}

@@ -173,7 +173,7 @@ open_exact card buffer count t decoded well a = (
 module _ (t : Task) (s : State) where
   -- What it is: open, after the given one, and no open action stands between.
   pub record Next (given : Option Action) (a : Action) : Type 0 where
-    pub is_open_lem : is_open t s a ≡ true
+    pub open_now : is_open t s a ≡ true
     pub comes_after_lem : comes_after given a ≡ true
     pub none_between : (b : Action) → is_open t s b ≡ true → comes_after given b ≡ true → precedes b a ≡ false
 
@@ -183,7 +183,7 @@ module _ (t : Task) (s : State) where
   answered_next given a e =
       let f = first_says precedes (comes_after given) precedes_strict (open_actions t s) (open_ascends t s) a e in
       record {
-        is_open_lem = listed_open t s a f.there;
+        open_now = listed_open t s a f.there;
         comes_after_lem = f.passes;
         none_between = λ b opened after. by_test (precedes b a) (λ p. never (sym after ∙ f.earlier_fail b (open_listed t s b opened) p)) (λ q. q);
       }
@@ -192,7 +192,7 @@ module _ (t : Task) (s : State) where
   unfolding open_after
   next_answered given a next =
       first_found precedes (comes_after given) (open_actions t s) (open_ascends t s) a (record {
-        there = open_listed t s a next.is_open_lem;
+        there = open_listed t s a next.open_now;
         passes = next.comes_after_lem;
         earlier_fail = λ b m p.
             by_test (comes_after given b) (λ q. never (sym p ∙ next.none_between b (listed_open t s b m) q)) (λ q. q);

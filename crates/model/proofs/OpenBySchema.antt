@@ -102,7 +102,7 @@ module _ (t : Task) (s : State) where
   unfolding comes_after
   after_found given h x f =
       next_answered t s (some given) (action_of given.schema x) (record {
-        is_open_lem = open_by_schema given.schema h x f.full ∙ f.passes;
+        open_now = open_by_schema given.schema h x f.full ∙ f.passes;
         comes_after_lem = precedes_objects given (action_of given.schema x) refl f.looked_at;
         none_between = λ b opened after.
             by_test (precedes b (action_of given.schema x))

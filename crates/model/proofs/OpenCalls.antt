@@ -96,7 +96,7 @@ module _ (card buffer : List ℕ) (count : ℕ) (t : Task) (decoded : decode car
       → check_given t (some a) ≡ accepted tt
   unfolding check_given is_open apply
   answered_checked given a e =
-      let (next, passed) = accepted_value _ (answered_next t (facts_in t.arities count buffer) given a e).is_open_lem in
+      let (next, passed) = accepted_value _ (answered_next t (facts_in t.arities count buffer) given a e).open_now in
       first_passed _ _ next passed
 
   -- asking by calls, from none and then each time after the action answered before, shows the whole list, and nothing more beyond the end

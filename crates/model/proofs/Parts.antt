@@ -161,11 +161,11 @@ module _ {t : Task} {u : Space} (p : Part t u) (hidden : List ℕ) where
 pub left_two_sided : (u : Space) → lost u ≡ false → TwoSided u
 unfolding lost
 left_two_sided u e =
-    let one_sided_lem : Move → Bool = λ m. is_empty m.start || is_empty m.finish in
-    let none = or_false_right (eqb 0 (length u.properties)) (any one_sided_lem (moves_of u)) e in
+    let is_one_sided : Move → Bool = λ m. is_empty m.start || is_empty m.finish in
+    let none = or_false_right (eqb 0 (length u.properties)) (any is_one_sided (moves_of u)) e in
     record {
       sides = λ m k.
-          let both = any_none one_sided_lem (moves_of u) none m k in
+          let both = any_none is_one_sided (moves_of u) none m k in
           (or_false_left (is_empty m.start) (is_empty m.finish) both, or_false_right (is_empty m.start) (is_empty m.finish) both);
     }
 

@@ -1,10 +1,10 @@
 -- The calls of asking and committing beside the press call.
 --
--- ask-as-press: asking answers the count that the press would answer, or is refused by the same number.
--- ask-then-commit: asking and committing straight after one another equal the press, in the answer and in every byte.
--- commit-cases: a commit is the press of the action that its preview carries; or that press is accepted, asking for it gives other lists,
+-- ask_as_press: asking answers the count that the press would answer, or is refused by the same number.
+-- ask_then_commit_lem: asking and committing straight after one another equal the press, in the answer and in every byte.
+-- commit_cases: a commit is the press of the action that its preview carries; or that press is accepted, asking for it gives other lists,
 -- and the commit is refused by 23 with nothing changed.
--- commit-exact, outdated-exact: a commit is accepted exactly if asking for its action is, and gives the lists that were handed in; it is
+-- commit_exact, outdated_exact: a commit is accepted exactly if asking for its action is, and gives the lists that were handed in; it is
 -- refused by 23 exactly if asking for its action is accepted, and gives other lists.
 use Prim.Native.Nat.{ℕ}
 use native.Mathlib.Omega.{arith}

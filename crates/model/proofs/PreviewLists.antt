@@ -1,8 +1,8 @@
 -- The two lists of a preview, where the state allows the action.
 --
--- going-sorted, coming-sorted: the facts that go are the ground deletes, put in order; those that come are the ground adds that are not in
+-- going_sorted, coming_sorted: the facts that go are the ground deletes, put in order; those that come are the ground adds that are not in
 -- the state, put in order.
--- going-is, coming-is: a fact goes exactly if it is in the state and not in the next one; it comes exactly if it is in the next one and
+-- going_is, coming_is: a fact goes exactly if it is in the state and not in the next one; it comes exactly if it is in the next one and
 -- not in the state.
 use Prim.Native.Nat.{ℕ, ◌+◌, ◌≤◌}
 use native.Mathlib.Nat.{le_antisymm}

@@ -1,9 +1,9 @@
 -- The rescue of mixed spaces, document 02, No. 5: that there are rounds enough, and what is left of the space.
 --
--- rescue-rounds: as many rounds as a mixed space has properties are enough. A mixed space has a hidden attribute among its properties, so
+-- rescue_rounds: as many rounds as a mixed space has properties are enough. A mixed space has a hidden attribute among its properties, so
 -- that each round drops a property, and with further rounds the same comes out.
--- rescue-only-mixed: a space of another kind has no rescue. rescue-one: a mixed space has at most one.
--- rescue-within: what is rescued is of kind H. It has a property at least, its properties are properties of the mixed space, none of them
+-- rescue_only_mixed: a space of another kind has no rescue. rescue_one: a mixed space has at most one.
+-- rescue_within: what is rescued is of kind H. It has a property at least, its properties are properties of the mixed space, none of them
 -- is a hidden attribute of it, and its members are members of the mixed space.
 use Prim.Native.Nat.{ℕ, zero, suc, ◌≤◌, ◌<◌, zero-le, suc-le-suc}
 use native.Mathlib.Nat.{le_refl}

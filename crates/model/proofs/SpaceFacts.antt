@@ -28,8 +28,8 @@ one_sided_attribute : (rules : List Transition) (r : Transition) → Memᴰ r ru
 unfolding kind_of
 one_sided_attribute [] r m e = absurd (mathlib.Core.List.Memᴰ.not-nil m)
 one_sided_attribute (q ∷ rules) r m e =
-    let one_sided_lem : Transition → Bool = λ x. is_empty x.start || is_empty x.finish in
-    cond_true (any one_sided_lem (q ∷ rules)) attribute property (any_intro one_sided_lem (q ∷ rules) r m e)
+    let is_one_sided : Transition → Bool = λ x. is_empty x.start || is_empty x.finish in
+    cond_true (any is_one_sided (q ∷ rules)) attribute property (any_intro is_one_sided (q ∷ rules) r m e)
 
 -- the rules of any other space have both a start and a finish
 two_sided : (rules : List Transition) → (kind_of rules ≡ attribute → ⊥) → (r : Transition) → Memᴰ r rules

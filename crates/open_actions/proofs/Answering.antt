@@ -85,10 +85,10 @@ module _ {arities : List ℕ} {known : ℕ} {schemas : SchemaList} {buffer : Lis
     pub object_refused : {r : NextOpen} → all (λ o. ltb o known) given.objects ≡ false → r ≡ plain ObjectsWrong → Answered r
     object_refused e is = wrong (and_false_right (eqb (length given.objects) chosen.parameters) _ e) is
 
-    module _ (number : length given.objects ≡ chosen.parameters) (all_Known : all (λ o. ltb o known) given.objects ≡ true) where
+    module _ (number : length given.objects ≡ chosen.parameters) (all_are_known : all (λ o. ltb o known) given.objects ≡ true) where
       repeats_left : check ≡ need (distinct given.objects) 18
       unfolding check_objects schema_of
-      repeats_left = objects_left ∙ need_both 17 _ (and_intro _ _ (eq-eqb _ _ number) all_Known)
+      repeats_left = objects_left ∙ need_both 17 _ (and_intro _ _ (eq-eqb _ _ number) all_are_known)
 
       pub repeat_refused : {r : NextOpen} → distinct given.objects ≡ false → r ≡ plain ObjectsRepeated → Answered r
       unfolding found_says number_in
@@ -96,7 +96,7 @@ module _ {arities : List ℕ} {known : ℕ} {schemas : SchemaList} {buffer : Lis
 
       pub binding_ready : BindingReady arities known chosen buffer count given.objects
       unfolding query_of schema_of
-      binding_ready = record { ready = ready.each given.schema within; full = record { one_for_each = number; objects_known = all_Known } }
+      binding_ready = record { ready = ready.each given.schema within; full = record { one_for_each = number; objects_known = all_are_known } }
 
       pub given_answered : {r : NextOpen} → distinct given.objects ≡ true
           → RestOfSchema (query_at arities known schemas buffer count given.schema) given r → Answered r

@@ -342,7 +342,7 @@ module _ {arities : List ℕ} {most : ℕ} {schema : Schema} {buffer : List ℕ}
         none = λ y f agrees reaches. (outcome.stuck fails).none y f agrees (past y f);
       };
       found = λ finds sure. record {
-        is_open_lem = (outcome.found finds sure).is_open_lem;
+        open_now = (outcome.found finds sure).open_now;
         reaches = record { from_on = λ h. absurd (omega arith) };
         none_before = λ y f begins reaches. (outcome.found finds sure).none_before y f begins (past y f);
       };

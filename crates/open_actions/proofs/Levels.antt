@@ -92,7 +92,7 @@ picks_first outcome = record {
   found = λ yes_found. record {
     full = full_binding outcome.full;
     looked_at = refl;
-    passes = (outcome.found yes_found refl).is_open_lem;
+    passes = (outcome.found yes_found refl).open_now;
     earlier_fail = λ y f e earlier.
         (outcome.found yes_found refl).none_before y (binding_full f) (record { same = λ p h. absurd (omega arith) }) reaches_any earlier;
   };
@@ -190,7 +190,7 @@ module _ {q : Query} {given now : List ℕ} {above : ℕ} (positive : 0 < above)
               let here = kept level (omega arith) in
               omega arith;
         })
-        (outcome.found yes_found refl).is_open_lem
+        (outcome.found yes_found refl).open_now
         (λ y f after_given_lem earlier.
         (outcome.found yes_found refl).none_before y (binding_full f) (starts_like after_given_lem) (looked_at after_given_lem) earlier);
     none = λ e. never e;

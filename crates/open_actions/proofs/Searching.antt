@@ -223,7 +223,7 @@ module _
       begins = front;
       stuck = λ fails. never (sym finds ∙ fails);
       found = λ e sure. record {
-        is_open_lem = (outcome.found finds sure).is_open_lem;
+        open_now = (outcome.found finds sure).open_now;
         reaches = record { from_on = λ h. let s = trying.started in let e = has_object in omega arith };
         none_before = λ y f begins reaches earlier.
             ⊎_elim
@@ -338,7 +338,7 @@ module _ {q : Query} {bound : ℕ} {x : List ℕ} (full : Full q x) where
           ap (open_binding q) (same_binding full f (record { same = λ p h. agrees.same p (all_bound.each p h) })) ∙ sym decides ∙ fails;
     };
     found = λ finds sure. record {
-      is_open_lem = sym decides ∙ finds;
+      open_now = sym decides ∙ finds;
       reaches = record { from_on = λ h. absurd (omega arith) };
       none_before = λ y f begins reaches earlier.
           never (sym earlier ∙ ap (λ (l : List ℕ). before l x) (same_binding full f begins) ∙ before_irreflexive x);

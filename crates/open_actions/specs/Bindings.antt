@@ -37,7 +37,7 @@ pub record Stuck (q : Query) (bound level from : ℕ) (x : List ℕ) (culprits :
 
 -- The first open binding that begins like x and has, at the level, an object from the given one on.
 pub record Earliest (q : Query) (level from : ℕ) (x found : List ℕ) : Type 0 where
-  pub is_open_lem : open_binding q found ≡ true
+  pub open_now : open_binding q found ≡ true
   pub reaches : StartsFrom level from found
   pub none_before : (y : List ℕ) → Full q y → Begins level x y → StartsFrom level from y → before y found ≡ true → open_binding q y ≡ false
 

@@ -148,8 +148,8 @@ module _ {arities : List ℕ} {bound : ℕ} (shape : Shape arities bound) where
   pub sorted_rows : (facts : List Atom) (sorted : State) → all_known arities bound facts → sorted ≡ put_all [] facts
       → rows_kept (inserted_all (map fact_number facts) []) ≡ rows_for (map fact_bytes sorted)
   unfolding rows_kept rows_for all
-  sorted_rows facts sorted all_Known is =
-      ap rows_kept (sym (numbers_puts shape facts [] all_Known refl) ∙ ap (map fact_number) (sym is))
+  sorted_rows facts sorted all_are_known is =
+      ap rows_kept (sym (numbers_puts shape facts [] all_are_known refl) ∙ ap (map fact_number) (sym is))
       ∙ (λ i. record { count = counts i; rows = padded 32 0 (bytes i) })
     where
       counts : length (map fact_number sorted) ≡ length (map fact_bytes sorted)
@@ -157,7 +157,7 @@ module _ {arities : List ℕ} {bound : ℕ} (shape : Shape arities bound) where
 
       bytes : flat_map row_bytes (map fact_number sorted) ≡ flat_map (λ row. row) (map fact_bytes sorted)
       bytes =
-          facts_bytes shape sorted (subst (all_known arities bound) (sym is) (puts_known shape facts [] all_Known refl))
+          facts_bytes shape sorted (subst (all_known arities bound) (sym is) (puts_known shape facts [] all_are_known refl))
           ∙ sym (flat_map_map (λ row. row) fact_bytes sorted)
 
 -- the numbers of facts that the code keeps
@@ -178,10 +178,10 @@ facts_held kept facts is few =
 new_numbers : {arities : List ℕ} {bound : ℕ} (shape : Shape arities bound) (facts : List Atom) (s : State) (numbers : List ℕ)
     → all_known arities bound facts → all_known arities bound s → numbers ≡ map fact_number s
     → keep (λ n. not (member n numbers)) (map fact_number facts) ≡ map fact_number (keep (λ f. not (has s f)) facts)
-new_numbers {arities} {bound} shape facts s numbers all_Known state_known are =
+new_numbers {arities} {bound} shape facts s numbers all_are_known state_known are =
     keep_map (λ n. not (member n numbers)) fact_number facts
     ∙ ap (map fact_number) (keep_ext (λ f. not (member (fact_number f) numbers)) (λ f. not (has s f)) facts (λ f m.
-    ap not (ap (member (fact_number f)) are ∙ member_has shape f s (all_at (known arities bound) facts all_Known f m) state_known)))
+    ap not (ap (member (fact_number f)) are ∙ member_has shape f s (all_at (known arities bound) facts all_are_known f m) state_known)))
 
 module _ {arities objects : List ℕ} {schema : Schema} {buffer : List ℕ} {count : ℕ} (allowed : Allowed arities objects schema buffer count) where
   abbrev model_schema : model.Schema
@@ -290,10 +290,10 @@ module _ {arities objects : List ℕ} {schema : Schema} {buffer : List ℕ} {cou
       (keep_known shape (λ f. not (has state f)) (put_in model_schema objects) (in_known allowed.ready)) refl)
 
   rows_four : (facts : State) → all_known arities allowed.ready.known_objects facts → FourEach (map fact_bytes facts)
-  rows_four facts all_Known = record {
+  rows_four facts all_are_known = record {
     each = λ row m.
         let (f, on, is) = Memᴰ.of_map fact_bytes facts m in
-        sym (ap length is) ∙ ap length (fact_four shape f (all_at (known arities allowed.ready.known_objects) facts all_Known f on)).are;
+        sym (ap length is) ∙ ap length (fact_four shape f (all_at (known arities allowed.ready.known_objects) facts all_are_known f on)).are;
   }
 
   pub gone_four : FourEach (map fact_bytes (going model_schema objects state))

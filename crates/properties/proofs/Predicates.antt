@@ -34,7 +34,7 @@ pub record Placed (predicates : ArityList) (firsts : List ℕ) (p : ℕ) : Type 
 -- at most 60 properties
 pub sum_arities : (predicates : ArityList) → AritiesRight predicates → sum (arities_of predicates) ≤ 60
 sum_arities predicates right =
-    omega (arith, sum_all 3 (arities_of predicates) right.in_range_lem, length_arities predicates, right.few)
+    omega (arith, sum_all 3 (arities_of predicates) right.each_in_range, length_arities predicates, right.few)
 
 pub few_properties : (predicates : ArityList) → AritiesRight predicates → length (properties_from 0 (arities_of predicates)) ≤ 60
 few_properties predicates right = omega (arith, sum_arities predicates right, length_properties 0 (arities_of predicates))
@@ -47,7 +47,7 @@ module _ (predicates : ArityList) (firsts : List ℕ) (right : AritiesRight pred
       let few = right.few in
       let is : get_or predicates.arities p 0 ≡ get_or arities p 0 =
       unfold arities_of in sym (get_d_entries predicates.count 0 predicates.arities p inside) in
-      let range = all_at (between 1 3) arities right.in_range_lem (get_or arities p 0) (mem_get_d arities p 0 there) in
+      let range = all_at (between 1 3) arities right.each_in_range (get_or arities p 0) (mem_get_d arities p 0 there) in
       let low = between_low 1 3 (get_or arities p 0) range in
       let high = between_high 1 3 (get_or arities p 0) range in
       record {
@@ -91,8 +91,8 @@ module _ (predicates : ArityList) (firsts : List ℕ) (right : AritiesRight pred
 -- an atom of a list is known, if all are
 pub atom_known : (arities : List ℕ) (atoms : List Atom) (n bound : ℕ) → all (known arities bound) (map (atom_of arities) (entries n blank_atom atoms)) ≡ true
     → (i : ℕ) → i < n → known arities bound (atom_of arities (get_or atoms i blank_atom)) ≡ true
-atom_known arities atoms n bound all_Known i h =
-    all_at (known arities bound) (map (atom_of arities) (entries n blank_atom atoms)) all_Known (atom_of arities (get_or atoms i blank_atom))
+atom_known arities atoms n bound all_are_known i h =
+    all_at (known arities bound) (map (atom_of arities) (entries n blank_atom atoms)) all_are_known (atom_of arities (get_or atoms i blank_atom))
     (item_in (atom_of arities) n blank_atom atoms i h)
 
 -- an arity that was read is 1, 2 or 3

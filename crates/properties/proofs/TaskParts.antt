@@ -30,7 +30,7 @@ module _ (task : Task) (r : Represented task (task_of task)) where
   -- the arities
   pub arities_right : AritiesRight task.predicates
   unfolding task_of
-  arities_right = record { few = predicates_few task r; in_range_lem = (right task r).arities_right }
+  arities_right = record { few = predicates_few task r; each_in_range = (right task r).arities_right }
 
   -- the schemas
   module _ (i : ℕ) (d : Schema) (h : i < task.schemas.count) where

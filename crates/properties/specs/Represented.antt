@@ -37,7 +37,7 @@ pub record Numbers (arities : List ℕ) (r : Numbering) : Type 0 where
 -- the arities of a task's predicates
 pub record AritiesRight (l : ArityList) : Type 0 where
   pub few : l.count ≤ 20
-  pub in_range_lem : all (between 1 3) (arities_of l) ≡ true
+  pub each_in_range : all (between 1 3) (arities_of l) ≡ true
 
 -- a list of atoms of such predicates over so many parameters
 pub record AtomsRight (arities : List ℕ) (parameters : ℕ) (l : AtomList) : Type 0 where

@@ -102,8 +102,8 @@ module _ {answer : Answer Admissible} {buffer : List ℕ} {count : ℕ} {objects
       (subst (Admits (refused n) buffer count objects) (sym is)
       (record {
         answers = says;
-        arities_beside_lem = refl;
-        schema_beside_lem = refl;
+        arities_answered = refl;
+        schema_answered = refl;
         granted = λ m counted. accepted_not_refused (sym (ap applied_says counted) ∙ says);
       }))
 
@@ -113,8 +113,8 @@ module _ {answer : Answer Admissible} {buffer : List ℕ} {count : ℕ} {objects
       → Admits answer buffer count objects (record { answer = applied; predicates = predicates; schema = schema })
   granting g arities_whole schema_whole says = record {
     answers = says ∙ sym (then_accepted (λ s. accepted count) g.is);
-    arities_beside_lem = arities_whole;
-    schema_beside_lem = schema_whole;
+    arities_answered = arities_whole;
+    schema_answered = schema_whole;
     granted = λ m counted. g;
   }
 

@@ -37,10 +37,10 @@ module _ (known : ℕ) (schema : Schema) (objects : List ℕ) (state : State) (c
   unfolding complete
   unknown_object e = objects_refused (and_false_right (eqb (length objects) schema.parameters) _ e)
 
-  module _ (number : length objects ≡ schema.parameters) (all_Known : all (λ o. ltb o known) objects ≡ true) where
+  module _ (number : length objects ≡ schema.parameters) (all_are_known : all (λ o. ltb o known) objects ≡ true) where
     completes : complete ≡ true
     unfolding complete
-    completes = and_intro _ _ (eq-eqb (length objects) schema.parameters number) all_Known
+    completes = and_intro _ _ (eq-eqb (length objects) schema.parameters number) all_are_known
 
     pub object_repeated : distinct objects ≡ false → applied_says ObjectsRepeated ≡ admitting
     unfolding complete admit_schema check_objects need ◌>>◌ applied_says

@@ -51,6 +51,6 @@ pub record Granted (answer : Answer Admissible) (buffer : List ℕ) (count : ℕ
 -- The function answers as the definitions do, with the number of facts for what may be applied.
 pub record Admits (answer : Answer Admissible) (buffer : List ℕ) (count : ℕ) (objects : List ℕ) (r : Admitted) : Type 0 where
   pub answers : applied_says r.answer ≡ (answer >>= (λ s. accepted count))
-  pub arities_beside_lem : r.predicates ≡ arities_beside answer
-  pub schema_beside_lem : r.schema ≡ schema_beside answer
+  pub arities_answered : r.predicates ≡ arities_beside answer
+  pub schema_answered : r.schema ≡ schema_beside answer
   pub granted : (n : ℕ) → r.answer ≡ Count n → Granted answer buffer count objects r.predicates r.schema

@@ -106,12 +106,12 @@ module _ (arities : List ℕ) (a b : Atom) where
     pub below_by_none : n ≡ 0 → false ≡ below (atom_of arities a) (atom_of arities b)
     below_by_none z = below_at false (rw (before_places, z))
 
-    module _ (some_Is_first : n ≡ 0 → ⊥) where
+    module _ (some_is_first : n ≡ 0 → ⊥) where
       pub same_by_first : (a.first ≡ b.first → ⊥) → false ≡ same_atom (atom_of arities a) (atom_of arities b)
-      same_by_first d = same_at false (rw (same_places, ne_eqb _ _ some_Is_first, ne_eqb _ _ d))
+      same_by_first d = same_at false (rw (same_places, ne_eqb _ _ some_is_first, ne_eqb _ _ d))
 
       pub below_by_first : (a.first ≡ b.first → ⊥) → ltb a.first b.first ≡ below (atom_of arities a) (atom_of arities b)
-      below_by_first d = below_at _ (rw (before_places, ne_eqb _ _ some_Is_first, ne_eqb _ _ d, or-false))
+      below_by_first d = below_at _ (rw (before_places, ne_eqb _ _ some_is_first, ne_eqb _ _ d, or-false))
 
       module _ (first : a.first ≡ b.first) where
         pub same_by_one : n ≡ 1 → true ≡ same_atom (atom_of arities a) (atom_of arities b)
@@ -123,14 +123,14 @@ module _ (arities : List ℕ) (a b : Atom) where
         module _ (some_second : n ≡ 1 → ⊥) where
           pub same_by_second : (a.second ≡ b.second → ⊥) → false ≡ same_atom (atom_of arities a) (atom_of arities b)
           same_by_second d =
-              same_at false (rw (same_places, ne_eqb _ _ some_Is_first, eq-eqb _ _ first, ne_eqb _ _ some_second, ne_eqb _ _ d))
+              same_at false (rw (same_places, ne_eqb _ _ some_is_first, eq-eqb _ _ first, ne_eqb _ _ some_second, ne_eqb _ _ d))
 
           pub below_by_second : (a.second ≡ b.second → ⊥)
               → ltb a.second b.second ≡ below (atom_of arities a) (atom_of arities b)
           below_by_second d =
               below_at _ (rw (
                 before_places,
-                ne_eqb _ _ some_Is_first,
+                ne_eqb _ _ some_is_first,
                 le-ltb a.first b.first (omega arith),
                 eq-eqb _ _ first,
                 ne_eqb _ _ some_second,
@@ -155,13 +155,13 @@ module _ (arities : List ℕ) (a b : Atom) where
 
             pub same_by_third : (n ≡ 2 → ⊥) → eqb a.third b.third ≡ same_atom (atom_of arities a) (atom_of arities b)
             same_by_third d =
-                same_at _ (rw (same_places, ne_eqb _ _ some_Is_first, eq-eqb _ _ first, ne_eqb _ _ some_second, eq-eqb _ _ second, ne_eqb _ _ d))
+                same_at _ (rw (same_places, ne_eqb _ _ some_is_first, eq-eqb _ _ first, ne_eqb _ _ some_second, eq-eqb _ _ second, ne_eqb _ _ d))
 
             pub below_by_third : (n ≡ 2 → ⊥) → ltb a.third b.third ≡ below (atom_of arities a) (atom_of arities b)
             below_by_third d =
                 below_at _ (rw (
                   before_places,
-                  ne_eqb _ _ some_Is_first,
+                  ne_eqb _ _ some_is_first,
                   le-ltb a.first b.first (omega arith),
                   eq-eqb _ _ first,
                   ne_eqb _ _ some_second,
@@ -186,9 +186,9 @@ module _ (arities : List ℕ) (bound : ℕ) (a : Atom) where
     pub known_by_none : n ≡ 0 → true ≡ known arities bound (atom_of arities a)
     known_by_none z = known_at true (rw (known_places n bound a, z))
 
-    module _ (some_Is_first : n ≡ 0 → ⊥) where
+    module _ (some_is_first : n ≡ 0 → ⊥) where
       pub unknown_first : bound ≤ a.first → false ≡ known arities bound (atom_of arities a)
-      unknown_first h = known_at false (rw (known_places n bound a, ne_eqb _ _ some_Is_first, le-ltb a.first bound h))
+      unknown_first h = known_at false (rw (known_places n bound a, ne_eqb _ _ some_is_first, le-ltb a.first bound h))
 
       module _ (first : a.first < bound) where
         pub known_by_one : n ≡ 1 → true ≡ known arities bound (atom_of arities a)
@@ -200,7 +200,7 @@ module _ (arities : List ℕ) (bound : ℕ) (a : Atom) where
               known_at false
               (rw (
                 known_places n bound a,
-                ne_eqb _ _ some_Is_first,
+                ne_eqb _ _ some_is_first,
                 lt-ltb a.first bound first,
                 ne_eqb _ _ some_second,
                 le-ltb a.second bound h,
@@ -215,7 +215,7 @@ module _ (arities : List ℕ) (bound : ℕ) (a : Atom) where
               unknown_third h =
                   known_at false (rw (
                     known_places n bound a,
-                    ne_eqb _ _ some_Is_first,
+                    ne_eqb _ _ some_is_first,
                     lt-ltb a.first bound first,
                     ne_eqb _ _ some_second,
                     lt-ltb a.second bound second,
@@ -227,7 +227,7 @@ module _ (arities : List ℕ) (bound : ℕ) (a : Atom) where
               known_by_three third =
                   known_at _ (rw (
                     known_places n bound a,
-                    ne_eqb _ _ some_Is_first,
+                    ne_eqb _ _ some_is_first,
                     lt-ltb a.first bound first,
                     ne_eqb _ _ some_second,
                     lt-ltb a.second bound second,
