@@ -1,8 +1,8 @@
 -- Ascending lists of numbers: the place of a number, and what the list is without the number and with it.
 use Prim.Native.Nat.{ℕ, zero, suc, ◌≤◌, ◌<◌, zero-le, suc-le-suc}
-use native.Mathlib.Nat.{le_of_suc-le-suc, not-suc-le-zero}
+use native.Mathlib.Nat.{le_of_suc-le-suc, not-suc-le-zero, le_refl, le_antisymm}
 use native.Mathlib.Omega.{arith}
-use mathlib.Core.Path.{◌≡◌, refl, sym, ap, ◌∙◌}
+use mathlib.Core.Path.{◌≡◌, refl, sym, ap, ◌∙◌, subst}
 use mathlib.Core.Bool.{Bool, true, false, cond, not, ◌||◌}
 use mathlib.Core.List.{List, [], ◌∷◌, ◌++◌}
 use lib.Dec.{eqb, ltb, leb}
@@ -82,6 +82,35 @@ place_up_to n (m ∷ ms) (suc i) h k = go (ltb m n) (place_up_to n ms i (le_of_s
     go true later = suc-le-suc later
     go false later = zero-le
 
+-- a number stands below each of those after it
+pub rising_less : (bound : ℕ) (ns : List ℕ) → rising bound ns ≡ true → (i j : ℕ) → i < j → j < length ns → get_or ns i 0 < get_or ns j 0
+rising_less bound [] e i j h k = absurd (not-suc-le-zero k)
+rising_less bound (n ∷ ns) e i zero h k = absurd (not-suc-le-zero h)
+rising_less bound (n ∷ ns) e zero (suc j) h k = rising_above (suc n) ns (rising_rest bound n ns e) j (le_of_suc-le-suc k)
+rising_less bound (n ∷ ns) e (suc i) (suc j) h k =
+    rising_less (suc n) ns (rising_rest bound n ns e) i j (le_of_suc-le-suc h) (le_of_suc-le-suc k)
+
+pub rising_no_less : (ns : List ℕ) → rising 0 ns ≡ true → (i j : ℕ) → i ≤ j → j < length ns → get_or ns i 0 ≤ get_or ns j 0
+rising_no_less ns e i j h k =
+    by_test (ltb i j) (λ p. let less = rising_less 0 ns e i j (ltb-true i j p) k in omega arith)
+    (λ p. let same : i ≡ j = (let past = ltb-false i j p in omega arith) in subst (λ (m : ℕ). get_or ns i 0 ≤ get_or ns m 0) same (le_refl _))
+
+-- the place is where all before it are smaller, and none from there on is
+pub place_is :
+    (n : ℕ) (ns : List ℕ) → rising 0 ns ≡ true → (i : ℕ) → i ≤ length ns → ((k : ℕ) → k < i → get_or ns k 0 < n)
+    → ((k : ℕ) → i ≤ k → k < length ns → n ≤ get_or ns k 0) → i ≡ place n ns
+place_is n ns e i h below above = le_antisymm (low i h below) high
+  where
+    low : (j : ℕ) → j ≤ length ns → ((k : ℕ) → k < j → get_or ns k 0 < n) → j ≤ place n ns
+    low zero h below = zero-le
+    low (suc j) h below = place_past 0 n ns e j h (below j (le_refl (suc j)))
+
+    high : place n ns ≤ i
+    high =
+        by_test (ltb i (length ns))
+        (λ p. let inside = ltb-true i (length ns) p in place_up_to n ns i inside (above i (le_refl i) inside))
+        (λ p. let past = ltb-false i (length ns) p in let within = place_within n ns in omega arith)
+
 -- What stands at the place of n in an ascending list: n, or a number above it, or nothing.
 module _ (n : ℕ) where
   -- a number that stands below n: its place is in the rest
@@ -132,6 +161,27 @@ module _ (n : ℕ) where
       let there = place_rest m ms less in
       member_rest m ms (λ q. omega arith) ∙ member_past_end ms (omega arith))
       (λ p. let there = place_here m ms (ltb-false m n p) in absurd (omega arith))
+
+  -- a number of the list stands at its place
+  pub place_there : (ns : List ℕ) → rising 0 ns ≡ true → (i : ℕ) → i < length ns → get_or ns i 0 ≡ n → i ≡ place n ns
+  place_there ns e i h p =
+      place_is n ns e i (omega arith) (λ k below. let less = rising_less 0 ns e k i below h in omega arith)
+      (λ k above within. let more = rising_no_less ns e i k above within in omega arith)
+
+  pub member_there : (ns : List ℕ) → rising 0 ns ≡ true → (i : ℕ) → i < length ns → get_or ns i 0 ≡ n → member n ns ≡ true
+  member_there ns e i h p =
+      let here = place_there ns e i h p in
+      member_at_place 0 ns e (subst (λ (k : ℕ). k < length ns) here h) ∙ ap (λ (k : ℕ). eqb (get_or ns k 0) n) (sym here) ∙ eq-eqb _ n p
+
+  -- and it is not on it where one above it stands at its place, or none does
+  pub member_missing : (ns : List ℕ) → rising 0 ns ≡ true → (i : ℕ) → i ≡ place n ns → (i < length ns → n < get_or ns i 0) → member n ns ≡ false
+  member_missing ns e i here above =
+      by_test (ltb i (length ns))
+      (λ p. let inside = ltb-true i (length ns) p in
+      let more = above inside in
+      member_at_place 0 ns e (subst (λ (k : ℕ). k < length ns) here inside) ∙ ap (λ (k : ℕ). eqb (get_or ns k 0) n) (sym here)
+      ∙ ne_eqb _ n (λ q. omega arith))
+      (λ p. member_past_end ns (subst (λ (k : ℕ). length ns ≤ k) here (ltb-false i (length ns) p)))
 
   -- the list without a number that is not on it
   pub without_absent : (ns : List ℕ) → member n ns ≡ false → without n ns ≡ ns

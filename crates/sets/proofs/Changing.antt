@@ -10,11 +10,10 @@ use lib.Dec.{ltb}
 use borrow.Author.Tests.{ltb-true, ltb-false}
 use lib.ListN.{length, get_or, take, drop, replicate, length-append, length-drop, length-replicate, take-append-drop}
 use lib.Seq.{take-take, take_all, take_at, drop_at, drop-drop, length-take-le}
+use Rattle.std.specs.Prelude.{Result, Ok, Err}
 use Rattle.laws.specs.Lists.{member, padded}
 use Rattle.laws.proofs.Tests.{never, by_test}
 use Rattle.sets.specs.Numbers.{rising, place, found, without, inserted, gap_closed, room_made, SetKept, Becomes}
-use Rattle.sets.specs.declared.Found.{Found}
-use Rattle.sets.specs.declared.Found.TheVariants.{At, Missing}
 use Rattle.sets.proofs.Ascending.{place_within, member_past_end, without_rising, inserted_rising, length_without, length_inserted}
 use Rattle.sets.proofs.Ascending.{without_absent, without_there, inserted_absent, inserted_there}
 
@@ -23,20 +22,20 @@ pub part_front : (count : ℕ) (xs : List ℕ) → take (count - 0) xs ≡ take 
 part_front count xs = ap (λ (n : ℕ). take n xs) (sub-zero count)
 
 -- what a search says: the number is on the list or not, and its place
-pub found_there : (r : Found) (n i : ℕ) (l : List ℕ) → r ≡ found n l → r ≡ At i → (member n l ≡ true) × (i ≡ place n l)
+pub found_there : (r : Result ℕ ℕ) (n i : ℕ) (l : List ℕ) → r ≡ found n l → r ≡ Ok i → (member n l ≡ true) × (i ≡ place n l)
 unfolding found
 found_there r n i l e k = go (member n l) refl (sym k ∙ e)
   where
-    go : (b : Bool) → member n l ≡ b → At i ≡ cond b (At (place n l)) (Missing (place n l)) → (member n l ≡ true) × (i ≡ place n l)
+    go : (b : Bool) → member n l ≡ b → Ok i ≡ cond b (Ok (place n l)) (Err (place n l)) → (member n l ≡ true) × (i ≡ place n l)
     go true p q = (p, cc)
-    go false p q = let z : ◌≡◌ {A = ℕ} 0 1 = cc in absurd (omega arith)
+    go false p q = absurd cc
 
-pub found_missing : (r : Found) (n i : ℕ) (l : List ℕ) → r ≡ found n l → r ≡ Missing i → (member n l ≡ false) × (i ≡ place n l)
+pub found_missing : (r : Result ℕ ℕ) (n i : ℕ) (l : List ℕ) → r ≡ found n l → r ≡ Err i → (member n l ≡ false) × (i ≡ place n l)
 unfolding found
 found_missing r n i l e k = go (member n l) refl (sym k ∙ e)
   where
-    go : (b : Bool) → member n l ≡ b → Missing i ≡ cond b (At (place n l)) (Missing (place n l)) → (member n l ≡ false) × (i ≡ place n l)
-    go true p q = let z : ◌≡◌ {A = ℕ} 0 1 = cc in absurd (omega arith)
+    go : (b : Bool) → member n l ≡ b → Err i ≡ cond b (Ok (place n l)) (Err (place n l)) → (member n l ≡ false) × (i ≡ place n l)
+    go true p q = absurd cc
     go false p q = (p, cc)
 
 -- a number on the list stands before the end
@@ -159,7 +158,6 @@ fold_more f l (n ∷ ns) (suc i) h = fold_more f (f l n) ns i (le_of_suc-le-suc 
 
 -- Numbers changed one after the other: what the first i of them have left.
 pub record Changing (change : List ℕ → ℕ → List ℕ) (ns list before : List ℕ) (i : ℕ) (now : List ℕ) (r : ℕ) : Type 0 where
-  pub some_done : i ≤ length ns
   pub becomes : Becomes (foldl change list (take i ns)) before now r
   pub ascends : rising 0 (foldl change list (take i ns)) ≡ true
   pub room : length (foldl change list (take i ns)) ≤ length list + i
@@ -184,7 +182,6 @@ module _ {change : List ℕ → ℕ → List ℕ} {ns list before : List ℕ} {i
       let room = c.room in
       let size = ap length now_set in
       record {
-        some_done = omega arith;
         becomes = record {
           listed = b.listed ∙ ap (λ (m : ℕ). padded m 0 (change (take r now) (get_or ns i 0))) same ∙ ap (padded (length before) 0) (sym more);
           counted = b.counted ∙ ap length (sym more);
@@ -215,7 +212,6 @@ changing_start change ns {before} {count} kept =
     let few = kept.few in
     let size = length-take-le count before few in
     record {
-      some_done = zero-le;
       becomes = unchanged count 0 before kept (take count before) refl;
       ascends = kept.ascends;
       room = omega arith;

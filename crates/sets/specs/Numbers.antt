@@ -1,9 +1,7 @@
 -- Sets of numbers kept as ascending lists: whether and where a number stands, and the set without it and with it.
-use Rattle.std.specs.Prelude.{ℕ, suc, ◌-◌, ◌≤◌, ◌≡◌, Bool, true, cond, not, ◌&&◌, leb, ltb, eqb, length, take, drop, replicate}
+use Rattle.std.specs.Prelude.{ℕ, suc, ◌-◌, ◌≤◌, ◌≡◌, Bool, true, cond, not, ◌&&◌, leb, ltb, eqb, length, take, drop, replicate, Result, Ok, Err}
 use mathlib.Core.List.{List, [], ◌∷◌, ◌++◌, foldl}
 use Rattle.laws.specs.Lists.{keep, member, padded}
-use Rattle.sets.specs.declared.Found.{Found}
-use Rattle.sets.specs.declared.Found.TheVariants.{At, Missing}
 
 -- the list ascends strictly, from `bound` on
 unfoldable pub rising : ℕ → List ℕ → Bool
@@ -15,9 +13,9 @@ unfoldable pub place : ℕ → List ℕ → ℕ
 place n [] = 0
 place n (m ∷ ms) = let later = place n ms in cond (ltb m n) (suc later) 0
 
--- where n stands, or where it would stand
-unfoldable pub found : ℕ → List ℕ → Found
-found n ns = cond (member n ns) (At (place n ns)) (Missing (place n ns))
+-- where n stands, or else where it would stand
+unfoldable pub found : ℕ → List ℕ → Result ℕ ℕ
+found n ns = cond (member n ns) (Ok (place n ns)) (Err (place n ns))
 
 -- the list without n
 unfoldable pub without : ℕ → List ℕ → List ℕ
