@@ -48,9 +48,9 @@ module _ (size count : ℕ) (table : List ℕ) where
 
 -- D lines of a list of indices, from a place on
 module _ (indices : List ℕ) where
-  pub memberships_next : (k : ℕ) → k < length indices
-      → Begins (text (map membership (drop k indices))) (line_text (membership (get_or indices k 0))) (text (map membership (drop (k + 1) indices)))
-  memberships_next k h = rw (drop-cons indices k 0 h, add-one k) (first_line _ _)
+  pub memberships_next : (k : ℕ) {i : ℕ} → k < length indices → i ≡ get_or indices k 0
+      → Begins (text (map membership (drop k indices))) (line_text (membership i)) (text (map membership (drop (k + 1) indices)))
+  memberships_next k h m = rw (m, drop-cons indices k 0 h, add-one k) (first_line _ _)
 
   pub memberships_end : (k : ℕ) → length indices ≤ k → text (map membership (drop k indices)) ≡ []
   memberships_end k h = rw (drop_of_length-le indices h) no_lines
@@ -85,15 +85,14 @@ module _ (masks : List ℕ) (i : ℕ) (later : List ℕ) where
   unfolding exclusions_from
   exclusions_start = refl
 
-  pub exclusion_next : (k : ℕ) {r : ℕ} → k < length later → r ≡ common_of (get_or masks i 0) (get_or masks (get_or later k 0) 0) → r ≡ 0
-      → Begins (exclusions_from k) (line_text (exclusion i (get_or later k 0))) (exclusions_from (k + 1))
-  unfolding exclusions_from
-  exclusion_next k h e f = rw (kept_at (excluded_by masks i) later k h (excluded masks i (get_or later k 0) e f)) (first_line _ _)
+  module _ (k : ℕ) {j r : ℕ} (h : k < length later) (m : j ≡ get_or later k 0) (e : r ≡ common_of (get_or masks i 0) (get_or masks j 0)) where
+    pub exclusion_next : r ≡ 0 → Begins (exclusions_from k) (line_text (exclusion i j)) (exclusions_from (k + 1))
+    unfolding exclusions_from
+    exclusion_next f = rw (m, kept_at (excluded_by masks i) later k h (excluded masks i (get_or later k 0) (rw m at e) f)) (first_line _ _)
 
-  pub exclusion_skipped : (k : ℕ) {r : ℕ} → k < length later → r ≡ common_of (get_or masks i 0) (get_or masks (get_or later k 0) 0) → (r ≡ 0 → ⊥)
-      → exclusions_from k ≡ exclusions_from (k + 1)
-  unfolding exclusions_from
-  exclusion_skipped k h e f = rw (skipped_at (excluded_by masks i) later k h (not_excluded masks i (get_or later k 0) e f))
+    pub exclusion_skipped : (r ≡ 0 → ⊥) → exclusions_from k ≡ exclusions_from (k + 1)
+    unfolding exclusions_from
+    exclusion_skipped f = rw (skipped_at (excluded_by masks i) later k h (not_excluded masks i (get_or later k 0) (rw m at e) f))
 
   pub exclusions_end : (k : ℕ) → length later ≤ k → exclusions_from k ≡ []
   unfolding exclusions_from keep
@@ -105,12 +104,12 @@ lent_from_lem l k = sym (take_all (length l - k) (drop k l) (omega (arith, lengt
 
 -- X lines of a list of indices, from a place on: those of the index there, with the later ones, and the others
 module _ (masks indices : List ℕ) where
-  pub pairs_next : (k : ℕ) → k < length indices
+  pub pairs_next : (k : ℕ) {i : ℕ} → k < length indices → i ≡ get_or indices k 0
       → Begins (text (exclusions_by masks (drop k indices)))
-      (text (map (exclusion (get_or indices k 0)) (keep (excluded_by masks (get_or indices k 0)) (take (length indices - (k + 1)) (drop (k + 1) indices)))))
+      (text (map (exclusion i) (keep (excluded_by masks i) (take (length indices - (k + 1)) (drop (k + 1) indices)))))
       (text (exclusions_by masks (drop (k + 1) indices)))
   unfolding exclusions_by text
-  pairs_next k h = record { path = rw (← lent_from_lem indices (k + 1), drop-cons indices k 0 h, add-one k) (flat_map_append line_text _ _) }
+  pairs_next k h m = record { path = rw (m, ← lent_from_lem indices (k + 1), drop-cons indices k 0 h, add-one k) (flat_map_append line_text _ _) }
 
   pub pairs_end : (k : ℕ) → length indices ≤ k → text (exclusions_by masks (drop k indices)) ≡ []
   unfolding exclusions_by

@@ -1,5 +1,5 @@
 // The largest count of each property of arity 2 or 3: the `M` lines.
-ghost use Rattle.std.specs.Prelude.{◌≡◌, cond, true, [], ◌*◌, ◌≤◌, ◌<◌, max, leb, ltb, length};
+ghost use Rattle.std.specs.Prelude.{◌≡◌, cond, true, [], ◌*◌, ◌≤◌, ◌<◌, leb, ltb, length};
 ghost use Rattle.laws.specs.Lists.{all, distinct};
 ghost use Rattle.model.specs.Lines.{limit, largest};
 ghost use Rattle.model.specs.Text.{line_text, text};
@@ -10,16 +10,6 @@ ghost use Rattle.text.specs.Written.{Writes};
 
 use text::lines::write_limit;
 
-// The larger of two counts.
-fn larger(a: u16, b: u16) -> u16
-    ensures { result ≡ max a b }
-{
-    if a < b {
-        return b;
-    }
-    a
-}
-
 // The largest count of a column.
 fn largest_in(table: &[u16], count: usize, column: usize) -> u16
     requires { (60 * count ≤ length table.now) × (column < 60) }
@@ -27,7 +17,7 @@ fn largest_in(table: &[u16], count: usize, column: usize) -> u16
 {
     let mut most = 0;
     for i in 0..count {
-        most = larger(most, table[60 * i + column]);
+        most = most.max(table[60 * i + column]);
     }
     most
 }
@@ -53,7 +43,7 @@ fn write_limit_of(
     if arity < 2 {
         return 0;
     }
-    let most = largest_in(table, count, column) as usize;
+    let most = usize::from(largest_in(table, count, column));
     write_limit(out, c, most)
 }
 
@@ -79,12 +69,9 @@ pub fn write_limits(
         return 0;
     }
     let mut at = 0;
-    let mut column = 0;
-    while column < own.len() {
-        let c = own[column];
+    for (column, &c) in own.iter().enumerate() {
         let n = write_limit_of(&mut out[at..], c, arities[c], table, count, column);
-        at = at + n;
-        column = column + 1;
+        at += n;
     }
     at
 }

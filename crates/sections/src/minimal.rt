@@ -17,11 +17,9 @@ pub(crate) fn write_memberships(out: &mut [u8], indices: &[u8]) -> usize
     ensures { Writes (text (map membership indices.now)) out.old out.new result }
 {
     let mut at = 0;
-    let mut k = 0;
-    while k < indices.len() {
-        let n = write_membership(&mut out[at..], indices[k] as usize);
-        at = at + n;
-        k = k + 1;
+    for &i in indices {
+        let n = write_membership(&mut out[at..], usize::from(i));
+        at += n;
     }
     at
 }
@@ -39,15 +37,12 @@ fn write_exclusions_of(out: &mut [u8], containing: &[u64], i: usize, later: &[u8
 {
     let own = containing[i];
     let mut at = 0;
-    let mut k = 0;
-    while k < later.len() {
-        let j = later[k] as usize;
-        k = k + 1;
-        if common(own, containing[j]) != 0 {
-            continue;
+    for &index in later {
+        let j = usize::from(index);
+        if common(own, containing[j]) == 0 {
+            let n = write_exclusion(&mut out[at..], i, j);
+            at += n;
         }
-        let n = write_exclusion(&mut out[at..], i, j);
-        at = at + n;
     }
     at
 }
@@ -63,12 +58,10 @@ pub(crate) fn write_exclusions(out: &mut [u8], containing: &[u64], indices: &[u8
         result }
 {
     let mut at = 0;
-    let mut k = 0;
-    while k < indices.len() {
-        let i = indices[k] as usize;
-        k = k + 1;
-        let n = write_exclusions_of(&mut out[at..], containing, i, &indices[k..]);
-        at = at + n;
+    for (k, &index) in indices.iter().enumerate() {
+        let i = usize::from(index);
+        let n = write_exclusions_of(&mut out[at..], containing, i, &indices[k + 1..]);
+        at += n;
     }
     at
 }

@@ -18,11 +18,10 @@ fn write_nestings_of(out: &mut [u8], containing: &[u64], i: usize) -> usize
     while rest != 0 {
         let j = first_member(rest);
         rest = without_first(rest);
-        if is_member(containing[j], i) {
-            continue;
+        if !is_member(containing[j], i) {
+            let n = write_nesting(&mut out[at..], i, j);
+            at += n;
         }
-        let n = write_nesting(&mut out[at..], i, j);
-        at = at + n;
     }
     at
 }
@@ -35,7 +34,7 @@ pub(crate) fn write_nestings(out: &mut [u8], containing: &[u64], count: usize) -
     let mut at = 0;
     for i in 0..count {
         let n = write_nestings_of(&mut out[at..], containing, i);
-        at = at + n;
+        at += n;
     }
     at
 }

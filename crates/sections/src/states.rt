@@ -18,7 +18,7 @@ pub fn write_states(out: &mut [u8], table: &[u16], count: usize, size: usize) ->
         let row = 60 * i;
         let end = row + size;
         let n = write_state(&mut out[at..], &table[row..end]);
-        at = at + n;
+        at += n;
     }
     at
 }
