@@ -7,8 +7,8 @@ ghost use Rattle.card.specs.Represents.{refusal_number, blank_atom, atoms_for, b
 // How many bytes the card writer and the listing call ask of their output buffer. Document 01, refusal 21.
 pub const OUTPUT_BYTES: usize = 65536;
 
-// A predicate with up to three arguments; those past the predicate's arity are no part of it.
-#[derive(Clone, Copy)]
+// A predicate with up to three arguments; those past the predicate's arity are no part of it. Atoms are ordered by their four bytes.
+#[derive(Clone, Copy, PartialEq, Eq, PartialOrd, Ord)]
 pub struct Atom {
     pub predicate: u8,
     pub first: u8,

@@ -13,8 +13,7 @@ use Rattle.model.specs.Card as model
 use Rattle.card.specs.declared.Atom.{Atom}
 use Rattle.card.specs.declared.AtomList.{AtomList}
 use Rattle.card.specs.Represents.{refusal_number, atom_of, atom_for, atoms_of, atoms_for, entries, blank_atom}
-use Rattle.reader_atoms.specs.declared.Previous.{Previous}
-use Rattle.reader_atoms.specs.declared.Previous.TheVariants.{Nothing, Atom as After}
+use Rattle.std.proofs.Common.{Option as Maybe, None, Some}
 use Rattle.card.specs.declared.ListField.{ListField}
 use Rattle.card.specs.declared.ListField.TheVariants.{Preconditions, Deletes, Adds}
 use Rattle.card.specs.Fields.{field_test, field_refusal}
@@ -27,11 +26,11 @@ use Rattle.reader_atoms.proofs.Orders.{Kept, below_bytes, has_bytes_lem}
 
 module _ (arities : List ℕ) (a : Atom) (ka : Kept arities a) where
   -- the atom before it is below: so are its bytes
-  pub above_bytes_lem : (previous : Previous) → PreviousKept arities previous
+  pub above_bytes_lem : (previous : Maybe Atom) → PreviousKept arities previous
       → model.above (previous_of arities previous) (atom_of arities a) ≡ above_bytes previous a
   unfolding model.above previous_of previous_for
-  above_bytes_lem Nothing k = refl
-  above_bytes_lem (After b) k = let kb : Kept arities b = cc in below_bytes arities b a kb ka
+  above_bytes_lem None k = refl
+  above_bytes_lem (Some b) k = let kb : Kept arities b = cc in below_bytes arities b a kb ka
 
 module _ {arities : List ℕ} {l : AtomList} (k : AtomsKept arities l) where
   listed : List Atom

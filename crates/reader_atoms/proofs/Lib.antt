@@ -2,5 +2,6 @@ pub mod Many
 pub mod Filling
 pub mod ArgumentBytes
 pub mod Orders
+pub mod Derived
 pub mod AtomReading
 pub mod Checks

@@ -1,57 +1,21 @@
 -- Two atoms compared by all their bytes: as the definitions compare them, since places past the arity hold 0.
-use Prim.Native.Nat.{ℕ, zero, suc, ◌+◌, ◌≤◌, ◌<◌}
+use Prim.Native.Nat.{ℕ, zero, suc}
 use native.Mathlib.Omega.{arith}
-use mathlib.Core.Bool.{Bool, true, false, ◌&&◌, ◌||◌, or-false, and-true}
+use mathlib.Core.Bool.{Bool, true, false, ◌&&◌, ◌||◌}
 use mathlib.Core.List.{List, [], ◌∷◌, ◌++◌, map}
 use mathlib.Core.Path.{◌≡◌, refl, ap, ap₂, ◌∙◌, sym, subst, subst⁻¹}
-use borrow.Author.Tests.{eq-eqb, ne_eqb, le-ltb, eqb-true}
+use borrow.Author.Tests.{eq-eqb, eqb-true}
 use lib.Dec.{ltb, eqb}
 use lib.ListN.{length, take, drop, get_or, length-take}
 use Rattle.laws.specs.Lists.{any, same, before}
 use Rattle.laws.proofs.Orders.{before_append}
 use Rattle.model.specs.Card as model
 use Rattle.card.specs.declared.Atom.{Atom}
-use Rattle.card.specs.declared.AtomList.{AtomList}
-use Rattle.card.specs.Represents.{entries, blank_atom, atom_of, atom_for}
-use Rattle.card.proofs.Entries.{next_entry, no_entry}
-use Rattle.reader_atoms.specs.Atoms.{bytes_of, argument_places, has_bytes}
+use Rattle.card.specs.Represents.{atom_of, atom_for}
+use Rattle.reader_atoms.specs.Atoms.{bytes_of, argument_places}
 
--- a number is the same as itself, and not below itself
 eqb_self : (x : ℕ) → eqb x x ≡ true
 eqb_self x = eq-eqb x x refl
-
-ltb_self : (x : ℕ) → ltb x x ≡ false
-ltb_self x = le-ltb x x (omega arith)
-
--- lists that differ at their first number are in the order of those
-pub before_differs : (x y : ℕ) (xs ys : List ℕ) → (x ≡ y → ⊥) → before (x ∷ xs) (y ∷ ys) ≡ ltb x y
-unfolding before
-before_differs x y xs ys d = rw (ne_eqb x y d, or-false)
-
--- lists with the same first number are in the order of what follows
-pub before_equal : (x y : ℕ) (xs ys : List ℕ) → x ≡ y → before (x ∷ xs) (y ∷ ys) ≡ before xs ys
-unfolding before
-before_equal x y xs ys e = rw (eq-eqb x y e, le-ltb x y (omega arith))
-
-pub before_last : (x y : ℕ) → before (x ∷ []) (y ∷ []) ≡ ltb x y
-unfolding before
-before_last x y = go (eqb x y)
-  where
-    go : (b : Bool) → (ltb x y || (b && false)) ≡ ltb x y
-    go true = or-false (ltb x y)
-    go false = or-false (ltb x y)
-
-pub same_differs : (x y : ℕ) (xs ys : List ℕ) → (x ≡ y → ⊥) → same (x ∷ xs) (y ∷ ys) ≡ false
-unfolding same
-same_differs x y xs ys d = rw (ne_eqb x y d)
-
-pub same_equal : (x y : ℕ) (xs ys : List ℕ) → x ≡ y → same (x ∷ xs) (y ∷ ys) ≡ same xs ys
-unfolding same
-same_equal x y xs ys e = rw (eq-eqb x y e)
-
-pub same_last : (x y : ℕ) → same (x ∷ []) (y ∷ []) ≡ eqb x y
-unfolding same
-same_last x y = and-true (eqb x y)
 
 -- what both lists end in makes no difference, where the parts before it are as long as each other
 pub same_ends : (xs ys zs : List ℕ) → length xs ≡ length ys → same (xs ++ zs) (ys ++ zs) ≡ same xs ys
@@ -127,26 +91,3 @@ has_bytes_lem arities a (b ∷ bs) ka ks =
     let kb : Kept arities b = cc in
     let kr : bs ≡ map atom_for (map (atom_of arities) bs) = cc in
     ap₂ ◌||◌ (same_bytes arities a b ka kb) (has_bytes_lem arities a bs ka kr)
-
--- an atom with the same bytes is on the list from place i on
-unfoldable pub has_from : AtomList → Atom → ℕ → Bool
-has_from l a i = any (λ b. same (bytes_of a) (bytes_of b)) (drop i (entries l.count blank_atom l.atoms))
-
-pub has_first : (l : AtomList) (a : Atom) → has_bytes l a ≡ has_from l a 0
-unfolding has_bytes has_from
-has_first l a = refl
-
-pub has_last : (l : AtomList) (a : Atom) (i : ℕ) → l.count ≤ i → has_from l a i ≡ false
-unfolding has_from any
-has_last l a i h = rw (no_entry l.count blank_atom l.atoms i h)
-
-module _ (l : AtomList) (a : Atom) (i : ℕ) (more : i < l.count) where
-  has_step : has_from l a i ≡ (same (bytes_of a) (bytes_of (get_or l.atoms i blank_atom)) || has_from l a (i + 1))
-  unfolding has_from any
-  has_step = rw (next_entry l.count blank_atom l.atoms i more)
-
-  pub has_found : {t : Bool} → t ≡ same (bytes_of a) (bytes_of (get_or l.atoms i blank_atom)) → t ≡ true → has_from l a i ≡ true
-  has_found e h = has_step ∙ ap (λ t. t || has_from l a (i + 1)) (sym e ∙ h)
-
-  pub has_next : {t : Bool} → t ≡ same (bytes_of a) (bytes_of (get_or l.atoms i blank_atom)) → t ≡ false → has_from l a i ≡ has_from l a (i + 1)
-  has_next e h = has_step ∙ ap (λ t. t || has_from l a (i + 1)) (sym e ∙ h)

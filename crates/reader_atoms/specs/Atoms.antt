@@ -1,5 +1,5 @@
 -- What the code's atoms and the reads of them stand for.
-use Rattle.std.specs.Prelude.{ℕ, ◌≤◌, Bool, true, not, List, [], ◌∷◌, ◌≡◌, ltb, take, drop}
+use Rattle.std.specs.Prelude.{Option as Maybe, None, Some, ℕ, ◌≤◌, Bool, true, not, List, [], ◌∷◌, ◌≡◌, ltb, take, drop}
 use Rattle.std.proofs.Math.Option.{Option, none, some}
 use Rattle.laws.specs.Lists.{any, same, before}
 use Rattle.model.specs.Answer.{Answer}
@@ -16,8 +16,6 @@ use Rattle.reader_bytes.specs.declared.Step.{Step}
 use Rattle.reader_bytes.specs.declared.Step.TheVariants.{At, Refused}
 use Rattle.reader_atoms.specs.declared.AtomRead.{AtomRead}
 use Rattle.reader_atoms.specs.declared.AtomRead.TheVariants.{Found, Refused as NoAtom}
-use Rattle.reader_atoms.specs.declared.Previous.{Previous}
-use Rattle.reader_atoms.specs.declared.Previous.TheVariants.{Nothing, Atom as After}
 use Rattle.reader_bytes.specs.Reads.{Reads}
 
 abbrev pub atom_step : AtomRead → Step
@@ -63,18 +61,18 @@ unfoldable pub has_bytes : AtomList → Atom → Bool
 has_bytes l a = any (λ b. same (bytes_of a) (bytes_of b)) (entries l.count blank_atom l.atoms)
 
 -- the atom before it, if there is one
-unfoldable pub previous_of : List ℕ → Previous → Option model.Atom
-previous_of arities Nothing = none
-previous_of arities (After a) = some (atom_of arities a)
+unfoldable pub previous_of : List ℕ → Maybe Atom → Option model.Atom
+previous_of arities None = none
+previous_of arities (Some a) = some (atom_of arities a)
 
-unfoldable pub previous_for : Option model.Atom → Previous
-previous_for none = Nothing
-previous_for (some a) = After (atom_for a)
+unfoldable pub previous_for : Option model.Atom → Maybe Atom
+previous_for none = None
+previous_for (some a) = Some (atom_for a)
 
 -- the atom stands above the one before it, by their bytes
-abbrev pub above_bytes : Previous → Atom → Bool
-above_bytes Nothing a = true
-above_bytes (After b) a = before (bytes_of b) (bytes_of a)
+abbrev pub above_bytes : Maybe Atom → Atom → Bool
+above_bytes None a = true
+above_bytes (Some b) a = before (bytes_of b) (bytes_of a)
 
 -- the test of each list, by bytes
 abbrev pub belongs_bytes : ListField → AtomList → Atom → Bool
@@ -92,7 +90,7 @@ pub record AtomsKept (arities : List ℕ) (l : AtomList) : Type 0 where
   pub few : l.count ≤ 8
   pub kept : l ≡ atoms_for (atoms_of arities l)
 
-abbrev pub PreviousKept : List ℕ → Previous → Type 0
+abbrev pub PreviousKept : List ℕ → Maybe Atom → Type 0
 PreviousKept arities previous = previous ≡ previous_for (previous_of arities previous)
 
 -- What the functions promise: the code's whole answer at a place on the card.
@@ -103,11 +101,11 @@ ArgumentsReadAt predicate arity bound refusal card at r =
 abbrev pub AtomReadAt : List ℕ → ℕ → Refusal → List ℕ → ℕ → AtomRead → Type 0
 AtomReadAt arities bound refusal card at r = AtomReads arities card (model.atom arities bound (refusal_number refusal) (drop at card)) r
 
-abbrev pub SchemaAtomReadAt : List ℕ → ℕ → ListField → AtomList → Previous → List ℕ → ℕ → AtomRead → Type 0
+abbrev pub SchemaAtomReadAt : List ℕ → ℕ → ListField → AtomList → Maybe Atom → List ℕ → ℕ → AtomRead → Type 0
 SchemaAtomReadAt arities parameters field preconditions previous card at r =
     let read = field_atom arities parameters field (atoms_of arities preconditions) (previous_of arities previous) in
     AtomReads arities card (read (drop at card)) r
 
-abbrev pub FactReadAt : List ℕ → ℕ → Previous → List ℕ → ℕ → AtomRead → Type 0
+abbrev pub FactReadAt : List ℕ → ℕ → Maybe Atom → List ℕ → ℕ → AtomRead → Type 0
 FactReadAt arities objects previous card at r =
     AtomReads arities card (model.fact arities objects (previous_of arities previous) (drop at card)) r

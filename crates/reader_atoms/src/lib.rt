@@ -2,11 +2,10 @@
 #![tactic(auto)]
 
 ghost use Rattle.std.specs.Prelude.{◌≤◌, true, ◌≡◌, length};
-ghost use Rattle.laws.specs.Lists.{same, before};
 ghost use Rattle.model.specs.Card.{in_range};
 ghost use Rattle.card.specs.Fields.{field_refusal};
 ghost use Rattle.reader_atoms.specs.Atoms.{ArgumentsReadAt, AtomReadAt, SchemaAtomReadAt, FactReadAt, AtomsKept, PreviousKept};
-ghost use Rattle.reader_atoms.specs.Atoms.{bytes_of, has_bytes, above_bytes, belongs_bytes, refusal_of_atom};
+ghost use Rattle.reader_atoms.specs.Atoms.{has_bytes, above_bytes, belongs_bytes, refusal_of_atom};
 
 use card::{Atom, AtomList, ListField, Refusal};
 use reader_bytes::{ByteRead, Cursor};
@@ -99,69 +98,19 @@ fn atom(card: &[u8], c: Cursor, arities: &[u8], bound: usize, refusal: Refusal) 
     arguments(card, c, predicate, arity, bound, refusal)
 }
 
-// The first atom stands below the second, byte by byte.
-fn is_below(a: Atom, b: Atom) -> bool
-    ensures { result ≡ before (bytes_of a) (bytes_of b) }
-{
-    if a.predicate != b.predicate {
-        return a.predicate < b.predicate;
-    }
-    if a.first != b.first {
-        return a.first < b.first;
-    }
-    if a.second != b.second {
-        return a.second < b.second;
-    }
-    a.third < b.third
-}
-
-fn is_same(a: Atom, b: Atom) -> bool
-    ensures { result ≡ same (bytes_of a) (bytes_of b) }
-{
-    if a.predicate != b.predicate {
-        return false;
-    }
-    if a.first != b.first {
-        return false;
-    }
-    if a.second != b.second {
-        return false;
-    }
-    a.third == b.third
-}
-
 // The atom is on the list.
 fn has(list: AtomList, a: Atom) -> bool
     requires { (list.count ≤ 8) × (length list.atoms ≡ 8) }
     ensures { result ≡ has_bytes list a }
 {
-    let count = list.count;
-    let mut i = 0;
-    while i < count {
-        let b = list.atoms[i];
-        if is_same(a, b) {
-            return true;
-        }
-        i = i + 1;
-    }
-    false
-}
-
-// The atom before, on a list.
-#[derive(Clone, Copy)]
-pub enum Previous {
-    Nothing,
-    Atom(Atom),
+    list.atoms[..list.count].contains(&a)
 }
 
 // The atom stands above the one before it, if there is one.
-fn is_above(previous: Previous, a: Atom) -> bool
+fn is_above(previous: Option<Atom>, a: Atom) -> bool
     ensures { result ≡ above_bytes previous a }
 {
-    match previous {
-        Previous::Nothing => true,
-        Previous::Atom(b) => is_below(b, a),
-    }
+    previous.is_none_or(|b| b < a)
 }
 
 // The atom passes the check of its own list: a deleted atom is a precondition, an added one is none.
@@ -195,7 +144,7 @@ pub fn schema_atom(
     parameters: usize,
     field: ListField,
     preconditions: AtomList,
-    previous: Previous,
+    previous: Option<Atom>,
 ) -> AtomRead
     requires { (in_range arities.now ≡ true) × AtomsKept arities.now preconditions × PreviousKept arities.now previous }
     ensures { SchemaAtomReadAt arities.now parameters field preconditions previous card.now c.at result }
@@ -214,7 +163,13 @@ pub fn schema_atom(
 }
 
 // A fact.
-pub fn fact(card: &[u8], c: Cursor, arities: &[u8], objects: usize, previous: Previous) -> AtomRead
+pub fn fact(
+    card: &[u8],
+    c: Cursor,
+    arities: &[u8],
+    objects: usize,
+    previous: Option<Atom>,
+) -> AtomRead
     requires { (in_range arities.now ≡ true) × PreviousKept arities.now previous }
     ensures { FactReadAt arities.now objects previous card.now c.at result }
 {

@@ -12,15 +12,14 @@ use Rattle.card.specs.Represents.{refusal_number, atom_of, atom_for, blank_atom}
 use Rattle.reader_bytes.specs.declared.Cursor.{Cursor}
 use Rattle.reader_atoms.specs.declared.AtomRead.{AtomRead}
 use Rattle.reader_atoms.specs.declared.AtomRead.TheVariants.{Found, Refused as NoAtom}
-use Rattle.reader_atoms.specs.declared.Previous.{Previous}
-use Rattle.reader_atoms.specs.declared.Previous.TheVariants.{Nothing, Atom as After}
+use Rattle.std.proofs.Common.{Option as Maybe, None, Some}
 use Rattle.reader_atoms.specs.Atoms.{AtomReads, previous_of, previous_for, PreviousKept, refusal_of_atom}
 use Rattle.reader_atoms.proofs.AtomReading.{atom_read, atom_within, atom_kept, atom_refusal}
 use Rattle.reader_atoms.proofs.Filling.{Filling, last_of, filling_starts, filling_goes_on, filling_stops, filling_last}
 
 module _ (arities : List ℕ) (size : ℕ) (read : Option model.Atom → model.Reader model.Atom) (n : ℕ) (start card : List ℕ) where
   -- i of n atoms are read, up to a place on the card, and `previous` is the last of them
-  pub record Ordered (array : List Atom) (i at : ℕ) (previous : Previous) : Type 0 where
+  pub record Ordered (array : List Atom) (i at : ℕ) (previous : Maybe Atom) : Type 0 where
     pub within : at ≤ length card
     pub filling : Filling (atom_of arities) atom_for blank_atom size read n start array i (drop at card)
     pub last : previous_of arities previous ≡ last_of none (map (atom_of arities) (take i array))
@@ -29,7 +28,7 @@ module _ (arities : List ℕ) (size : ℕ) (read : Option model.Atom → model.R
 -- nothing is read yet
 pub ordered_starts : {arities : List ℕ} {size : ℕ} {read : Option model.Atom → model.Reader model.Atom} {n : ℕ} {start card : List ℕ}
     {array : List Atom} {at : ℕ} → n ≤ size → at ≤ length card → start ≡ drop at card → array ≡ replicate size blank_atom
-    → Ordered arities size read n start card array 0 at Nothing
+    → Ordered arities size read n start card array 0 at None
 unfolding previous_of previous_for last_of
 ordered_starts {arities} {size} {read} {n} {start} {array = array} few within here blank =
     record {
@@ -43,10 +42,10 @@ ordered_starts {arities} {size} {read} {n} {start} {array = array} few within he
     }
 
 module _ {arities : List ℕ} {size : ℕ} {read : Option model.Atom → model.Reader model.Atom} {n : ℕ} {start card : List ℕ}
-    {array : List Atom} {i at : ℕ} {previous : Previous} {r : AtomRead} (o : Ordered arities size read n start card array i at previous) (more : i < n)
+    {array : List Atom} {i at : ℕ} {previous : Maybe Atom} {r : AtomRead} (o : Ordered arities size read n start card array i at previous) (more : i < n)
     (w : AtomReads arities card (read (previous_of arities previous) (drop at card)) r) where
   -- the next atom is stored
-  pub ordered_goes_on : {a : Atom} {c : Cursor} → r ≡ Found a c → Ordered arities size read n start card (set array i a) (i + 1) c.at (After a)
+  pub ordered_goes_on : {a : Atom} {c : Cursor} → r ≡ Found a c → Ordered arities size read n start card (set array i a) (i + 1) c.at (Some a)
   unfolding previous_of previous_for
   ordered_goes_on {a} {c} e =
       let next = subst (λ p. read p (drop at card) ≡ accepted (atom_of arities a, drop c.at card)) o.last (atom_read w e) in
@@ -54,7 +53,7 @@ module _ {arities : List ℕ} {size : ℕ} {read : Option model.Atom → model.R
         within = atom_within w e;
         filling = filling_goes_on o.filling more next (atom_kept w e);
         last = sym (filling_last o.filling a more);
-        kept = ap After (atom_kept w e);
+        kept = ap Some (atom_kept w e);
       }
 
   -- the next atom is refused

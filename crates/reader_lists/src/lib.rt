@@ -10,7 +10,7 @@ ghost use Rattle.reader_lists.specs.ListReads.{AtomsReadIn, ListReadAt, AritiesR
 use card::{
     ArityList, Atom, AtomList, FactList, ListField, Refusal, no_arities, no_atoms, no_facts,
 };
-use reader_atoms::{AtomRead, Previous};
+use reader_atoms::AtomRead;
 use reader_bytes::{ByteRead, Cursor, Step};
 
 #[derive(Clone, Copy)]
@@ -44,10 +44,9 @@ fn atoms(
     ensures { AtomsReadIn arities.now parameters field preconditions count part.now result }
 {
     let mut list = no_atoms();
-    let mut previous = Previous::Nothing;
+    let mut previous: Option<Atom> = None;
     let mut at = 0;
-    let mut i = 0;
-    while i < count {
+    for i in 0..count {
         let read = reader_atoms::schema_atom(
             part,
             Cursor { at: at },
@@ -64,9 +63,8 @@ fn atoms(
             };
         };
         list.atoms[i] = a;
-        previous = Previous::Atom(a);
+        previous = Some(a);
         at = after.at;
-        i = i + 1;
     }
     list.count = count;
     AtomsRead {
@@ -128,8 +126,7 @@ pub fn arities(card: &[u8], c: Cursor, count: usize) -> AritiesRead
 {
     let mut list = no_arities();
     let mut at = c.at;
-    let mut i = 0;
-    while i < count {
+    for i in 0..count {
         let read = reader_bytes::byte_between(
             card,
             Cursor { at: at },
@@ -145,7 +142,6 @@ pub fn arities(card: &[u8], c: Cursor, count: usize) -> AritiesRead
         };
         list.arities[i] = arity;
         at = after.at;
-        i = i + 1;
     }
     list.count = count;
     AritiesRead {
@@ -160,10 +156,9 @@ pub fn facts(card: &[u8], c: Cursor, count: usize, arities: &[u8], objects: usiz
     ensures { FactsReadAt arities.now objects count card.now c.at result }
 {
     let mut list = no_facts();
-    let mut previous = Previous::Nothing;
+    let mut previous: Option<Atom> = None;
     let mut at = c.at;
-    let mut i = 0;
-    while i < count {
+    for i in 0..count {
         let read = reader_atoms::fact(card, Cursor { at: at }, arities, objects, previous);
         let AtomRead::Found(f, after) = read else {
             return FactsRead {
@@ -172,9 +167,8 @@ pub fn facts(card: &[u8], c: Cursor, count: usize, arities: &[u8], objects: usiz
             };
         };
         list.facts[i] = f;
-        previous = Previous::Atom(f);
+        previous = Some(f);
         at = after.at;
-        i = i + 1;
     }
     list.count = count;
     FactsRead {
