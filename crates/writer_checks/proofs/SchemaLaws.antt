@@ -1,11 +1,13 @@
 -- The check of a schema: its header, then its three lists, each by its count and then atom by atom.
 use Prim.Native.Nat.{ℕ, ◌≤◌, ◌<◌}
-use mathlib.Core.Path.{◌≡◌}
+use Rattle.std.proofs.Common.{true, false, Ok, Err}
+use mathlib.Core.Path.{◌≡◌, sym}
 use mathlib.Core.List.{List}
 use mathlib.Core.Option.{Option, none}
 use borrow.Author.Tests.{le-leb, lt-leb, leb-true}
 use Rattle.model.specs.Answer.{Answer, accepted, ◌>>◌, need}
 use Rattle.model.specs.Card as model
+use Rattle.model.specs.Card.{between}
 use Rattle.model.specs.Writer.{each, check_schema_atom, check_list, check_schema}
 use Rattle.card.specs.Represents.{atoms_of, schema_of, refusal_number}
 use Rattle.card.specs.declared.AtomList.{AtomList}
@@ -13,19 +15,16 @@ use Rattle.card.specs.declared.Schema.{Schema}
 use Rattle.card.specs.declared.Refusal.{Refusal}
 use Rattle.card.specs.declared.Refusal.TheVariants.{HeaderRange, ListRange}
 use Rattle.writer_checks.specs.Checking.{checked_says}
-use Rattle.writer_checks.specs.declared.checking.Checked.{Checked}
-use Rattle.writer_checks.specs.declared.checking.Checked.TheVariants.{Passed, Refused}
 use Rattle.card.specs.declared.ListField.{ListField}
 use Rattle.card.specs.declared.ListField.TheVariants.{Preconditions, Deletes, Adds}
 use Rattle.card.specs.Fields.{field_test, field_refusal}
 use Rattle.card.proofs.Entries.{length_atoms}
-use Rattle.model.proofs.CheckParts.{between_below, between_above, between_intro}
 use Rattle.model.proofs.Answers.{need_inv}
-use Rattle.writer_checks.proofs.Sequence.{passed_says, then_left, then_refused, then_passed}
+use Rattle.writer_checks.proofs.Sequence.{then_left, then_refused, then_passed}
 
 -- a list by its count
 module _ (check : Option model.Atom → model.Atom → Answer (Unit {0})) (arities : List ℕ) (list : AtomList) where
-  pub long_list : 8 < list.count → checked_says (Refused ListRange) ≡ check_list check (atoms_of arities list)
+  pub long_list : 8 < list.count → checked_says (Err ListRange) ≡ check_list check (atoms_of arities list)
   unfolding checked_says check_list need ◌>>◌ refusal_number
   long_list h = rw (length_atoms arities list, lt-leb list.count 8 h)
 
@@ -48,35 +47,33 @@ list_check arities s field list =
     (atoms_of arities list)
 
 module _ (arities : List ℕ) (s : Schema) where
-  pub low_header : s.parameters < 1 → checked_says (Refused HeaderRange) ≡ check_schema arities (schema_of arities s)
+  pub wrong_header : false ≡ between 1 6 s.parameters → checked_says (Err HeaderRange) ≡ check_schema arities (schema_of arities s)
   unfolding checked_says check_schema schema_of need ◌>>◌ refusal_number
-  low_header h = rw (between_below 1 6 s.parameters h)
+  wrong_header h = rw (← h)
 
-  pub high_header : 6 < s.parameters → checked_says (Refused HeaderRange) ≡ check_schema arities (schema_of arities s)
-  unfolding checked_says check_schema schema_of need ◌>>◌ refusal_number
-  high_header h = rw (between_above 1 6 s.parameters h)
+  pub preconditions_short : (done : Unit {0}) → checked_says (Ok done) ≡ list_check arities s Preconditions s.preconditions
+      → s.preconditions.count ≤ 8
+  unfolding checked_says
+  preconditions_short done passed = passed_list _ arities s.preconditions (sym passed)
 
-  module _ (low : 1 ≤ s.parameters) (high : s.parameters ≤ 6) where
+  module _ (header : true ≡ between 1 6 s.parameters) where
     three_lists : (answer : Answer (Unit {0}))
         → answer
         ≡ list_check arities s Preconditions s.preconditions
         >> (list_check arities s Deletes s.deletes >> list_check arities s Adds s.adds)
         → answer ≡ check_schema arities (schema_of arities s)
     unfolding check_schema schema_of need ◌>>◌ field_test refusal_number
-    three_lists answer e = rw (between_intro 1 6 s.parameters low high) e
+    three_lists answer e = rw (← header) e
 
-    module _ (c₁ : Checked) (says₁ : checked_says c₁ ≡ list_check arities s Preconditions s.preconditions) where
-      pub preconditions_refused : (r : Refusal) → c₁ ≡ Refused r → checked_says c₁ ≡ check_schema arities (schema_of arities s)
-      preconditions_refused r e = three_lists _ (then_refused _ _ _ says₁ r e)
+    pub preconditions_refused : (r : Refusal) → checked_says (Err r) ≡ list_check arities s Preconditions s.preconditions
+        → checked_says (Err r) ≡ check_schema arities (schema_of arities s)
+    preconditions_refused r says = three_lists _ (then_refused r _ says)
 
-      pub preconditions_short : c₁ ≡ Passed → s.preconditions.count ≤ 8
-      preconditions_short e = passed_list _ arities s.preconditions (passed_says c₁ _ says₁ e)
+    module _ (done : Unit {0}) (passed : checked_says (Ok done) ≡ list_check arities s Preconditions s.preconditions) where
+      pub deletes_refused : (r : Refusal) → checked_says (Err r) ≡ list_check arities s Deletes s.deletes
+          → checked_says (Err r) ≡ check_schema arities (schema_of arities s)
+      deletes_refused r says = three_lists _ (then_passed done passed (then_refused r _ says))
 
-      module _ (passed₁ : c₁ ≡ Passed) (c₂ : Checked) (says₂ : checked_says c₂ ≡ list_check arities s Deletes s.deletes) where
-        pub deletes_refused : (r : Refusal) → c₂ ≡ Refused r → checked_says c₂ ≡ check_schema arities (schema_of arities s)
-        deletes_refused r e = three_lists _ (then_passed _ _ _ says₁ passed₁ _ (then_refused _ _ _ says₂ r e))
-
-        pub deletes_passed : c₂ ≡ Passed → (answer : Answer (Unit {0})) → answer ≡ list_check arities s Adds s.adds
-            → answer ≡ check_schema arities (schema_of arities s)
-        deletes_passed passed₂ answer e =
-            three_lists _ (then_passed _ _ _ says₁ passed₁ _ (then_passed _ _ _ says₂ passed₂ answer e))
+      pub deletes_passed : (then : Unit {0}) → checked_says (Ok then) ≡ list_check arities s Deletes s.deletes
+          → (answer : Answer (Unit {0})) → answer ≡ list_check arities s Adds s.adds → answer ≡ check_schema arities (schema_of arities s)
+      deletes_passed then says answer e = three_lists _ (then_passed done passed (then_passed then says e))

@@ -11,108 +11,80 @@ ghost use Rattle.writer_checks.specs.Checking.{checked_says, previous, check_ord
 use crate::atoms::{is_below, is_known, is_same};
 use card::{Atom, AtomList, FactList, ListField, Refusal, Schema, SchemaList, Task};
 
-// What a check answers.
-#[derive(Clone, Copy)]
-pub enum Checked {
-    Passed,
-    Refused(Refusal),
-}
-
 // The atom is on the list.
 fn has_atom(arities: &[u8], list: AtomList, a: Atom) -> bool
     requires { list.count ≤ 8 }
     ensures { result ≡ model.has (atoms_of arities.now list) (atom_of arities.now a) }
 {
-    let count = list.count;
-    let mut i = 0;
-    while i < count {
-        let b = list.atoms[i];
-        if is_same(arities, a, b) {
-            return true;
-        }
-        i += 1;
-    }
-    false
+    list.atoms[..list.count]
+        .iter()
+        .any(|b| is_same(arities, a, *b))
 }
 
-// An atom, item i of its list, after the one before it.
+// An atom after the one before it, if there is one.
 fn check_atom(
     arities: &[u8],
     bound: usize,
     unknown: Refusal,
     disorder: Refusal,
-    i: usize,
-    before: Atom,
+    before: Option<Atom>,
     a: Atom,
-) -> Checked
+) -> Result<(), Refusal>
     ensures { checked_says result ≡ check_ordered arities.now bound (refusal_number unknown) (refusal_number disorder)
-        (previous i (atom_of arities.now before)) (atom_of arities.now a) }
+        (previous arities.now before) (atom_of arities.now a) }
 {
     if !is_known(arities, bound, a) {
-        return Checked::Refused(unknown);
+        return Err(unknown);
     }
-    if i == 0 {
-        return Checked::Passed;
+    match before {
+        Some(b) if !is_below(arities, b, a) => Err(disorder),
+        _ => Ok(()),
     }
-    if !is_below(arities, before, a) {
-        return Checked::Refused(disorder);
-    }
-    Checked::Passed
 }
 
 // 9 and 10: an atom beside the preconditions of its schema.
-fn check_field(arities: &[u8], field: ListField, preconditions: AtomList, a: Atom) -> Checked
+fn check_field(
+    arities: &[u8],
+    field: ListField,
+    preconditions: AtomList,
+    a: Atom,
+) -> Result<(), Refusal>
     requires { preconditions.count ≤ 8 }
     ensures { checked_says result ≡ need
         (field_test field (atoms_of arities.now preconditions) (atom_of arities.now a))
         (refusal_number (field_refusal field)) }
 {
     match field {
-        ListField::Preconditions => Checked::Passed,
-        ListField::Deletes => {
-            if has_atom(arities, preconditions, a) {
-                Checked::Passed
-            } else {
-                Checked::Refused(Refusal::DeleteNotPrecondition)
-            }
+        ListField::Deletes if !has_atom(arities, preconditions, a) => {
+            Err(Refusal::DeleteNotPrecondition)
         }
-        ListField::Adds => {
-            if has_atom(arities, preconditions, a) {
-                Checked::Refused(Refusal::AddIsPrecondition)
-            } else {
-                Checked::Passed
-            }
-        }
+        ListField::Adds if has_atom(arities, preconditions, a) => Err(Refusal::AddIsPrecondition),
+        _ => Ok(()),
     }
 }
 
-// 7 to 10: an atom of a schema, item i of its list.
+// 7 to 10: an atom of a schema, after the one before it on its list.
 fn check_schema_atom(
     arities: &[u8],
     parameters: usize,
     field: ListField,
     preconditions: AtomList,
-    i: usize,
-    before: Atom,
+    before: Option<Atom>,
     a: Atom,
-) -> Checked
+) -> Result<(), Refusal>
     requires { preconditions.count ≤ 8 }
     ensures { checked_says result ≡ writer.check_schema_atom arities.now parameters
         (field_test field (atoms_of arities.now preconditions)) (refusal_number (field_refusal field))
-        (previous i (atom_of arities.now before)) (atom_of arities.now a) }
+        (previous arities.now before) (atom_of arities.now a) }
 {
-    let ordered = check_atom(
+    check_atom(
         arities,
         parameters,
         Refusal::AtomUnknown,
         Refusal::AtomOrder,
-        i,
         before,
         a,
-    );
-    let Checked::Passed = ordered else {
-        return ordered;
-    };
+    )?;
     check_field(arities, field, preconditions, a)
 }
 
@@ -123,26 +95,19 @@ fn check_atoms(
     field: ListField,
     preconditions: AtomList,
     list: AtomList,
-) -> Checked
+) -> Result<(), Refusal>
     requires { (preconditions.count ≤ 8) × (list.count ≤ 8) }
     ensures { checked_says result ≡ writer.each
         (writer.check_schema_atom arities.now parameters
         (field_test field (atoms_of arities.now preconditions)) (refusal_number (field_refusal field)))
         none (atoms_of arities.now list) }
 {
-    let count = list.count;
-    let mut before = list.atoms[0];
-    let mut i = 0;
-    while i < count {
-        let a = list.atoms[i];
-        let checked = check_schema_atom(arities, parameters, field, preconditions, i, before, a);
-        let Checked::Passed = checked else {
-            return checked;
-        };
-        before = a;
-        i += 1;
+    let mut before = None;
+    for &a in &list.atoms[..list.count] {
+        check_schema_atom(arities, parameters, field, preconditions, before, a)?;
+        before = Some(a);
     }
-    Checked::Passed
+    Ok(())
 }
 
 // 6: one list of a schema.
@@ -152,7 +117,7 @@ fn check_list(
     field: ListField,
     preconditions: AtomList,
     list: AtomList,
-) -> Checked
+) -> Result<(), Refusal>
     requires { list.count ≤ 8 → preconditions.count ≤ 8 }
     ensures { checked_says result ≡ writer.check_list
         (writer.check_schema_atom arities.now parameters
@@ -160,154 +125,114 @@ fn check_list(
         (atoms_of arities.now list) }
 {
     if list.count > 8 {
-        return Checked::Refused(Refusal::ListRange);
+        return Err(Refusal::ListRange);
     }
     check_atoms(arities, parameters, field, preconditions, list)
 }
 
 // 5: a schema.
-fn check_schema(arities: &[u8], s: Schema) -> Checked
+fn check_schema(arities: &[u8], s: Schema) -> Result<(), Refusal>
     ensures { checked_says result ≡ writer.check_schema arities.now (schema_of arities.now s) }
 {
-    let parameters = s.parameters;
-    let preconditions = s.preconditions;
-    let deletes = s.deletes;
-    let adds = s.adds;
-    if parameters < 1 {
-        return Checked::Refused(Refusal::HeaderRange);
+    if !(1..=6).contains(&s.parameters) {
+        return Err(Refusal::HeaderRange);
     }
-    if parameters > 6 {
-        return Checked::Refused(Refusal::HeaderRange);
-    }
-    let first = check_list(
+    check_list(
         arities,
-        parameters,
+        s.parameters,
         ListField::Preconditions,
-        preconditions,
-        preconditions,
-    );
-    let Checked::Passed = first else {
-        return first;
-    };
-    let second = check_list(
+        s.preconditions,
+        s.preconditions,
+    )?;
+    check_list(
         arities,
-        parameters,
+        s.parameters,
         ListField::Deletes,
-        preconditions,
-        deletes,
-    );
-    let Checked::Passed = second else {
-        return second;
-    };
-    check_list(arities, parameters, ListField::Adds, preconditions, adds)
+        s.preconditions,
+        s.deletes,
+    )?;
+    check_list(
+        arities,
+        s.parameters,
+        ListField::Adds,
+        s.preconditions,
+        s.adds,
+    )
 }
 
 // The schemas, one after the other.
-fn check_schemas(arities: &[u8], list: SchemaList) -> Checked
+fn check_schemas(arities: &[u8], list: SchemaList) -> Result<(), Refusal>
     requires { list.count ≤ 32 }
     ensures { checked_says result ≡ writer.each (λ before. writer.check_schema arities.now) none
         (schemas_of arities.now list) }
 {
-    let count = list.count;
-    let mut i = 0;
-    while i < count {
-        let s = list.schemas[i];
-        let checked = check_schema(arities, s);
-        let Checked::Passed = checked else {
-            return checked;
-        };
-        i += 1;
+    for &s in &list.schemas[..list.count] {
+        check_schema(arities, s)?;
     }
-    Checked::Passed
+    Ok(())
 }
 
 // 12 and 13.
-fn check_facts(arities: &[u8], objects: usize, list: FactList) -> Checked
+fn check_facts(arities: &[u8], objects: usize, list: FactList) -> Result<(), Refusal>
     requires { list.count ≤ 512 }
     ensures { checked_says result ≡ writer.each (writer.check_fact arities.now objects) none
         (facts_of arities.now list) }
 {
-    let count = list.count;
-    let mut before = list.facts[0];
-    let mut i = 0;
-    while i < count {
-        let f = list.facts[i];
-        let checked = check_atom(
+    let mut before = None;
+    for &f in &list.facts[..list.count] {
+        check_atom(
             arities,
             objects,
             Refusal::FactUnknown,
             Refusal::FactOrder,
-            i,
             before,
             f,
-        );
-        let Checked::Passed = checked else {
-            return checked;
-        };
-        before = f;
-        i += 1;
+        )?;
+        before = Some(f);
     }
-    Checked::Passed
+    Ok(())
 }
 
 // Every arity is 1 to 3.
 fn arities_within(arities: &[u8]) -> bool
     ensures { result ≡ model.in_range arities.now }
 {
-    let mut i = 0;
-    while i < arities.len() {
-        if arities[i] < 1 {
-            return false;
-        }
-        if arities[i] > 3 {
-            return false;
-        }
-        i += 1;
-    }
-    true
+    arities.iter().all(|a| (1..=3).contains(a))
 }
 
 // 3, 4 and 11 to 13: what follows the arities.
-fn check_rest(arities: &[u8], objects: usize, schemas: SchemaList, facts: FactList) -> Checked
+fn check_rest(
+    arities: &[u8],
+    objects: usize,
+    schemas: SchemaList,
+    facts: FactList,
+) -> Result<(), Refusal>
     ensures { checked_says result ≡ check_rest arities.now objects schemas facts }
 {
-    if objects < 1 {
-        return Checked::Refused(Refusal::ObjectRange);
-    }
-    if objects > 64 {
-        return Checked::Refused(Refusal::ObjectRange);
+    if !(1..=64).contains(&objects) {
+        return Err(Refusal::ObjectRange);
     }
     if schemas.count > 32 {
-        return Checked::Refused(Refusal::SchemaRange);
+        return Err(Refusal::SchemaRange);
     }
-    let checked = check_schemas(arities, schemas);
-    let Checked::Passed = checked else {
-        return checked;
-    };
+    check_schemas(arities, schemas)?;
     if facts.count > 512 {
-        return Checked::Refused(Refusal::FactRange);
+        return Err(Refusal::FactRange);
     }
     check_facts(arities, objects, facts)
 }
 
 // A table that a card can carry, or the refusal that card order meets first.
-pub fn check_task(task: Task) -> Checked
+pub fn check_task(task: Task) -> Result<(), Refusal>
     ensures { checked_says result ≡ writer.check_task (task_of task) }
 {
     let predicates = task.predicates;
-    let schemas = task.schemas;
-    let facts = task.facts;
-    let count = predicates.count;
-    if count < 1 {
-        return Checked::Refused(Refusal::PredicateRange);
+    if !(1..=20).contains(&predicates.count) {
+        return Err(Refusal::PredicateRange);
     }
-    if count > 20 {
-        return Checked::Refused(Refusal::PredicateRange);
-    }
-    let array = predicates.arities;
-    let arities = &array[0..count];
+    let arities = &predicates.arities[..predicates.count];
     if !arities_within(arities) {
-        return Checked::Refused(Refusal::PredicateRange);
+        return Err(Refusal::PredicateRange);
     }
-    check_rest(arities, task.objects, schemas, facts)
+    check_rest(arities, task.objects, task.schemas, task.facts)
 }
