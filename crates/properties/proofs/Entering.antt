@@ -184,6 +184,11 @@ pub record Left (most first n : ℕ) (ys table whole : List ℕ) : Type 0 where
   pub fits : Talliable most first (take n ys) table
   pub rest : tallied_rows first (take n ys) table ≡ whole
 
+-- at first all of them are left
+pub left_all : {most first n : ℕ} {ys table : List ℕ} → Talliable most first (take n ys) table
+    → Left most first n ys table (tallied_rows first (take n ys) table)
+left_all fits = record { fits = fits; rest = refl }
+
 module _ {most first n y : ℕ} {ys table whole : List ℕ} (left : Left most first n (y ∷ ys) table whole) (some : 1 ≤ n) where
   parted : take n (y ∷ ys) ≡ y ∷ take (n - 1) ys
   parted = ap (λ (k : ℕ). take k (y ∷ ys)) (one_less some)

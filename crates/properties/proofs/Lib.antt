@@ -12,3 +12,4 @@ pub mod SchemaLists
 pub mod ArityTable
 pub mod ParameterRules
 pub mod Turns
+pub mod Counting

@@ -10,48 +10,9 @@ ghost use Rattle.properties.specs.Entered.{RoomFrom, SchemaEntered};
 ghost use Rattle.properties.specs.Tables.{rows_before};
 ghost use Rattle.properties.specs.Tallies.{raised, tallied_rows, Talliable};
 
-use crate::{numbered, wide};
-use card::{ArityList, Atom, AtomList, Schema, SchemaList};
-
-// Empties the first rows of a table of parameters' bags.
-fn clear_rows(table: &mut [u8], rows: usize)
-    requires { 60 * rows ≤ length table.old }
-    ensures { table.new ≡ replicate (60 * rows) 0 ++ drop (60 * rows) table.old }
-{
-    let end = rows * 60;
-    let mut i: usize = 0;
-    while i < end {
-        table[i] = 0;
-        i = i + 1;
-    }
-}
-
-// Counts a property of a parameter, in the parameter's row.
-fn enter_argument(table: &mut [u8], parameter: u8, property: usize)
-    requires property_in_bounds { 60 * parameter + property < length table.old }
-    requires property_bound { get_or table.old (60 * parameter + property) 0 < 255 }
-    ensures { table.new ≡ raised table.old (60 * parameter + property) }
-{
-    let place = 60 * wide(parameter) + property;
-    table[place] = table[place] + 1;
-}
-
-// Counts an atom for each of its parameters: the properties of its predicate begin at `first`, and it has `arity` arguments.
-fn enter_atom(table: &mut [u8], first: usize, atom: Atom, arity: usize)
-    requires le_arity { (1 ≤ arity) × (arity ≤ 3) }
-    requires talliable { Talliable 255 first (take arity (atom.first ∷ atom.second ∷ atom.third ∷ [])) table.old }
-    ensures { table.new ≡ tallied_rows first (take arity (atom.first ∷ atom.second ∷ atom.third ∷ [])) table.old }
-{
-    enter_argument(table, atom.first, first);
-    if arity < 2 {
-        return;
-    }
-    enter_argument(table, atom.second, first + 1);
-    if arity < 3 {
-        return;
-    }
-    enter_argument(table, atom.third, first + 2);
-}
+use crate::counts::enter_atoms;
+use crate::numbered;
+use card::{ArityList, AtomList, Schema, SchemaList};
 
 // The bags of a schema's parameters over one of its lists of atoms, from the start of the table.
 fn enter_list(
@@ -68,16 +29,14 @@ fn enter_list(
     ensures { table.new
         ≡ rows_before (bags_over (properties_from 0 (arities_of predicates)) (atoms_of (arities_of predicates) atoms) parameters) table.old }
 {
-    clear_rows(table, parameters);
-    let n = atoms.count;
-    let mut i: usize = 0;
-    while i < n {
-        let a = atoms.atoms[i];
-        let p = wide(a.predicate);
-        let arity = wide(predicates.arities[p]);
-        enter_atom(table, firsts[p], a, arity);
-        i = i + 1;
-    }
+    table[..60 * parameters].fill(0);
+    enter_atoms(
+        table,
+        parameters,
+        &atoms.atoms[..atoms.count],
+        predicates,
+        firsts,
+    );
 }
 
 // The bags of a schema's parameters, in rows from the place `at` of the three tables on.
@@ -131,10 +90,8 @@ pub fn parameter_bags(
 {
     let numbers = numbered(predicates);
     let firsts = numbers.firsts;
-    let m = schemas.count;
     let mut count: usize = 0;
-    let mut i: usize = 0;
-    while i < m {
+    for i in 0..schemas.count {
         let schema = schemas.schemas[i];
         enter_schema(
             preconditions,
@@ -145,8 +102,7 @@ pub fn parameter_bags(
             predicates,
             firsts,
         );
-        count = count + schema.parameters;
-        i = i + 1;
+        count += schema.parameters;
     }
     count
 }
@@ -156,13 +112,9 @@ pub fn parameters_of(schemas: SchemaList) -> usize
     requires { SchemasSmall schemas }
     ensures { (arities : List ℕ) → result ≡ parameters_in (schemas_of arities schemas) }
 {
-    let m = schemas.count;
     let mut parameters: usize = 0;
-    let mut i: usize = 0;
-    while i < m {
-        let schema = schemas.schemas[i];
-        parameters = parameters + schema.parameters;
-        i = i + 1;
+    for schema in &schemas.schemas[..schemas.count] {
+        parameters += schema.parameters;
     }
     parameters
 }
