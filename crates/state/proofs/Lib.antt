@@ -1,3 +1,4 @@
+pub mod Chunks
 pub mod RowBytes
 pub mod RightRows
 pub mod Writing

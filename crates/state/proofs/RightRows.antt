@@ -1,6 +1,6 @@
 -- Right rows: four bytes that are right place by place, the fact they stand for, and a buffer's rows in order.
 use Prim.Native.Nat.{ℕ, zero, suc, ◌+◌, ◌-◌, ◌*◌, ◌≤◌, ◌<◌, zero-le}
-use native.Mathlib.Nat.{not-suc-le-zero, sub-zero}
+use native.Mathlib.Nat.{not-suc-le-zero}
 use native.Mathlib.Numerals.{add-one}
 use native.Mathlib.Omega.{arith}
 use mathlib.Core.Path.{◌≡◌, refl, sym, ap, ◌∙◌, subst}
@@ -9,7 +9,7 @@ use mathlib.Core.Option.{Option, none, some}
 use mathlib.Core.List.{List, [], ◌∷◌}
 use lib.Dec.{ltb, leb, eqb}
 use lib.ListN.{length, get_or, take, drop, length-drop}
-use lib.Seq.{drop-drop, get_or-drop}
+use lib.Seq.{take_all, drop-drop, get_or-drop}
 use borrow.Author.Tests.{lt-ltb, le-ltb, eq-eqb, eqb-true, ltb-true, ltb-false, leb-true, le-leb, lt-leb}
 use Rattle.laws.specs.Lists.{all, before}
 use Rattle.laws.proofs.Tests.{never, and_left, and_right, and_swap, same_test, by_test}
@@ -204,33 +204,26 @@ third_decides true true c e k = refl
 third_decides true false c e k = never (sym k)
 third_decides false b c e k = never (sym e)
 
--- row i of a buffer, byte by byte
-module _ (arities : List ℕ) (objects i : ℕ) (buffer : List ℕ) (room : 4 * i + 4 ≤ length buffer) where
-  pub row_unknown : length arities ≤ get_or buffer (4 * i) 0 → false ≡ row_right arities objects (row_at i buffer)
-  unfolding row_at
-  row_unknown h =
-      sym (ap (row_right arities objects) (four_at (4 * i) buffer room)
-      ∙ row_right_unknown arities objects (get_or buffer (4 * i) 0) _ _ _ h)
+-- a row, byte by byte
+module _ (arities : List ℕ) (objects : ℕ) (row : List ℕ) (four : length row ≡ 4) where
+  bytes_of : row ≡ get_or row 0 0 ∷ get_or row 1 0 ∷ get_or row 2 0 ∷ get_or row 3 0 ∷ []
+  bytes_of = sym (take_all 4 row (omega arith)) ∙ four_at 0 row (omega arith)
 
-  -- the test of place k
-  abbrev pub place_test : ℕ → Bool
-  place_test k = place_right objects (get_or arities (get_or buffer (4 * i) 0) 0) k (get_or buffer (4 * i + k) 0)
+  pub row_unknown : length arities ≤ get_or row 0 0 → false ≡ row_right arities objects row
+  row_unknown h = sym (ap (row_right arities objects) bytes_of ∙ row_right_unknown arities objects (get_or row 0 0) _ _ _ h)
 
+  -- a row of a known predicate by its three places
   pub row_places :
-      in_range arities ≡ true → get_or buffer (4 * i) 0 < length arities
-      → (place_test 1 && place_test 2 && place_test 3) ≡ row_right arities objects (row_at i buffer)
-  unfolding row_at
-  row_places right h =
-      let p : ℕ = get_or buffer (4 * i) 0 in
-      let within = arity_within arities p right h in
-      sym (ap (row_right arities objects) (four_at (4 * i) buffer room)
-      ∙ row_right_places arities objects p _ _ _ (get_or arities p 0) refl h within.0 within.1)
+      {arity : ℕ} → arity ≡ get_or arities (get_or row 0 0) 0 → in_range arities ≡ true → get_or row 0 0 < length arities
+      → (place_right objects arity 1 (get_or row 1 0) && place_right objects arity 2 (get_or row 2 0) && place_right objects arity 3 (get_or row 3 0))
+      ≡ row_right arities objects row
+  row_places {arity} e right h =
+      let within = arity_within arities (get_or row 0 0) right h in
+      sym (ap (row_right arities objects) bytes_of
+      ∙ row_right_places arities objects (get_or row 0 0) _ _ _ arity (sym e) h (omega arith) (omega arith))
 
 -- The pass over the rows: what the rows from i on say.
 module _ (arities : List ℕ) (objects count : ℕ) (buffer : List ℕ) where
-  pub rows_start : rows_in arities objects 0 (count - 0) (drop (4 * 0) buffer) ≡ rows_in arities objects 0 count buffer
-  rows_start = ap (λ (n : ℕ). rows_in arities objects 0 n buffer) (sub-zero count)
-
   pub rows_step :
       (least i : ℕ) → i < count
       → (row_right arities objects (row_at i buffer) && leb least (row_number (row_at i buffer))

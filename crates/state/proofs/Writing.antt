@@ -3,12 +3,17 @@ use Prim.Native.Nat.{ℕ, zero, suc, ◌+◌, ◌-◌, ◌*◌, ◌≤◌, ◌<�
 use native.Mathlib.Omega.{arith}
 use native.Mathlib.Numerals.{add-one}
 use mathlib.Core.Path.{◌≡◌, refl, sym, ap, ◌∙◌}
-use mathlib.Core.List.{List, [], ◌∷◌, ◌++◌, flat_map, append_assoc}
-use lib.ListN.{length, get_or, take, drop, set, replicate, length-append, length-drop, length-replicate, take-append-drop}
-use lib.ListN.{replicate-append-replicate}
+use mathlib.Core.List.{List, [], ◌∷◌, ◌++◌, flat_map, append_assoc, append-nil}
+use lib.ListN.{length, get_or, take, drop, set, replicate}
 use lib.Seq.{take-suc, take_at, drop-cons, drop-drop, drop-append-add, set_at, length-take-le}
+use borrow.Rule.Slice.PartMut.{put_mid, Post-is}
 use Rattle.laws.proofs.Lists.{flat_map_append}
 use Rattle.state.specs.Rows.{row_number, row_bytes, row_at, numbers_in, stored}
+
+-- a part put back: what stands before it and behind it is as it was
+pub part_put : (a e : ℕ) (was part : List ℕ) → a ≤ e → put_mid a (e - a) was part ≡ take a was ++ part ++ drop e was
+part_put a e was part h =
+    ap (λ (l : List ℕ). take a was ++ (part ++ l)) (Post-is a e was h) ∙ sym (append_assoc (take a was) part (drop e was))
 
 -- a value stored right behind what has been written
 pub store_next :
@@ -46,42 +51,6 @@ load_step buffer was now i n e h p =
     (ap (λ (m : ℕ). numbers_in i buffer ++ (m ∷ [])) p ∙ sym (numbers_more i buffer)
     ∙ ap (λ (k : ℕ). numbers_in k buffer) (sym (add-one i)))
 
-pub load_length : (buffer was now : List ℕ) (i : ℕ) → now ≡ numbers_in i buffer ++ drop i was → i ≤ length was → length now ≡ length was
-load_length buffer was now i e h =
-    ap length e ∙ length-append (numbers_in i buffer) (drop i was)
-    ∙ (let a = length_numbers_in i buffer in let b = length-drop i was in omega arith)
-
--- zeros from a place on
-pub clear_step :
-    (at : ℕ) (was now : List ℕ) (i : ℕ) → at ≤ i → now ≡ take at was ++ replicate (i - at) 0 ++ drop i was → i < length was
-    → set now i 0 ≡ take at was ++ replicate (i + 1 - at) 0 ++ drop (i + 1) was
-clear_step at was now i low e h =
-    ap (λ (l : List ℕ). set l i 0) e
-    ∙ store_next (take at was ++ replicate (i - at) 0) was i 0
-    (length-append (take at was) (replicate (i - at) 0)
-    ∙ (let a = length-take-le at was (omega arith) in let b = length-replicate {A = ℕ} (i - at) 0 in omega arith)) h
-    ∙ ap (λ (l : List ℕ). l ++ drop (i + 1) was)
-    (append_assoc (take at was) (replicate (i - at) 0) (0 ∷ [])
-    ∙ ap (λ (l : List ℕ). take at was ++ l)
-    (replicate-append-replicate (i - at) 1 0
-    ∙ ap (λ (k : ℕ). replicate k 0) (let m : i - at + 1 ≡ i + 1 - at = omega arith in m)))
-
-pub clear_start : (at : ℕ) (was : List ℕ) → was ≡ take at was ++ replicate (at - at) 0 ++ drop at was
-clear_start at was =
-    sym (ap (λ (k : ℕ). take at was ++ replicate k 0 ++ drop at was) (let e : at - at ≡ 0 = omega arith in e)
-    ∙ append_assoc (take at was) [] (drop at was) ∙ take-append-drop at was)
-
-pub clear_length :
-    (at : ℕ) (was now : List ℕ) (i : ℕ) → at ≤ i → now ≡ take at was ++ replicate (i - at) 0 ++ drop i was → i ≤ length was
-    → length now ≡ length was
-clear_length at was now i low e h =
-    ap length e ∙ length-append (take at was ++ replicate (i - at) 0) (drop i was)
-    ∙ (let a = length-append (take at was) (replicate (i - at) 0) in
-    let b = length-take-le at was (omega arith) in
-    let c = length-replicate {A = ℕ} (i - at) 0 in
-    let d = length-drop i was in
-    omega arith)
-
 -- the zeros behind some of them
 pub drop_zeros : (k n : ℕ) → drop {A = ℕ} k (replicate n 0) ≡ replicate (n - k) 0
 drop_zeros zero n = ap (λ (m : ℕ). replicate {A = ℕ} m 0) (let e : n ≡ n - 0 = omega arith in e)
@@ -115,17 +84,6 @@ rows_written ns was {now} {next} {i} e h w =
     w ∙ ap (λ (l : List ℕ). l ++ row_bytes (get_or ns i 0) ++ drop (4 * i + 4) now) front
     ∙ ap (λ (l : List ℕ). written ++ row_bytes (get_or ns i 0) ++ l) back
     ∙ ap (λ (l : List ℕ). l ++ drop (4 * (i + 1)) was) more
-  where
-    append-nil : (xs : List ℕ) → xs ++ [] ≡ xs
-    append-nil [] = refl
-    append-nil (x ∷ xs) = ap (λ (l : List ℕ). x ∷ l) (append-nil xs)
-
-pub rows_length :
-    (ns was now : List ℕ) (i : ℕ) → now ≡ flat_map row_bytes (take i ns) ++ drop (4 * i) was → i ≤ length ns → 4 * length ns ≤ length was
-    → length now ≡ length was
-rows_length ns was now i e h room =
-    ap length e ∙ length-append (flat_map row_bytes (take i ns)) (drop (4 * i) was)
-    ∙ (let a = length_rows (take i ns) in let b = length-take-le i ns h in let c = length-drop (4 * i) was in omega arith)
 
 -- rows, then zeros up to byte 4,096
 pub rows_stored :

@@ -3,11 +3,12 @@
 
 ghost use Rattle.std.specs.Prelude.{◌+◌, ◌-◌, ◌*◌, ◌≤◌, true, ◌≡◌, length, take, drop, replicate};
 ghost use mathlib.Core.List.{◌++◌, ◌∷◌, [], flat_map};
+ghost use Rattle.std.specs.Simd.{first_chunks};
 ghost use Rattle.laws.specs.Lists.{member};
 ghost use Rattle.model.specs.Card.{in_range};
 ghost use Rattle.model.specs.Strips.{state_bytes, most_facts, row_right, well_formed};
 ghost use Rattle.sets.specs.Numbers.{place};
-ghost use Rattle.state.specs.Rows.{row_number, row_bytes, row_at, numbers_in, stored, place_right, rows_in, RowsAscend};
+ghost use Rattle.state.specs.Rows.{row_number, row_bytes, numbers_in, stored, place_right, rows_in, RowsAscend};
 
 // How many bytes of its buffer a state takes, how many facts it has at most, and the byte that stands for a missing argument.
 // Document 01, "Pressing".
@@ -17,20 +18,27 @@ pub const MOST_FACTS: usize = 1024;
 
 pub const FILLER: u8 = 255;
 
+// The first rows of a state, four bytes each.
+fn rows(state: &[u8], count: usize) -> &[[u8; 4]]
+    requires { 4 * count ≤ length state.now }
+    ensures { result.now ≡ first_chunks 4 count state.now }
+{
+    let (rows, _) = state.as_chunks::<4>();
+    &rows[..count]
+}
+
+// A row as one number, its first byte highest.
+fn number(row: [u8; 4]) -> u32
+    ensures { result ≡ row_number row }
+{
+    u32::from_be_bytes(row)
+}
+
 // Four bytes as one number, the first of them highest.
 pub fn row_number(a: u8, b: u8, c: u8, d: u8) -> u32
     ensures { result ≡ row_number (a ∷ b ∷ c ∷ d ∷ []) }
 {
-    (a as u32) * 16777216 + (b as u32) * 65536 + (c as u32) * 256 + (d as u32)
-}
-
-// The number of row i.
-fn row(state: &[u8], i: usize) -> u32
-    requires { 4 * i + 4 ≤ length state.now }
-    ensures { result ≡ row_number (row_at i state.now) }
-{
-    let at = 4 * i;
-    row_number(state[at], state[at + 1], state[at + 2], state[at + 3])
+    number([a, b, c, d])
 }
 
 // Writes the four bytes of a number as row i.
@@ -39,10 +47,7 @@ fn write_row(state: &mut [u8], i: usize, n: u32)
     ensures { state.new ≡ take (4 * i) state.old ++ row_bytes n ++ drop (4 * i + 4) state.old }
 {
     let at = 4 * i;
-    state[at] = (n / 16777216) as u8;
-    state[at + 1] = (n / 65536 % 256) as u8;
-    state[at + 2] = (n / 256 % 256) as u8;
-    state[at + 3] = (n % 256) as u8;
+    state[at..at + 4].copy_from_slice(&n.to_be_bytes());
 }
 
 // The byte at place k of a row, 1 to 3, is right: a known object up to the arity, filler after it.
@@ -50,30 +55,24 @@ fn place_right(byte: u8, k: u8, arity: u8, objects: usize) -> bool
     ensures { result ≡ place_right objects arity k byte }
 {
     if k <= arity {
-        (byte as usize) < objects
+        usize::from(byte) < objects
     } else {
         byte == FILLER
     }
 }
 
-// Row i is right: its predicate and objects are known, and filler stands after them.
-fn row_right(state: &[u8], i: usize, arities: &[u8], objects: usize) -> bool
-    requires { (4 * i + 4 ≤ length state.now) × (in_range arities.now ≡ true) }
-    ensures { result ≡ row_right arities.now objects (row_at i state.now) }
+// A row is right: its predicate and objects are known, and filler stands after them.
+fn row_right(row: [u8; 4], arities: &[u8], objects: usize) -> bool
+    requires { in_range arities.now ≡ true }
+    ensures { result ≡ row_right arities.now objects row }
 {
-    let at = 4 * i;
-    let predicate = state[at] as usize;
-    if arities.len() <= predicate {
+    let [predicate, first, second, third] = row;
+    let Some(&arity) = arities.get(usize::from(predicate)) else {
         return false;
-    }
-    let arity = arities[predicate];
-    if !place_right(state[at + 1], 1, arity, objects) {
-        return false;
-    }
-    if !place_right(state[at + 2], 2, arity, objects) {
-        return false;
-    }
-    place_right(state[at + 3], 3, arity, objects)
+    };
+    place_right(first, 1, arity, objects)
+        && place_right(second, 2, arity, objects)
+        && place_right(third, 3, arity, objects)
 }
 
 // The first `count` rows are right, and each stands above the one before it.
@@ -82,17 +81,15 @@ fn rows_right(state: &[u8], count: usize, arities: &[u8], objects: usize) -> boo
     ensures { result ≡ rows_in arities.now objects 0 count state.now }
 {
     let mut least: u64 = 0;
-    let mut i = 0;
-    while i < count {
-        if !row_right(state, i, arities, objects) {
+    for &row in rows(state, count) {
+        if !row_right(row, arities, objects) {
             return false;
         }
-        let n = row(state, i) as u64;
+        let n = u64::from(number(row));
         if n < least {
             return false;
         }
         least = n + 1;
-        i = i + 1;
     }
     true
 }
@@ -116,17 +113,7 @@ pub fn rows_below(state: &[u8], count: usize, n: u32) -> usize
     requires { RowsAscend count state.now }
     ensures { result ≡ place n (numbers_in count state.now) }
 {
-    let mut low = 0;
-    let mut high = count;
-    while low < high {
-        let middle = low + (high - low) / 2;
-        if row(state, middle) < n {
-            low = middle + 1;
-        } else {
-            high = middle;
-        }
-    }
-    low
+    rows(state, count).partition_point(|row| number(*row) < n)
 }
 
 // One of the first `count` rows has the number.
@@ -135,10 +122,10 @@ pub fn has_row(state: &[u8], count: usize, n: u32) -> bool
     ensures { result ≡ member n (numbers_in count state.now) }
 {
     let i = rows_below(state, count, n);
-    if count <= i {
-        return false;
+    match rows(state, count).get(i) {
+        Some(row) => number(*row) == n,
+        None => false,
     }
-    row(state, i) == n
 }
 
 // The numbers of the first `count` rows, at the front of an array of 0.
@@ -146,10 +133,8 @@ pub fn load(state: &[u8], count: usize, numbers: &mut [u32])
     requires { (4 * count ≤ length state.now) × (count ≤ length numbers.old) }
     ensures { numbers.new ≡ numbers_in count state.now ++ drop count numbers.old }
 {
-    let mut i = 0;
-    while i < count {
-        numbers[i] = row(state, i);
-        i = i + 1;
+    for (i, &row) in rows(state, count).iter().enumerate() {
+        numbers[i] = number(row);
     }
 }
 
@@ -158,10 +143,8 @@ pub fn write_rows(state: &mut [u8], numbers: &[u32])
     requires { 4 * length numbers.now ≤ length state.old }
     ensures { state.new ≡ flat_map row_bytes numbers.now ++ drop (4 * length numbers.now) state.old }
 {
-    let mut i = 0;
-    while i < numbers.len() {
-        write_row(state, i, numbers[i]);
-        i = i + 1;
+    for (i, &n) in numbers.iter().enumerate() {
+        write_row(state, i, n);
     }
 }
 
@@ -170,11 +153,7 @@ fn clear(state: &mut [u8], at: usize)
     requires { (at ≤ state_bytes) × (state_bytes ≤ length state.old) }
     ensures { state.new ≡ take at state.old ++ replicate (state_bytes - at) 0 ++ drop state_bytes state.old }
 {
-    let mut i = at;
-    while i < STATE_BYTES {
-        state[i] = 0;
-        i = i + 1;
-    }
+    state[at..STATE_BYTES].fill(0);
 }
 
 // Stores a state: its rows, then 0 up to byte 4,096.
@@ -183,6 +162,5 @@ pub fn store(state: &mut [u8], numbers: &[u32])
     ensures { state.new ≡ stored numbers.now state.old }
 {
     write_rows(state, numbers);
-    let n = numbers.len();
-    clear(state, 4 * n);
+    clear(state, 4 * numbers.len());
 }
