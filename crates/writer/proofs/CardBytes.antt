@@ -1,24 +1,22 @@
 -- The bytes of a card put together from the pieces that the code writes.
-use Prim.Native.Nat.{ℕ, ◌+◌, ◌*◌, ◌/◌, ◌%◌, ◌-◌, ◌≤◌, ◌<◌}
+use Prim.Native.Nat.{ℕ, ◌+◌, ◌*◌, ◌/◌, ◌%◌, ◌≤◌}
 use native.Mathlib.Omega.{arith}
-use mathlib.Core.Path.{◌≡◌, refl, sym, ap, ◌∙◌}
+use mathlib.Core.Path.{◌≡◌, refl, sym, ◌∙◌}
 use mathlib.Core.Bool.{Bool, true, false, cond, not, ◌&&◌}
-use mathlib.Core.List.{List, [], ◌∷◌, ◌++◌, flat_map, append_assoc}
+use mathlib.Core.List.{List, [], ◌∷◌, ◌++◌, map, flat_map, append_assoc}
 use lib.Dec.{eqb, leb, eqb-suc-zero}
-use lib.ListN.{length, get_or, take, drop}
+use lib.ListN.{length}
 use borrow.Author.Tests.{leb-true}
-use Rattle.laws.specs.Lists.{all}
 use Rattle.laws.proofs.Tests.{and_left, and_right}
-use Rattle.laws.proofs.Lists.{all_at, mem_get_d}
 use Rattle.model.specs.Card as model
 use Rattle.model.specs.Writer.{atom_bytes, list_bytes, role_bytes, bit_for, schema_bytes, task_bytes}
-use Rattle.card.specs.Represents.{atoms_for, blank_schema, entries, atoms_of, schema_of, arities_of, schemas_of, facts_of, task_of}
+use Rattle.card.specs.Represents.{entries, atom_of, atoms_of, schema_of, arities_of, schemas_of, facts_of, task_of}
+use Rattle.card.specs.declared.Atom.{Atom}
 use Rattle.card.specs.declared.AtomList.{AtomList}
 use Rattle.card.specs.declared.Schema.{Schema}
-use Rattle.card.specs.declared.SchemaList.{SchemaList}
 use Rattle.card.specs.declared.Task.{Task}
 use Rattle.writer.specs.Bytes.{atom_room, list_room, schema_room, header_room, card_room, WritesAt, bit_where, map_of, schema_fits, Fits}
-use Rattle.card.proofs.Entries.{arities_part, length_entries, length_atoms, get_d_entries, default_alike, length_schemas, length_facts, no_schema}
+use Rattle.card.proofs.Entries.{length_atoms, length_schemas, length_facts}
 use Rattle.writer.proofs.WriteLaws.{writes_none, writes_then, writes_within}
 
 -- a list
@@ -32,13 +30,14 @@ module _ (arities : List ℕ) (list : AtomList) (at : ℕ) (x : List ℕ) where
   unfolding list_bytes atoms_of entries
   empty_list e = rw e (writes_none list_room at x)
 
-  pub whole_list : (list.count ≡ 0 → ⊥) → list.count ≤ 8 → at + list_room ≤ length x → (y z : List ℕ) (m n : ℕ)
-      → WritesAt 1 at (list.count ∷ []) x y m → WritesAt (atom_room * list.count) m (flat_map atom_bytes (atoms_of arities list)) y z n
+  pub whole_list : (list.count ≡ 0 → ⊥) → list.count ≤ 8 → at + list_room ≤ length x → (items : List Atom)
+      → map (atom_of arities) items ≡ atoms_of arities list → length items ≡ list.count → (y z : List ℕ) (m n : ℕ)
+      → WritesAt 1 at (list.count ∷ []) x y m → WritesAt (atom_room * length items) m (flat_map atom_bytes (map (atom_of arities) items)) y z n
       → WritesAt list_room at (list_bytes (atoms_of arities list)) x z n
-  whole_list d short fits y z m n v w =
+  whole_list d short fits items read count y z m n v w =
       rw (list_bytes_lem (atoms_of arities list) (λ e. d (sym (length_atoms arities list) ∙ e)), length_atoms)
       (writes_within (1 + atom_room * list.count) list_room at _ x z n
-      (writes_then 1 (atom_room * list.count) at _ _ x y z m n v w (omega arith)) (omega arith))
+      (writes_then 1 (atom_room * list.count) at _ _ x y z m n v (rw (read, count) at w) (omega arith)) (omega arith))
 
 -- a schema
 bit_of_list : (value : ℕ) (xs : List model.Atom) → bit_for value (list_bytes xs) ≡ bit_where (not (eqb (length xs) 0)) value
@@ -105,18 +104,6 @@ module _ (s : Schema) (fits : schema_fits s ≡ true) where
   pub adds_fit : s.adds.count ≤ 8
   adds_fit = each_fits.3
 
-no_schema_fits : schema_fits no_schema ≡ schema_fits blank_schema
-unfolding schema_fits blank_schema atoms_for
-no_schema_fits = refl
-
--- each schema of a table that fits
-pub schema_fits_lem : (list : SchemaList) (i : ℕ) → i < list.count → all schema_fits (entries list.count blank_schema list.schemas) ≡ true
-    → schema_fits (get_or list.schemas i no_schema) ≡ true
-schema_fits_lem list i h e =
-    default_alike schema_fits no_schema blank_schema no_schema_fits list.schemas i
-    ∙ ap schema_fits (sym (get_d_entries list.count blank_schema list.schemas i h))
-    ∙ all_at schema_fits _ e _ (mem_get_d _ i blank_schema (rw length_entries h))
-
 -- the header
 pub whole_header : (arities : List ℕ) (objects schemas : ℕ) (x : List ℕ) → length arities ≤ 20 → header_room ≤ length x
     → (y₁ y₂ y₃ y₄ : List ℕ) (n₁ n₂ n₃ n₄ : ℕ) → WritesAt 1 0 (length arities ∷ []) x y₁ n₁ → WritesAt (length arities) n₁ arities y₁ y₂ n₂
@@ -134,30 +121,29 @@ pieces : (header schemas facts : List ℕ) (a b c d : ℕ)
     → header ++ (a ∷ b ∷ []) ++ schemas ++ (c ∷ d ∷ []) ++ facts ≡ header ++ (a ∷ b ∷ schemas) ++ (c ∷ d ∷ facts)
 pieces header schemas facts a b c d = simp append_assoc
 
--- the whole card
-pub whole_card : (t : Task) (x : List ℕ) → Fits t → length t.predicates.arities ≡ 20 → card_room ≤ length x
+-- the whole card, of the arities, schemas and facts that the code reads from their arrays
+pub whole_card : (t : Task) (x : List ℕ) → Fits t → card_room ≤ length x → (arities : List ℕ) (schemas : List Schema) (facts : List Atom)
+    → arities ≡ arities_of t.predicates → map (schema_of arities) schemas ≡ schemas_of arities t.schemas → length schemas ≡ t.schemas.count
+    → map (atom_of arities) facts ≡ facts_of arities t.facts → length facts ≡ t.facts.count
     → {y₁ y₂ y₃ y₄ : List ℕ} {n₁ n₂ n₃ n₄ : ℕ}
-    → let arities = take (t.predicates.count - 0) (drop 0 t.predicates.arities) in
-    WritesAt header_room 0 (length arities ∷ arities ++ (t.objects ∷ t.schemas.count ∷ [])) x y₁ n₁
-    → WritesAt (schema_room * t.schemas.count) n₁
-    (flat_map schema_bytes (schemas_of arities t.schemas)) y₁ y₂ n₂
+    → WritesAt header_room 0 (length arities ∷ arities ++ (t.objects ∷ t.schemas.count ∷ [])) x y₁ n₁
+    → WritesAt (schema_room * length schemas) n₁ (flat_map schema_bytes (map (schema_of arities) schemas)) y₁ y₂ n₂
     → WritesAt 2 n₂ (t.facts.count / 256 ∷ t.facts.count % 256 ∷ []) y₂ y₃ n₃
-    → WritesAt (atom_room * t.facts.count) n₃
-    (flat_map atom_bytes (facts_of arities t.facts)) y₃ y₄ n₄
+    → WritesAt (atom_room * length facts) n₃ (flat_map atom_bytes (map (atom_of arities) facts)) y₃ y₄ n₄
     → WritesAt card_room 0 (task_bytes (task_of t)) x y₄ n₄
 unfolding task_bytes task_of
-whole_card t x fits twenty enough {y₁} {y₂} {y₃} {y₄} {n₁} {n₂} {n₃} {n₄} w₁ w₂ w₃ w₄ =
-    let schemas = t.schemas.count in
-    let facts = t.facts.count in
-    let arities : List ℕ = arities_of t.predicates in
-    let within : header_room + schema_room * schemas + 2 + atom_room * facts ≤ card_room = omega (arith, fits.schemas, fits.facts) in
-    let v₂ = writes_then header_room (schema_room * schemas) 0 _ _ x y₁ y₂ n₁ n₂ w₁ w₂ (omega arith) in
-    let v₃ = writes_then (header_room + schema_room * schemas) 2 0 _ _ x y₂ y₃ n₂ n₃ v₂ w₃ (omega arith) in
-    let v₄ = writes_then (header_room + schema_room * schemas + 2) (atom_room * facts) 0 _ _ x y₃ y₄ n₃ n₄ v₃ w₄ (omega arith) in
-    let written = writes_within (header_room + schema_room * schemas + 2 + atom_room * facts) card_room 0 _ x y₄ n₄ v₄ within in
+whole_card t x fits enough arities schemas facts read schemas_read many facts_read most {y₁} {y₂} {y₃} {y₄} {n₁} {n₂} {n₃} {n₄} w₁ w₂ w₃ w₄ =
+    let m = t.schemas.count in
+    let n = t.facts.count in
+    let within : header_room + schema_room * m + 2 + atom_room * n ≤ card_room = omega (arith, fits.schemas, fits.facts) in
+    let v₂ = writes_then header_room (schema_room * m) 0 _ _ x y₁ y₂ n₁ n₂ w₁ (rw (schemas_read, many) at w₂) (omega arith) in
+    let v₃ = writes_then (header_room + schema_room * m) 2 0 _ _ x y₂ y₃ n₂ n₃ v₂ w₃ (omega arith) in
+    let v₄ = writes_then (header_room + schema_room * m + 2) (atom_room * n) 0 _ _ x y₃ y₄ n₃ n₄ v₃ (rw (facts_read, most) at w₄) (omega arith) in
+    let written = writes_within (header_room + schema_room * m + 2 + atom_room * n) card_room 0 _ x y₄ n₄ v₄ within in
     rw (
+      ← read,
       length_schemas arities t.schemas,
       length_facts arities t.facts,
-      ← pieces (length arities ∷ arities) _ _ t.objects schemas (facts / 256) (facts % 256),
+      ← pieces (length arities ∷ arities) _ _ t.objects m (n / 256) (n % 256),
     )
-    (rw (arities_part t.predicates (omega (arith, fits.predicates))) at written)
+    written

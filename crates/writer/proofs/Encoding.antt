@@ -9,7 +9,7 @@ use lib.ListN.{length, drop}
 use borrow.Author.Tests.{leb-true, le-leb, lt-leb}
 use Rattle.laws.specs.Lists.{all}
 use Rattle.laws.proofs.Tests.{and_intro}
-use Rattle.model.specs.Answer.{accepted, ◌>>◌, need}
+use Rattle.model.specs.Answer.{Answer, refused, accepted, ◌>>◌, need}
 use Rattle.model.specs.Card as model
 use Rattle.model.specs.Writer.{each, check_schema, check_task, task_bytes}
 use Rattle.model.specs.Calls.{output_bytes, finish, output, encode}
@@ -20,13 +20,18 @@ use Rattle.card.specs.declared.Task.{Task}
 use Rattle.writer_checks.specs.Checking.{checked_says}
 use Rattle.writer.specs.Answers.{writing_says, Encodes}
 use Rattle.writer.specs.Bytes.{card_room, WritesAt, schema_fits, Fits}
-use Rattle.writer_checks.specs.declared.checking.Checked.{Checked}
-use Rattle.writer_checks.specs.declared.checking.Checked.TheVariants as checked
-use Rattle.writer.specs.declared.Writing.TheVariants as writing
+use Rattle.std.proofs.Common.{Ok, Err, sym}
+use Rattle.writer.specs.declared.WriterRefusal.TheVariants.{Table, OutputShort}
 use Rattle.card.proofs.Entries.{length_arities, length_schemas, length_facts}
 use Rattle.model.proofs.CheckParts.{between_parts, schema_parts, task_parts}
-use Rattle.writer_checks.proofs.Sequence.{then_left, then_right, passed_says}
+use Rattle.writer_checks.proofs.Sequence.{then_left}
 use Rattle.writer_checks.proofs.SchemaLaws.{passed_list}
+
+-- what passed in sequence: the rest
+then_right : (x y : Answer (Unit {0})) → x >> y ≡ accepted tt → y ≡ accepted tt
+unfolding ◌>>◌
+then_right (refused n) y e = cc
+then_right (accepted done) y e = e
 
 -- a schema that passed fits
 passed_schema : (arities : List ℕ) (s : Schema) → check_schema arities (schema_of arities s) ≡ accepted tt → schema_fits s ≡ true
@@ -65,26 +70,28 @@ passed_task t e =
       facts = rw length_facts at (leb-true (length facts) 512 c.few_facts);
     }
 
-module _ (t : Task) (c : Checked) (says : checked_says c ≡ check_task (task_of t)) where
-  pub checked_fits : c ≡ checked.Passed → Fits t
-  checked_fits e = passed_task t (passed_says c (check_task (task_of t)) says e)
+module _ (t : Task) where
+  pub checked_fits : (done : Unit {0}) → checked_says (Ok done) ≡ check_task (task_of t) → Fits t
+  unfolding checked_says
+  checked_fits done says = passed_task t (sym says)
 
--- the three answers of the call
-module _ (t : Task) (out : List ℕ) (c : Checked) (says : checked_says c ≡ check_task (task_of t)) where
-  pub encode_refused : (r : Refusal) → c ≡ checked.Refused r → Encodes t out out (writing.Refused r)
-  unfolding encode finish writing_says checked_says ◌>>◌
-  encode_refused r e = record { answer = rw (← says, e); buffer = rw (← says, e) }
+  -- the three answers of the call
+  module _ (out : List ℕ) where
+    pub encode_refused : (r : Refusal) → checked_says (Err r) ≡ check_task (task_of t) → Encodes t out out (Err (Table r))
+    unfolding encode finish writing_says checked_says ◌>>◌
+    encode_refused r says = record { answer = rw (← says); buffer = rw (← says) }
 
-  pub encode_short : c ≡ checked.Passed → length out < output_bytes → Encodes t out out writing.OutputShort
-  unfolding encode finish writing_says checked_says ◌>>◌ need
-  encode_short e h = record { answer = rw (← says, e, lt-leb output_bytes (length out) h); buffer = rw (← says, e, lt-leb output_bytes (length out) h) }
+    module _ (done : Unit {0}) (says : checked_says (Ok done) ≡ check_task (task_of t)) where
+      pub encode_short : length out < output_bytes → Encodes t out out (Err OutputShort)
+      unfolding encode finish writing_says checked_says ◌>>◌ need
+      encode_short h = record { answer = rw (← says, lt-leb output_bytes (length out) h); buffer = rw (← says, lt-leb output_bytes (length out) h) }
 
-  pub encode_written : c ≡ checked.Passed → output_bytes ≤ length out → (after : List ℕ) (n : ℕ)
-      → WritesAt card_room 0 (task_bytes (task_of t)) out after n → Encodes t out after (writing.Written n)
-  unfolding encode finish output writing_says checked_says ◌>>◌ need
-  encode_written e h after n w =
-      let bytes = task_bytes (task_of t) in
-      record {
-        answer = rw (← says, e, le-leb output_bytes (length out) h) (ap accepted (w.place ∙ zero-add _));
-        buffer = rw (← says, e, le-leb output_bytes (length out) h) (w.stands ∙ ap (λ (k : ℕ). bytes ++ drop k out) (zero-add (length bytes)));
-      }
+      pub encode_written : output_bytes ≤ length out → (after : List ℕ) (n : ℕ)
+          → WritesAt card_room 0 (task_bytes (task_of t)) out after n → Encodes t out after (Ok n)
+      unfolding encode finish output writing_says checked_says ◌>>◌ need
+      encode_written h after n w =
+          let bytes = task_bytes (task_of t) in
+          record {
+            answer = rw (← says, le-leb output_bytes (length out) h) (ap accepted (w.place ∙ zero-add _));
+            buffer = rw (← says, le-leb output_bytes (length out) h) (w.stands ∙ ap (λ (k : ℕ). bytes ++ drop k out) (zero-add (length bytes)));
+          }

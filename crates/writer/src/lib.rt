@@ -3,30 +3,36 @@
 
 mod output;
 
+ghost use Rattle.std.specs.Prelude.{◌≡◌};
 ghost use Rattle.writer.specs.Answers.{Encodes};
+ghost use Rattle.writer.specs.declared.WriterRefusal.TheVariants as writer_refusal;
 
 use card::{OUTPUT_BYTES, Refusal, Task};
 use output::write_task;
-use writer_checks::checking::{Checked, check_task};
+use writer_checks::checking::check_task;
 
-// What writing answers: the length, the refusal of a table that no card can carry, or that the output buffer is short.
+// Why the writer refuses: no card can carry the table, or the output buffer is short.
 #[derive(Clone, Copy)]
-pub enum Writing {
-    Written(usize),
-    Refused(Refusal),
+pub enum WriterRefusal {
+    Table(Refusal),
     OutputShort,
 }
 
-// The card of a table, written from byte 0 of `out`; the bytes after it are left. A refusal changes no byte.
-pub fn encode(task: Task, out: &mut [u8]) -> Writing
+impl From<Refusal> for WriterRefusal {
+    ghost from_gives = { λ refusal made. made ≡ writer_refusal.Table refusal };
+
+    fn from(refusal: Refusal) -> WriterRefusal {
+        WriterRefusal::Table(refusal)
+    }
+}
+
+// The card of a table, written from byte 0 of `out`, and its length; the bytes after it are left. A refusal changes no byte.
+pub fn encode(task: Task, out: &mut [u8]) -> Result<usize, WriterRefusal>
     ensures { Encodes task out.old out.new result }
 {
-    let checked = check_task(task);
-    if let Checked::Refused(r) = checked {
-        return Writing::Refused(r);
-    }
+    check_task(task)?;
     if out.len() < OUTPUT_BYTES {
-        return Writing::OutputShort;
+        return Err(WriterRefusal::OutputShort);
     }
-    Writing::Written(write_task(out, task))
+    Ok(write_task(out, task))
 }

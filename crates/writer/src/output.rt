@@ -1,12 +1,12 @@
 // The card of a table that was checked, written from byte 0 of the output buffer.
-ghost use Rattle.std.specs.Prelude.{◌≡◌, ◌+◌, ◌*◌, ◌/◌, ◌%◌, ◌≤◌, true, length};
+ghost use Rattle.std.specs.Prelude.{◌≡◌, ◌+◌, ◌*◌, ◌/◌, ◌%◌, ◌≤◌, true, length, map};
 ghost use mathlib.Core.List.{[], ◌∷◌, ◌++◌, flat_map};
 ghost use Rattle.laws.specs.Lists.{all};
 ghost use Rattle.model.specs.Writer.{atom_bytes, list_bytes, role_bytes, schema_bytes, task_bytes};
-ghost use Rattle.card.specs.Represents.{blank_schema, entries, atom_of, atoms_of, schema_of, schemas_of, facts_of, task_of};
+ghost use Rattle.card.specs.Represents.{atom_of, atoms_of, schema_of, task_of};
 ghost use Rattle.writer.specs.Bytes.{atom_room, list_room, schema_room, header_room, card_room, WritesAt, bit_where, map_of, schema_fits, Fits};
 
-use card::{Atom, AtomList, FactList, Schema, SchemaList, Task};
+use card::{Atom, AtomList, Schema, Task};
 use writer_checks::atoms::arity;
 
 // One byte.
@@ -23,36 +23,21 @@ fn write_atom(out: &mut [u8], at: usize, arities: &[u8], a: Atom) -> usize
     requires { at + atom_room ≤ length out.old }
     ensures { WritesAt atom_room at (atom_bytes (atom_of arities.now a)) out.old out.new result }
 {
-    let n = arity(arities, a.predicate);
-    out[at] = a.predicate;
-    if n == 0 {
-        return at + 1;
-    }
-    out[at + 1] = a.first;
-    if n == 1 {
-        return at + 2;
-    }
-    out[at + 2] = a.second;
-    if n == 2 {
-        return at + 3;
-    }
-    out[at + 3] = a.third;
-    at + 4
+    let bytes = [a.predicate, a.first, a.second, a.third];
+    let n = 1 + arity(arities, a.predicate).min(3);
+    out[at..at + n].copy_from_slice(&bytes[..n]);
+    at + n
 }
 
-// The atoms of a list.
-fn write_atoms(out: &mut [u8], at: usize, arities: &[u8], list: AtomList) -> usize
-    requires { (list.count ≤ 8) × (at + atom_room * list.count ≤ length out.old) }
-    ensures { WritesAt (atom_room * list.count) at (flat_map atom_bytes (atoms_of arities.now list))
+// Atoms, one after the other.
+fn write_atoms(out: &mut [u8], at: usize, arities: &[u8], atoms: &[Atom]) -> usize
+    requires { at + atom_room * length atoms.now ≤ length out.old }
+    ensures { WritesAt (atom_room * length atoms.now) at (flat_map atom_bytes (map (atom_of arities.now) atoms.now))
         out.old out.new result }
 {
-    let count = list.count;
     let mut next = at;
-    let mut i = 0;
-    while i < count {
-        let a = list.atoms[i];
+    for &a in atoms {
         next = write_atom(out, next, arities, a);
-        i += 1;
     }
     next
 }
@@ -67,7 +52,7 @@ fn write_list(out: &mut [u8], at: usize, arities: &[u8], list: AtomList) -> usiz
         return at;
     }
     let next = write_byte(out, at, count as u8);
-    write_atoms(out, next, arities, list)
+    write_atoms(out, next, arities, &list.atoms[..count])
 }
 
 // The role count, where it is not 1.
@@ -92,14 +77,10 @@ fn bit_where(stands: bool, value: u8) -> u8
 fn map_of(s: Schema) -> u8
     ensures { result ≡ map_of s }
 {
-    let parameters = s.parameters;
-    let preconditions = s.preconditions;
-    let deletes = s.deletes;
-    let adds = s.adds;
-    bit_where(parameters != 1, 1)
-        + bit_where(preconditions.count != 0, 2)
-        + bit_where(deletes.count != 0, 4)
-        + bit_where(adds.count != 0, 8)
+    bit_where(s.parameters != 1, 1)
+        + bit_where(s.preconditions.count != 0, 2)
+        + bit_where(s.deletes.count != 0, 4)
+        + bit_where(s.adds.count != 0, 8)
 }
 
 // The map, then the fields that have bytes, in bit order.
@@ -107,51 +88,22 @@ fn write_schema(out: &mut [u8], at: usize, arities: &[u8], s: Schema) -> usize
     requires { (schema_fits s ≡ true) × (at + schema_room ≤ length out.old) }
     ensures { WritesAt schema_room at (schema_bytes (schema_of arities.now s)) out.old out.new result }
 {
-    let parameters = s.parameters;
-    let preconditions = s.preconditions;
-    let deletes = s.deletes;
-    let adds = s.adds;
     let after_map = write_byte(out, at, map_of(s));
-    let after_roles = write_roles(out, after_map, parameters);
-    let after_preconditions = write_list(out, after_roles, arities, preconditions);
-    let after_deletes = write_list(out, after_preconditions, arities, deletes);
-    write_list(out, after_deletes, arities, adds)
+    let after_roles = write_roles(out, after_map, s.parameters);
+    let after_preconditions = write_list(out, after_roles, arities, s.preconditions);
+    let after_deletes = write_list(out, after_preconditions, arities, s.deletes);
+    write_list(out, after_deletes, arities, s.adds)
 }
 
-// The schemas, one after the other.
-fn write_schemas(out: &mut [u8], at: usize, arities: &[u8], list: SchemaList) -> usize
-    requires { (list.count ≤ 32)
-        × (all schema_fits (entries list.count blank_schema list.schemas) ≡ true)
-        × (at + schema_room * list.count ≤ length out.old) }
-    ensures { WritesAt (schema_room * list.count) at
-        (flat_map schema_bytes (schemas_of arities.now list))
+// Schemas, one after the other.
+fn write_schemas(out: &mut [u8], at: usize, arities: &[u8], schemas: &[Schema]) -> usize
+    requires { (all schema_fits schemas.now ≡ true) × (at + schema_room * length schemas.now ≤ length out.old) }
+    ensures { WritesAt (schema_room * length schemas.now) at (flat_map schema_bytes (map (schema_of arities.now) schemas.now))
         out.old out.new result }
 {
-    let count = list.count;
     let mut next = at;
-    let mut i = 0;
-    while i < count {
-        let s = list.schemas[i];
+    for &s in schemas {
         next = write_schema(out, next, arities, s);
-        i += 1;
-    }
-    next
-}
-
-// The facts, one after the other.
-fn write_facts(out: &mut [u8], at: usize, arities: &[u8], list: FactList) -> usize
-    requires { (list.count ≤ 512) × (at + atom_room * list.count ≤ length out.old) }
-    ensures { WritesAt (atom_room * list.count) at
-        (flat_map atom_bytes (facts_of arities.now list))
-        out.old out.new result }
-{
-    let count = list.count;
-    let mut next = at;
-    let mut i = 0;
-    while i < count {
-        let f = list.facts[i];
-        next = write_atom(out, next, arities, f);
-        i += 1;
     }
     next
 }
@@ -161,8 +113,7 @@ fn write_count(out: &mut [u8], at: usize, count: usize) -> usize
     requires { (count ≤ 512) × (at + 2 ≤ length out.old) }
     ensures { WritesAt 2 at (count / 256 ∷ count % 256 ∷ []) out.old out.new result }
 {
-    out[at] = (count / 256) as u8;
-    out[at + 1] = (count % 256) as u8;
+    out[at..at + 2].copy_from_slice(&(count as u16).to_be_bytes());
     at + 2
 }
 
@@ -171,13 +122,8 @@ fn write_arities(out: &mut [u8], at: usize, arities: &[u8]) -> usize
     requires { at + length arities.now ≤ length out.old }
     ensures { WritesAt (length arities.now) at arities.now out.old out.new result }
 {
-    let mut next = at;
-    let mut i = 0;
-    while i < arities.len() {
-        next = write_byte(out, next, arities[i]);
-        i += 1;
-    }
-    next
+    out[at..at + arities.len()].copy_from_slice(arities);
+    at + arities.len()
 }
 
 // The predicates, the objects and how many schemas follow.
@@ -197,14 +143,11 @@ pub fn write_task(out: &mut [u8], task: Task) -> usize
     requires { (Fits task) × (card_room ≤ length out.old) }
     ensures { WritesAt card_room 0 (task_bytes (task_of task)) out.old out.new result }
 {
-    let predicates = task.predicates;
-    let schemas = task.schemas;
-    let facts = task.facts;
-    let array = predicates.arities;
-    let count = predicates.count;
-    let arities = &array[0..count];
-    let after_header = write_header(out, arities, task.objects, schemas.count);
+    let arities = &task.predicates.arities[..task.predicates.count];
+    let after_header = write_header(out, arities, task.objects, task.schemas.count);
+    let schemas = &task.schemas.schemas[..task.schemas.count];
     let after_schemas = write_schemas(out, after_header, arities, schemas);
-    let after_count = write_count(out, after_schemas, facts.count);
-    write_facts(out, after_count, arities, facts)
+    let after_count = write_count(out, after_schemas, task.facts.count);
+    let facts = &task.facts.facts[..task.facts.count];
+    write_atoms(out, after_count, arities, facts)
 }
