@@ -118,11 +118,12 @@ module _ {A : Type 0} where
   map_next f xs i d h =
       ap (λ (k : ℕ). map f (take k xs)) (add-one i) ∙ ap (map f) (take-suc xs i d h) ∙ map-append f (take i xs) (get_or xs i d ∷ [])
 
+-- the number of the fact that an atom becomes
+abbrev pub number_of : List ℕ → List ℕ → Kept → ℕ
+number_of arities objects a = fact_number (ground objects (atom_of arities a))
+
 -- Ground facts of the first i atoms.
 module _ (arities objects : List ℕ) (l : AtomList) (bound : Bound arities objects l) where
-  abbrev pub number_of : Kept → ℕ
-  number_of a = fact_number (ground objects (atom_of arities a))
-
   -- an atom of the list is known
   pub atom_known : (i : ℕ) → i < l.count → known arities (length objects) (atom_of arities (get_or l.atoms i blank_atom)) ≡ true
   unfolding atoms_of
@@ -131,15 +132,15 @@ module _ (arities objects : List ℕ) (l : AtomList) (bound : Bound arities obje
       (item_in (atom_of arities) l.count blank_atom l.atoms i h)
 
   pub grounded_step :
-      (i v : ℕ) (numbers : List ℕ) → i < l.count → numbers ≡ padded 8 0 (map number_of (take i l.atoms))
-      → v ≡ number_of (get_or l.atoms i blank_atom) → set numbers i v ≡ padded 8 0 (map number_of (take (i + 1) l.atoms))
+      (i v : ℕ) (numbers : List ℕ) → i < l.count → numbers ≡ padded 8 0 (map (number_of arities objects) (take i l.atoms))
+      → v ≡ number_of arities objects (get_or l.atoms i blank_atom) → set numbers i v ≡ padded 8 0 (map (number_of arities objects) (take (i + 1) l.atoms))
   grounded_step i v numbers h e p =
       let few = bound.few in
       let size = bound.size in
-      ap (set numbers i) p ∙ map_written 8 number_of l.atoms blank_atom numbers i (omega arith) (omega arith) e
+      ap (set numbers i) p ∙ map_written 8 (number_of arities objects) l.atoms blank_atom numbers i (omega arith) (omega arith) e
 
   pub grounded_end :
-      (i : ℕ) (numbers : List ℕ) → i ≡ l.count → numbers ≡ padded 8 0 (map number_of (take i l.atoms))
+      (i : ℕ) (numbers : List ℕ) → i ≡ l.count → numbers ≡ padded 8 0 (map (number_of arities objects) (take i l.atoms))
       → record { count = l.count; numbers = numbers } ≡ facts_kept (map (ground objects) (atoms_of arities l))
   unfolding facts_kept
   grounded_end i numbers all e =
@@ -150,7 +151,7 @@ module _ (arities objects : List ℕ) (l : AtomList) (bound : Bound arities obje
       (sym (length-take-le l.count l.atoms (omega arith)) ∙ sym (length-map atoms (atom_of arities))
       ∙ sym (length-map (map (atom_of arities) atoms) (ground objects))) in
       let same : numbers ≡ padded 8 0 (map fact_number (map (ground objects) (map (atom_of arities) atoms))) =
-      (e ∙ ap (λ (k : ℕ). padded 8 0 (map number_of (take k l.atoms))) all
+      (e ∙ ap (λ (k : ℕ). padded 8 0 (map (number_of arities objects) (take k l.atoms))) all
       ∙ ap (padded 8 0)
       (sym (map-map fact_number (λ a. ground objects (atom_of arities a)) atoms)
       ∙ ap (map fact_number) (sym (map-map (ground objects) (atom_of arities) atoms)))) in
@@ -158,11 +159,12 @@ module _ (arities objects : List ℕ) (l : AtomList) (bound : Bound arities obje
       λ k. record { count = n k; numbers = same k } in
       whole ∙ ap (λ (xs : List Atom). facts_kept (map (ground objects) xs)) (sym (atoms_within arities l (omega arith)))
 
+-- the number of a fact
+abbrev pub fact_number_of : List ℕ → Kept → ℕ
+fact_number_of arities f = fact_number (atom_of arities f)
+
 -- Facts of a task, the first i of them.
 module _ (arities : List ℕ) (l : FactList) (was : List ℕ) (kept : FactsRight arities l was) where
-  abbrev pub fact_number_of : Kept → ℕ
-  fact_number_of f = fact_number (atom_of arities f)
-
   pub fact_predicate : (i : ℕ) → i < l.count → (get_or l.facts i blank_atom).predicate < length arities
   unfolding facts_of atom_of
   fact_predicate i h =
@@ -171,22 +173,22 @@ module _ (arities : List ℕ) (l : FactList) (was : List ℕ) (kept : FactsRight
       (item_in (atom_of arities) l.count blank_atom l.facts i h))
 
   pub facts_step :
-      (i v : ℕ) (numbers : List ℕ) → i < l.count → numbers ≡ map fact_number_of (take i l.facts) ++ drop i was
-      → v ≡ fact_number_of (get_or l.facts i blank_atom) → set numbers i v ≡ map fact_number_of (take (i + 1) l.facts) ++ drop (i + 1) was
+      (i v : ℕ) (numbers : List ℕ) → i < l.count → numbers ≡ map (fact_number_of arities) (take i l.facts) ++ drop i was
+      → v ≡ fact_number_of arities (get_or l.facts i blank_atom) → set numbers i v ≡ map (fact_number_of arities) (take (i + 1) l.facts) ++ drop (i + 1) was
   facts_step i v numbers h e p =
       let few = kept.few in
       let size = kept.size in
       let room = kept.room in
       ap (λ (ns : List ℕ). set ns i v) e
-      ∙ store_next (map fact_number_of (take i l.facts)) was i v
-      (length-map (take i l.facts) fact_number_of ∙ length-take-le i l.facts (omega arith)) (omega arith)
+      ∙ store_next (map (fact_number_of arities) (take i l.facts)) was i v
+      (length-map (take i l.facts) (fact_number_of arities) ∙ length-take-le i l.facts (omega arith)) (omega arith)
       ∙ ap (λ (ns : List ℕ). ns ++ drop (i + 1) was)
-      (ap (λ (n : ℕ). map fact_number_of (take i l.facts) ++ (n ∷ [])) p ∙ sym (map_next fact_number_of l.facts i blank_atom (omega arith)))
+      (ap (λ (n : ℕ). map (fact_number_of arities) (take i l.facts) ++ (n ∷ [])) p ∙ sym (map_next (fact_number_of arities) l.facts i blank_atom (omega arith)))
 
   pub facts_end :
-      (i : ℕ) (numbers : List ℕ) → i ≡ l.count → numbers ≡ map fact_number_of (take i l.facts) ++ drop i was
+      (i : ℕ) (numbers : List ℕ) → i ≡ l.count → numbers ≡ map (fact_number_of arities) (take i l.facts) ++ drop i was
       → numbers ≡ map fact_number (facts_of arities l) ++ drop l.count was
   facts_end i numbers all e =
-      e ∙ ap (λ (k : ℕ). map fact_number_of (take k l.facts) ++ drop k was) all
+      e ∙ ap (λ (k : ℕ). map (fact_number_of arities) (take k l.facts) ++ drop k was) all
       ∙ ap (λ (ns : List ℕ). ns ++ drop l.count was) (sym (map-map fact_number (atom_of arities) (take l.count l.facts)))
       ∙ ap (λ (fs : List Atom). map fact_number fs ++ drop l.count was) (sym (facts_within arities l (omega (arith, kept.few, kept.size))))

@@ -4,10 +4,12 @@ use native.Mathlib.Omega.{arith}
 use mathlib.Core.Path.{◌≡◌, refl, sym, ap, ◌∙◌}
 use mathlib.Core.Bool.{Bool, true, false, cond, not, ◌&&◌}
 use mathlib.Core.List.{List, [], ◌∷◌}
-use lib.ListN.{get_or, drop}
+use lib.ListN.{get_or, take, drop}
+use lib.Seq.{get_or-take}
 use Rattle.laws.specs.Lists.{all, count}
 use Rattle.model.specs.Card.{Atom}
 use Rattle.card.specs.Represents.{atom_of, atoms_of, blank_atom}
+use Rattle.card.specs.declared.Atom.{Atom as Kept}
 use Rattle.card.specs.declared.AtomList.{AtomList}
 use Rattle.card.proofs.Entries.{next_item, no_item}
 
@@ -22,6 +24,12 @@ module _ (arities : List ℕ) (l : AtomList) (i : ℕ) where
   no_atom : l.count ≤ i → drop i (atoms_of arities l) ≡ []
   unfolding atoms_of
   no_atom h = no_item (atom_of arities) l.count blank_atom l.atoms i h
+
+-- what was found of an atom of the part that counts is so of the list's
+pub front_says : (test : Atom → Bool) (arities : List ℕ) (l : AtomList) {i : ℕ} {r : Bool} → i < l.count
+    → r ≡ test (atom_of arities (get_or (take l.count l.atoms) i blank_atom)) → r ≡ test (atom_here arities l i)
+front_says test arities l {i} h says =
+    says ∙ ap (λ (a : Kept). test (atom_of arities a)) (get_or-take l.count l.atoms i blank_atom h)
 
 -- The first i atoms of a list pass a test.
 pub record Passed (test : Atom → Bool) (arities : List ℕ) (l : AtomList) (i : ℕ) : Type 0 where

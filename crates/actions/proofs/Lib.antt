@@ -1,4 +1,3 @@
 pub mod GroundRows
 pub mod Passing
 pub mod Holding
-pub mod Fronts

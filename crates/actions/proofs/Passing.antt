@@ -1,13 +1,15 @@
 -- Passing over a list: what the elements from a place on say of a test.
 use Prim.Native.Nat.{ℕ, ◌+◌, ◌≤◌, ◌<◌}
 use native.Mathlib.Numerals.{add-one}
-use mathlib.Core.Path.{◌≡◌, sym, ap, ◌∙◌}
+use mathlib.Core.Path.{◌≡◌, refl, sym, ap, ◌∙◌}
 use mathlib.Core.Bool.{Bool, true, false, not, ◌&&◌, ◌||◌}
 use mathlib.Core.List.{List, [], ◌∷◌}
 use lib.ListN.{length, get_or, drop, drop_of_length-le}
 use lib.Seq.{drop-cons}
-use borrow.Author.Tests.{eq-eqb, ne_eqb}
+use lib.Dec.{eqb}
+use Rattle.std.specs.List.{list_all, list_any}
 use Rattle.laws.specs.Lists.{any, all, member, distinct}
+use Rattle.state.proofs.RightRows.{eqb_swap}
 
 -- the element at a place, and those after it
 next : (xs : List ℕ) (i : ℕ) → i < length xs → drop i xs ≡ get_or xs i 0 ∷ drop (i + 1) xs
@@ -17,35 +19,16 @@ next xs i h = drop-cons xs i 0 h ∙ ap (λ (k : ℕ). get_or xs i 0 ∷ drop k 
 past : (xs : List ℕ) (i : ℕ) → length xs ≤ i → drop i xs ≡ []
 past xs i h = drop_of_length-le xs h
 
-module _ (test : ℕ → Bool) (xs : List ℕ) (i : ℕ) (total : Bool) (left : all test (drop i xs) ≡ total) where
-  -- an element that fails decides
-  pub all_fails : i < length xs → test (get_or xs i 0) ≡ false → false ≡ total
-  unfolding all
-  all_fails h e = sym (ap (λ (b : Bool). b && all test (drop (i + 1) xs)) e) ∙ sym (ap (all test) (next xs i h)) ∙ left
+-- the tests of std are ours
+pub listed_all : (test : ℕ → Bool) (xs : List ℕ) → list_all test xs ≡ all test xs
+unfolding all
+listed_all test [] = refl
+listed_all test (x ∷ xs) = ap (λ (b : Bool). test x && b) (listed_all test xs)
 
-  -- one that passes leaves it to the others
-  pub all_again : i < length xs → test (get_or xs i 0) ≡ true → all test (drop (i + 1) xs) ≡ total
-  unfolding all
-  all_again h e = sym (ap (λ (b : Bool). b && all test (drop (i + 1) xs)) e) ∙ sym (ap (all test) (next xs i h)) ∙ left
-
-  pub all_end : length xs ≤ i → true ≡ total
-  unfolding all
-  all_end h = sym (ap (all test) (past xs i h)) ∙ left
-
-module _ (n : ℕ) (xs : List ℕ) (i : ℕ) (total : Bool) (left : member n (drop i xs) ≡ total) where
-  pub member_found : i < length xs → get_or xs i 0 ≡ n → true ≡ total
-  unfolding member any
-  member_found h e =
-      sym (ap (λ (b : Bool). b || member n (drop (i + 1) xs)) (eq-eqb n (get_or xs i 0) (sym e))) ∙ sym (ap (member n) (next xs i h)) ∙ left
-
-  pub member_again : i < length xs → (get_or xs i 0 ≡ n → ⊥) → member n (drop (i + 1) xs) ≡ total
-  unfolding member any
-  member_again h e =
-      sym (ap (λ (b : Bool). b || member n (drop (i + 1) xs)) (ne_eqb n (get_or xs i 0) (λ p. e (sym p)))) ∙ sym (ap (member n) (next xs i h)) ∙ left
-
-  pub member_end : length xs ≤ i → false ≡ total
-  unfolding member any
-  member_end h = sym (ap (member n) (past xs i h)) ∙ left
+pub listed_member : (n : ℕ) (xs : List ℕ) → list_any (λ x. eqb x n) xs ≡ member n xs
+unfolding member any
+listed_member n [] = refl
+listed_member n (x ∷ xs) = λ i. eqb_swap x n i || listed_member n xs i
 
 module _ (xs : List ℕ) (i : ℕ) (total : Bool) (left : distinct (drop i xs) ≡ total) where
   pub distinct_fails : i < length xs → member (get_or xs i 0) (drop (i + 1) xs) ≡ true → false ≡ total

@@ -24,6 +24,7 @@ pub struct Facts {
 }
 
 // What stands at place k of a row, 1 to 3: the byte up to the arity, filler after it.
+#[tactic(auto, unfolding(crate::specs::Grounds::place_byte))]
 fn place_byte(arity: u8, k: u8, byte: u8) -> u8
     ensures { result ≡ place_byte arity k byte }
 {
@@ -36,7 +37,7 @@ fn fact_number(f: Atom, arities: &[u8]) -> u32
     ensures { result ≡ fact_number (atom_of arities.now f) }
 {
     let predicate = f.predicate;
-    let arity = arities[predicate as usize];
+    let arity = arities[usize::from(predicate)];
     let first = place_byte(arity, 1, f.first);
     let second = place_byte(arity, 2, f.second);
     let third = place_byte(arity, 3, f.third);
@@ -44,12 +45,13 @@ fn fact_number(f: Atom, arities: &[u8]) -> u32
 }
 
 // The object for the parameter at place k of an atom, filler past the arity.
+#[tactic(auto, unfolding(crate::specs::Grounds::place_byte))]
 fn object(objects: &[u8], arity: u8, k: u8, parameter: u8) -> u8
     requires { k ≤ arity → parameter < length objects.now }
     ensures { result ≡ place_byte arity k (get_or objects.now parameter 0) }
 {
     if k <= arity {
-        objects[parameter as usize]
+        objects[usize::from(parameter)]
     } else {
         FILLER
     }
@@ -61,7 +63,7 @@ fn ground(a: Atom, arities: &[u8], objects: &[u8]) -> u32
     ensures { result ≡ fact_number (ground objects.now (atom_of arities.now a)) }
 {
     let predicate = a.predicate;
-    let arity = arities[predicate as usize];
+    let arity = arities[usize::from(predicate)];
     let first = object(objects, arity, 1, a.first);
     let second = object(objects, arity, 2, a.second);
     let third = object(objects, arity, 3, a.third);
@@ -75,34 +77,32 @@ fn grounded(list: AtomList, arities: &[u8], objects: &[u8]) -> Facts
 {
     let count = list.count;
     let mut numbers = [0u32; 8];
-    let mut i = 0;
-    while i < count {
-        let a = list.atoms[i];
-        numbers[i] = ground(a, arities, objects);
-        i = i + 1;
+    for i in 0..count {
+        numbers[i] = ground(list.atoms[i], arities, objects);
     }
     Facts { count, numbers }
 }
 
 // What an action takes out.
+#[tactic(auto, unfolding(model::specs::Strips::taken_out, card::specs::Represents::schema_of))]
 pub fn taken_out(schema: Schema, arities: &[u8], objects: &[u8]) -> Facts
     requires { Bound arities.now objects.now schema.deletes }
     ensures { result ≡ facts_kept (taken_out (schema_of arities.now schema) objects.now) }
 {
-    let deletes = schema.deletes;
-    grounded(deletes, arities, objects)
+    grounded(schema.deletes, arities, objects)
 }
 
 // What an action puts in.
+#[tactic(auto, unfolding(model::specs::Strips::put_in, card::specs::Represents::schema_of))]
 pub fn put_in(schema: Schema, arities: &[u8], objects: &[u8]) -> Facts
     requires { Bound arities.now objects.now schema.adds }
     ensures { result ≡ facts_kept (put_in (schema_of arities.now schema) objects.now) }
 {
-    let adds = schema.adds;
-    grounded(adds, arities, objects)
+    grounded(schema.adds, arities, objects)
 }
 
 // The fact that an atom becomes is in the state.
+#[tactic(auto, unfolding(crate::specs::Grounds::holds_in))]
 fn holds(a: Atom, arities: &[u8], state: &[u8], count: usize, objects: &[u8]) -> bool
     requires { (in_range arities.now ≡ true) × (known arities.now (length objects.now) (atom_of arities.now a) ≡ true)
         × RowsAscend count state.now }
@@ -117,14 +117,10 @@ pub fn all_hold(list: AtomList, arities: &[u8], state: &[u8], count: usize, obje
     requires { (Bound arities.now objects.now list) × (RowsAscend count state.now) }
     ensures { result ≡ all (holds_in count state.now objects.now) (atoms_of arities.now list) }
 {
-    let atoms = list.count;
-    let mut i = 0;
-    while i < atoms {
-        let atom = list.atoms[i];
-        if !holds(atom, arities, state, count, objects) {
+    for atom in &list.atoms[..list.count] {
+        if !holds(*atom, arities, state, count, objects) {
             return false;
         }
-        i = i + 1;
     }
     true
 }
@@ -140,17 +136,11 @@ pub fn missing_facts(
     requires { (Bound arities.now objects.now list) × (RowsAscend count state.now) }
     ensures { result ≡ missing_in count state.now objects.now (atoms_of arities.now list) }
 {
-    let atoms = list.count;
     let mut missing = 0;
-    let mut i = 0;
-    while i < atoms {
-        let atom = list.atoms[i];
-        if holds(atom, arities, state, count, objects) {
-            i = i + 1;
-            continue;
+    for a in &list.atoms[..list.count] {
+        if !holds(*a, arities, state, count, objects) {
+            missing += 1;
         }
-        missing = missing + 1;
-        i = i + 1;
     }
     missing
 }
@@ -159,14 +149,7 @@ pub fn missing_facts(
 pub fn all_known(objects: &[u8], bound: usize) -> bool
     ensures { result ≡ all (λ o. ltb o bound) objects.now }
 {
-    let mut i = 0;
-    while i < objects.len() {
-        if bound <= objects[i] as usize {
-            return false;
-        }
-        i = i + 1;
-    }
-    true
+    objects.iter().all(|o| usize::from(*o) < bound)
 }
 
 // The object is among the objects from a place on.
@@ -174,41 +157,29 @@ fn stands_from(objects: &[u8], at: usize, o: u8) -> bool
     requires { at ≤ length objects.now }
     ensures { result ≡ member o (drop at objects.now) }
 {
-    let mut i = at;
-    while i < objects.len() {
-        if objects[i] == o {
-            return true;
-        }
-        i = i + 1;
-    }
-    false
+    objects[at..].iter().any(|x| *x == o)
 }
 
 // No object stands twice.
 pub fn all_different(objects: &[u8]) -> bool
     ensures { result ≡ distinct objects.now }
 {
-    let mut i = 0;
-    while i < objects.len() {
-        if stands_from(objects, i + 1, objects[i]) {
+    for (i, object) in objects.iter().enumerate() {
+        if stands_from(objects, i + 1, *object) {
             return false;
         }
-        i = i + 1;
     }
     true
 }
 
 // Objects at the front of an array, and 0 after them.
+#[tactic(auto, unfolding(laws::specs::Lists::padded))]
 pub fn in_front(objects: &[u8]) -> [u8; MOST_PARAMETERS]
     requires { length objects.now ≤ 6 }
     ensures { result ≡ padded 6 0 objects.now }
 {
     let mut front = [0; MOST_PARAMETERS];
-    let mut i = 0;
-    while i < objects.len() {
-        front[i] = objects[i];
-        i = i + 1;
-    }
+    front[..objects.len()].copy_from_slice(objects);
     front
 }
 
@@ -217,11 +188,7 @@ pub fn fact_numbers(facts: FactList, arities: &[u8], numbers: &mut [u32])
     requires { FactsRight arities.now facts numbers.old }
     ensures { numbers.new ≡ map fact_number (facts_of arities.now facts) ++ drop facts.count numbers.old }
 {
-    let count = facts.count;
-    let mut i = 0;
-    while i < count {
-        let f = facts.facts[i];
-        numbers[i] = fact_number(f, arities);
-        i = i + 1;
+    for i in 0..facts.count {
+        numbers[i] = fact_number(facts.facts[i], arities);
     }
 }
