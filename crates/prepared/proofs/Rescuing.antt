@@ -2,7 +2,6 @@
 use Prim.Native.Nat.{ℕ, ◌+◌, ◌-◌, ◌≤◌, ◌<◌}
 use native.Mathlib.Omega.{arith}
 use mathlib.Core.Path.{◌≡◌, refl, sym, ap, ◌∙◌, subst}
-use mathlib.Core.Bool.{true, false}
 use mathlib.Core.Logic.{inl, inr}
 use mathlib.Core.List.{List, [], ◌∷◌, ◌++◌, flat_map, append-nil, Memᴰ}
 use lib.ListN.{length, get_or, take, drop}
@@ -30,7 +29,7 @@ use Rattle.space_lines.specs.OwnLines.{own_lines, space_bytes, Listable, SpaceHe
 use Rattle.space_lines.proofs.Conditions.{rescue_sized}
 use Rattle.space_lines.proofs.TaskSections.{Writable, in_order_few, part_writable, section_is, listable}
 use Rattle.space_lines.proofs.SectionRoom.{section_fits}
-use Rattle.analysis.specs.Rescued.{RescueGiven, rescue_of, RescuedTo, RescuedOf}
+use Rattle.analysis.specs.Rescued.{RescueGiven, rescue_of, RescuedTo}
 use Rattle.analysis.specs.declared.rescue.Rescued as code
 use Rattle.prepared.specs.declared.Prepared.{Prepared}
 use Rattle.prepared.specs.declared.Found.{Found}
@@ -121,19 +120,15 @@ rescuable {t} {number} {p} h room =
     }
 
 -- what was found of it
-module _ {t : Task} {number : ℕ} {p : Prepared} {f : Found} {conditions : List ℕ} (h : FoundOf t number p f conditions)
-    {r : code.Rescued} {table : List ℕ} (rescued : RescuedOf t (analysis_at t number) r table) where
+module _ {t : Task} {number : ℕ} {p : Prepared} {f : Found} {conditions : List ℕ} (h : FoundOf t number p f conditions) where
   -- nothing that is listed
-  pub rescue_unlisted : r.listed ≡ false → (out : List ℕ) → Writes (text (rescue_lines t number)) out out 0
+  pub rescue_unlisted : rescue_of t (analysis_at t number) ≡ [] → (out : List ℕ) → Writes (text (rescue_lines t number)) out out 0
   unfolding rescue_lines text flat_map
   rescue_unlisted e out =
-      subst (λ (l : List Analysis). Writes (text (flat_map (space_lines t number) l)) out out 0) (sym (rescued.unlisted e)) (nothing out)
+      subst (λ (l : List Analysis). Writes (text (flat_map (space_lines t number) l)) out out 0) (sym e) (nothing out)
 
   -- or a space that is
-  module _ (e : r.listed ≡ true) where
-    to : RescuedTo t (analysis_at t number) r table
-    to = rescued.listed e
-
+  module _ {r : code.Rescued} {table : List ℕ} (to : RescuedTo t (analysis_at t number) r table) where
     abbrev left : Analysis
     left = to.analysis
 

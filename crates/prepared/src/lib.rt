@@ -203,7 +203,7 @@ fn write_rescue(
     let spaces = prepared.spaces;
     let members = spaces.members[number];
     let parameters = prepared.parameters;
-    let rescued = rescue(
+    let Some(rescued) = rescue(
         found.own,
         members,
         analysed.hidden,
@@ -214,10 +214,9 @@ fn write_rescue(
         starts,
         finishes,
         conditions,
-    );
-    if !rescued.listed {
+    ) else {
         return 0;
-    }
+    };
     let own = rescued.own;
     let list = own.properties;
     let size = own.count;
