@@ -1,5 +1,6 @@
 -- The text of a line, part by part.
-use Prim.Native.Nat.{ℕ}
+use Prim.Native.Nat.{ℕ, ◌+◌, ◌-◌, ◌<◌}
+use lib.ListN.{length, take, drop, set}
 use mathlib.Core.Path.{refl}
 use mathlib.Core.List.{List, [], ◌∷◌, ◌++◌, map, flat_map, append-nil, append_assoc}
 use Rattle.laws.proofs.Lists.{flat_map_append}
@@ -9,7 +10,9 @@ use Rattle.model.specs.Spaces.{Kind}
 use Rattle.text.specs.Kinds.{space_front}
 use Rattle.text.specs.Letters.{newline, blank, colon_byte, letter_d, letter_r, letter_s, letter_t}
 use Rattle.text.specs.Numbers.{numbers, last_numbers}
-use Rattle.text.proofs.Writing.{Begins}
+use Rattle.text.specs.Room.{Room}
+use Rattle.text.specs.Written.{Writes}
+use Rattle.text.proofs.Writing.{Begins, Remains, begun, next_fits, next, last_inside, with_last}
 
 -- the first number after the letter
 pub one_number_lem : (letter a : ℕ) → Begins (spaced ((letter ∷ []) ∷ decimal a ∷ [])) (letter ∷ []) (blank ∷ decimal a)
@@ -38,6 +41,28 @@ mark_byte b = record { path = refl }
 pub colon_first : (ns : List ℕ) → Begins (last_numbers ns) (blank ∷ colon_byte ∷ []) (numbers ns ++ (newline ∷ []))
 unfolding last_numbers
 colon_first ns = record { path = refl }
+
+-- The last numbers of a line: behind the blank and the colon there is room for them, and behind them for the line's end.
+module _ (ns : List ℕ) {before mid : List ℕ} {at : ℕ} (room : Room (last_numbers ns) before)
+    (mark : Writes (blank ∷ colon_byte ∷ []) before mid at) where
+  marked : Remains (last_numbers ns) (numbers ns ++ (newline ∷ [])) before mid at
+  marked = begun (colon_first ns) room mark
+
+  pub numbers_fit : Room (numbers ns) (take (length mid - at) (drop at mid))
+  numbers_fit = next_fits marked (line_end (numbers ns))
+
+  module _ {part : List ℕ} {n : ℕ} (w : Writes (numbers ns) (take (length mid - at) (drop at mid)) part n) where
+    abbrev now : List ℕ
+    now = take at mid ++ (part ++ drop (length mid - at) (drop at mid))
+
+    up_to_end : Remains (last_numbers ns) (newline ∷ []) before now (at + n)
+    up_to_end = next marked (line_end (numbers ns)) w
+
+    pub end_inside : at + n < length now
+    end_inside = let r = up_to_end in last_inside record { path = r.whole } r.room r.so_far
+
+    pub last_written : Writes (last_numbers ns) before (set now (at + n) newline) (at + n + 1)
+    last_written = let r = up_to_end in with_last record { path = r.whole } r.room r.so_far
 
 -- a line's first items, and then the others up to its end
 items_parts : (first : List ℕ) (front back : List (List ℕ))

@@ -125,7 +125,7 @@ first_fits b room = record { fits = let h = simp length-append at (ap length b.p
 -- A text in two parts, the first of which is written.
 module _ {text bytes later before mid : List ℕ} {at : ℕ} (b : Begins text bytes later) (room : Room text before)
     (w : Writes bytes before mid at) where
-  begun : Remains text later before mid at
+  pub begun : Remains text later before mid at
   begun =
       let h = simp length-append at (ap length b.path) in
       record {
