@@ -32,27 +32,12 @@ pub fn write_types(out: &mut [u8], schema: usize, parameter: usize, objects: u64
     at + n
 }
 
-// The letter of a kind.
-fn letter_of(kind: Kind) -> u8
-    ensures { result ≡ kind_letter (kind_says kind) }
-{
-    match kind {
-        Kind::Static => b'S',
-        Kind::Attribute => b'A',
-        Kind::Property => b'P',
-        Kind::Mixed => b'M',
-        Kind::Wide => b'W',
-        Kind::Rescued => b'H',
-    }
-}
-
 // The kind of a space and a colon.
 fn write_kind(out: &mut [u8], kind: Kind) -> usize
     requires { Room (blank ∷ kind_letter (kind_says kind) ∷ blank ∷ colon_byte ∷ []) out.old }
     ensures { Writes (blank ∷ kind_letter (kind_says kind) ∷ blank ∷ colon_byte ∷ []) out.old out.new result }
 {
-    let letter = letter_of(kind);
-    let at = write_mark(out, letter);
+    let at = write_mark(out, u8::from(kind));
     let n = write_mark(&mut out[at..], b':');
     at + n
 }
