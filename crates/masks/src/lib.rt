@@ -8,7 +8,7 @@ ghost use Rattle.masks.specs.Sets.{is_member, members_of, first_member, without_
 pub fn size(mask: u64) -> u32
     ensures { result ≡ length (members_of mask) }
 {
-    u64::count_ones(mask)
+    mask.count_ones()
 }
 
 // No number is a member.
@@ -30,7 +30,7 @@ pub fn first_member(mask: u64) -> usize
     requires { 0 < mask }
     ensures { result ≡ first_member mask }
 {
-    u64::trailing_zeros(mask) as usize
+    mask.trailing_zeros() as usize
 }
 
 // The mask without its lowest member.
@@ -55,7 +55,7 @@ pub fn all_below(n: usize) -> u64
     ensures { result ≡ all_below n }
 {
     if n == 64 {
-        return 0xFFFFFFFFFFFFFFFF;
+        return u64::MAX;
     }
     (1u64 << n) - 1
 }
