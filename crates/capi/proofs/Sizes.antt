@@ -7,6 +7,7 @@ use mathlib.Core.Logic.{⊎_elim}
 use mathlib.Core.List.{List}
 use lib.Dec.{leb}
 use lib.ListN.{length}
+use Rattle.std.specs.Prelude.{Result}
 use Rattle.model.specs.Answer.{Answer, refused, accepted, ◌>>◌, need}
 use Rattle.model.specs.Card.{Task, decode}
 use Rattle.model.specs.Writer.{check_task, task_bytes}
@@ -21,7 +22,7 @@ use Rattle.strips.specs.Answers.{applied_says, Matches}
 use Rattle.strips.specs.declared.Applied.{Applied}
 use Rattle.card.specs.Represents.{task_of}
 use Rattle.writer.specs.Answers.{writing_says, Encodes}
-use Rattle.writer.specs.declared.Writing.{Writing}
+use Rattle.writer.specs.declared.WriterRefusal.{WriterRefusal}
 use Rattle.capi.specs.Numbers.{Small}
 
 -- a call that has refused answers no value
@@ -77,5 +78,5 @@ encode_small t out = record { within = λ n e. go n (check_task t) refl (leb out
 pub does_small : {call : Call} {after : List ℕ} {r : Applied} → Matches call after r → Small call.answer → Small (applied_says r)
 does_small does small = subst Small (sym does.answer) small
 
-pub encodes_small : {t : Kept} {out after : List ℕ} {w : Writing} → Encodes t out after w → Small (writing_says w)
+pub encodes_small : {t : Kept} {out after : List ℕ} {w : Result ℕ WriterRefusal} → Encodes t out after w → Small (writing_says w)
 encodes_small {t} {out} encodes = subst Small (sym encodes.answer) (encode_small (task_of t) out)

@@ -23,7 +23,7 @@ use open_actions::{Found, Given, NextOpen, next_open};
 use previews::{Changes, Committed, Previewed, Rows, commit, preview};
 use reader::decode;
 use strips::{Applied, apply, initial};
-use writer::{Writing, encode};
+use writer::{WriterRefusal, encode};
 
 // The version of these calls, 0.3.0, as include/stakestalk.h has it: two decimal digits each for minor and patch.
 const VERSION: i32 = 300;
@@ -58,14 +58,14 @@ fn applied_code(applied: Applied) -> i32
     }
 }
 
-fn writing_code(writing: Writing) -> i32
+fn writing_code(writing: Result<usize, WriterRefusal>) -> i32
     requires { Small (writing_says writing) }
     ensures { result ≡ signed (writing_says writing) }
 {
     match writing {
-        Writing::Written(length) => length as i32,
-        Writing::Refused(refusal) => refusal_code(refusal),
-        Writing::OutputShort => -21,
+        Ok(length) => length as i32,
+        Err(WriterRefusal::Table(refusal)) => refusal_code(refusal),
+        Err(WriterRefusal::OutputShort) => -21,
     }
 }
 
