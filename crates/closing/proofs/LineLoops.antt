@@ -1,9 +1,7 @@
 -- Lines written number by number: those of the numbers that are left.
 use Prim.Native.Nat.{ℕ, ◌+◌, ◌≤◌, ◌<◌}
-use native.Mathlib.Omega.{arith}
 use mathlib.Core.Path.{◌≡◌, sym, ap, ◌∙◌, subst}
 use mathlib.Core.List.{List, [], ◌∷◌, ◌++◌, map, flat_map}
-use lib.ListN.{length}
 use Rattle.laws.specs.Lists.{up_to}
 use Rattle.laws.proofs.Lists.{flat_map_append}
 use Rattle.laws.proofs.Walks.{left, left_all, left_none, left_one}
@@ -11,7 +9,7 @@ use Rattle.model.specs.Lines.{Line}
 use Rattle.model.specs.Text.{line_text, text}
 use Rattle.text.specs.Room.{Room}
 use Rattle.text.specs.Written.{Writes}
-use Rattle.text.proofs.Writing.{Begins, Remains}
+use Rattle.text.proofs.Writing.{Begins}
 
 -- a text may be said in other words
 pub room_as : {bytes bytes' buffer : List ℕ} → bytes ≡ bytes' → Room bytes buffer → Room bytes' buffer
@@ -19,10 +17,6 @@ room_as {buffer = buffer} e r = subst (λ (l : List ℕ). Room l buffer) e r
 
 pub writes_as : {bytes bytes' before after : List ℕ} {n : ℕ} → bytes ≡ bytes' → Writes bytes before after n → Writes bytes' before after n
 writes_as {before = before} {after = after} {n = n} e w = subst (λ (l : List ℕ). Writes l before after n) e w
-
--- the place that is reached is within the buffer
-pub remains_within : {all rest before now : List ℕ} {at : ℕ} → Remains all rest before now at → at ≤ length now
-remains_within r = omega (arith, r.reached, r.room.fits, r.kept)
 
 -- the text of some lines and of others behind them
 pub text_parts : (front back : List Line) → Begins (text (front ++ back)) (text front) (text back)

@@ -17,12 +17,10 @@ fn count_of(list: AtomList, p: u8) -> usize
     requires { list.count ≤ 8 }
     ensures { (arities : List ℕ) → result ≡ of_predicate p (atoms_of arities list) }
 {
-    let count = list.count;
     let mut n = 0;
-    for i in 0..count {
-        let a = list.atoms[i];
+    for a in &list.atoms[..list.count] {
         if a.predicate == p {
-            n = n + 1;
+            n += 1;
         }
     }
     n
@@ -33,14 +31,9 @@ fn fact_counts(list: FactList) -> [u16; 20]
     requires { FactsFit list }
     ensures { (p : ℕ) → p < 20 → (arities : List ℕ) → get_or result p 0 ≡ of_predicate p (facts_of arities list) }
 {
-    let count = list.count;
     let mut counts = [0u16; 20];
-    let mut i = 0;
-    while i < count {
-        let fact = list.facts[i];
-        let p = fact.predicate as usize;
-        counts[p] = counts[p] + 1;
-        i = i + 1;
+    for fact in &list.facts[..list.count] {
+        counts[usize::from(fact.predicate)] += 1;
     }
     counts
 }
@@ -59,14 +52,10 @@ fn still_capped(
         → get_or result p false ≡ (leb (of_predicate p (atoms_of arities adds)) (of_predicate p (atoms_of arities deletes)) && get_or capped p false) }
 {
     let mut still = capped;
-    let mut p = 0;
-    while p < predicates {
-        let predicate = p;
-        p = p + 1;
-        if count_of(adds, predicate as u8) <= count_of(deletes, predicate as u8) {
-            continue;
+    for p in 0..predicates {
+        if count_of(adds, p as u8) > count_of(deletes, p as u8) {
+            still[p] = false;
         }
-        still[predicate] = false;
     }
     still
 }
@@ -80,14 +69,10 @@ fn capped_predicates(list: SchemaList, predicates: usize) -> [bool; 20]
         → (arities : List ℕ)
         → get_or result p false ≡ all (λ s. leb (of_predicate p s.adds) (of_predicate p s.deletes)) (schemas_of arities list) }
 {
-    let count = list.count;
     let mut capped = [true; 20];
-    let mut i = 0;
-    while i < count {
-        let s = list.schemas[i];
+    for s in &list.schemas[..list.count] {
         let still = still_capped(capped, predicates, s.deletes, s.adds);
         capped = still;
-        i = i + 1;
     }
     capped
 }
@@ -105,15 +90,10 @@ pub fn write_ceilings(out: &mut [u8], task: Task) -> usize
     let capped = capped_predicates(task.schemas, task.predicates.count);
     let counts = fact_counts(task.facts);
     let mut at = 0;
-    let mut p = 0;
-    while p < task.predicates.count {
-        let predicate = p;
-        p = p + 1;
-        if !capped[predicate] {
-            continue;
+    for p in 0..task.predicates.count {
+        if capped[p] {
+            at += write_ceiling(&mut out[at..], p, usize::from(counts[p]));
         }
-        let n = write_ceiling(&mut out[at..], predicate, counts[predicate] as usize);
-        at = at + n;
     }
     at
 }

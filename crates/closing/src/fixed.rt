@@ -18,10 +18,9 @@ fn total_of(fixed: &[u32], first: usize, arity: usize) -> u32
     requires { first + arity ≤ length fixed.now }
     ensures { result ≡ first_some (take arity (drop first fixed.now)) }
 {
-    for i in 0..arity {
-        let n = fixed[first + i];
-        if n != 0 {
-            return n;
+    for n in &fixed[first..first + arity] {
+        if *n != 0 {
+            return *n;
         }
     }
     0
@@ -41,18 +40,13 @@ pub fn write_totals(out: &mut [u8], task: Task, fixed: &[u32]) -> usize
     let predicates = task.predicates;
     let mut at = 0;
     let mut first = 0;
-    let mut p = 0;
-    while p < predicates.count {
-        let predicate = p;
-        let arity = predicates.arities[p] as usize;
+    for p in 0..predicates.count {
+        let arity = usize::from(predicates.arities[p]);
         let entry = total_of(fixed, first, arity);
-        first = first + arity;
-        p = p + 1;
-        if entry == 0 {
-            continue;
+        first += arity;
+        if entry != 0 {
+            at += write_total(&mut out[at..], p, (entry - 1) as usize);
         }
-        let n = write_total(&mut out[at..], predicate, (entry - 1) as usize);
-        at = at + n;
     }
     at
 }

@@ -20,13 +20,9 @@ fn by_label(spaces: Spaces) -> [u64; 60]
     requires { (spaces.count ≤ 60) × ((k : ℕ) → get_or spaces.lowest k 0 < 60) }
     ensures { result ≡ label_masks spaces.lowest spaces.members spaces.count }
 {
-    let count = spaces.count;
-    let lowest = spaces.lowest;
-    let members = spaces.members;
     let mut masks = [0u64; 60];
-    for k in 0..count {
-        let l = lowest[k] as usize;
-        masks[l] = members[k];
+    for k in 0..spaces.count {
+        masks[usize::from(spaces.lowest[k])] = spaces.members[k];
     }
     masks
 }
@@ -54,12 +50,9 @@ fn write_schema_types(
         result }
 {
     let mut at = 0;
-    let mut k = 0;
-    while k < parameters {
+    for k in 0..parameters {
         let those = enabled(masks, groups, preconditions, first + k, size, objects);
-        let m = write_types(&mut out[at..], n, k, those);
-        at = at + m;
-        k = k + 1;
+        at += write_types(&mut out[at..], n, k, those);
     }
     at
 }
@@ -83,10 +76,8 @@ pub fn write_type_lines(out: &mut [u8], task: Task, spaces: Spaces, precondition
     let groups = spaces.groups;
     let mut at = 0;
     let mut first = 0;
-    let mut i = 0;
-    while i < schemas.count {
-        let schema = schemas.schemas[i];
-        let n = write_schema_types(
+    for (i, schema) in schemas.schemas[..schemas.count].iter().enumerate() {
+        at += write_schema_types(
             &mut out[at..],
             i,
             schema.parameters,
@@ -97,9 +88,7 @@ pub fn write_type_lines(out: &mut [u8], task: Task, spaces: Spaces, precondition
             size,
             task.objects,
         );
-        first = first + schema.parameters;
-        at = at + n;
-        i = i + 1;
+        first += schema.parameters;
     }
     at
 }

@@ -1,4 +1,4 @@
--- A turn of a loop with a counter: the counter stays within its bound, and less is left.
+-- A turn of a loop with a counter: less is left.
 use Prim.Native.Nat.{ℕ, ◌+◌, ◌-◌, ◌<◌}
 use native.Mathlib.Omega.{arith}
 
