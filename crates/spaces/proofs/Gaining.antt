@@ -1,20 +1,14 @@
 -- What a parameter brings into spaces, as the code finds it: it has a start, changes nothing, or brings in properties.
 use Prim.Native.Nat.{ℕ, zero, suc, ◌+◌, ◌-◌, ◌≤◌, ◌<◌}
+use Rattle.std.specs.Prelude.{Option, None, Some, is_none}
 use native.Mathlib.Omega.{arith}
 use mathlib.Core.Path.{◌≡◌, refl, sym, ap, ◌∙◌}
 use mathlib.Core.Bool.{true, false}
-use mathlib.Core.List.{List, [], ◌∷◌, foldl, Memᴰ}
+use mathlib.Core.List.{List, [], foldl}
 use Rattle.laws.specs.Bags.{Bag}
 use Rattle.laws.proofs.Tests.{cond_true, cond_false}
-use Rattle.properties.specs.Tables.{bag_at, HasRow}
-use Rattle.spaces.specs.Steps.{has_start, changed_by, gained_by, first_or, join_at, enabled_by, gain_row, round_in, rounds_in}
-use Rattle.spaces.proofs.Rows.{changed_below}
-
--- where the first of some properties below a size is not, there is none
-none_first : (size : ℕ) (cs : List ℕ) → ((c : ℕ) → Memᴰ c cs → c < size) → size ≤ first_or size cs → cs ≡ []
-unfolding first_or
-none_first size [] known h = refl
-none_first size (c ∷ cs) known h = let below = known c (Memᴰ.head refl) in absurd (omega arith)
+use Rattle.spaces.specs.Steps.{has_start, changed_by, gained_by, first_of, join_at, enabled_by, gain_row, round_in, rounds_in}
+use Rattle.spaces.proofs.Rows.{none_first}
 
 module _ (groups : List ℕ) (objects : ℕ) (old masks : List ℕ) (p : Bag) where
   -- a parameter with a start brings nobody
@@ -28,15 +22,15 @@ module _ (groups : List ℕ) (objects : ℕ) (old masks : List ℕ) (p : Bag) wh
   unfolding gain_row gained_by
   gain_some d a e = ap (foldl (join_at groups (enabled_by groups objects old p)) masks) (sym (cond_false (has_start d a) [] (changed_by d a) e))
 
+  at_none : {A : Type 0} (o : Option A) → is_none o ≡ true → o ≡ None
+  at_none None e = refl
+  at_none (Some a) e = absurd (cc)
+
   -- and nobody where it changes none
-  pub gain_still : {size row : ℕ} {deletes adds : List ℕ} → HasRow size row deletes → HasRow size row adds
-      → has_start (bag_at size deletes row) (bag_at size adds row) ≡ false
-      → size ≤ first_or size (changed_by (bag_at size deletes row) (bag_at size adds row))
-      → masks ≡ gain_row groups objects old masks p (bag_at size deletes row) (bag_at size adds row)
-  gain_still {size} {row} {deletes} {adds} d a e h =
-      let changed = changed_by (bag_at size deletes row) (bag_at size adds row) in
-      ap (foldl (join_at groups (enabled_by groups objects old p)) masks) (sym (none_first size changed (changed_below d a) h))
-      ∙ gain_some (bag_at size deletes row) (bag_at size adds row) e
+  pub gain_still : (d a : Bag) → has_start d a ≡ false → is_none (first_of (changed_by d a)) ≡ true → masks ≡ gain_row groups objects old masks p d a
+  gain_still d a e h =
+      ap (foldl (join_at groups (enabled_by groups objects old p)) masks) (sym (none_first (changed_by d a) (at_none (first_of (changed_by d a)) h)))
+      ∙ gain_some d a e
 
 -- what the rounds go over: the groups, the number of objects, and the first `size` columns of the first `count` rows of the tables P, D and A
 pub record Rounds : Type 0 where

@@ -1,5 +1,6 @@
 -- Rows of the tables: what the counts at a place of a table say of a bag, and the first property that a parameter changes.
 use Prim.Native.Nat.{ℕ, ◌+◌, ◌*◌, ◌≤◌, ◌<◌}
+use Rattle.std.specs.Prelude.{None, Some}
 use mathlib.Core.Path.{◌≡◌, refl, sym, ap, ◌∙◌, subst}
 use mathlib.Core.Bool.{Bool, true, false, cond, not}
 use mathlib.Core.List.Memᴰ
@@ -9,12 +10,12 @@ use lib.ListN.{length, get_or}
 use borrow.Author.Tests.{lt-ltb, le-ltb}
 use Rattle.laws.specs.Lists.{keep, up_to}
 use Rattle.laws.specs.Bags.{support}
-use Rattle.laws.proofs.Lists.{up_to_at, up_to_intro, keep_at, keep_intro, any_intro, any_false}
+use Rattle.laws.proofs.Lists.{up_to_at, up_to_intro, keep_at, any_intro, any_false}
 use Rattle.laws.proofs.Mapped.{keep_ext}
 use Rattle.laws.proofs.Walks.{left, kept_passes, kept_fails, kept_none}
 use Rattle.properties.specs.Tables.{bag_at, HasRow}
 use Rattle.properties.proofs.Rows.{length_bag_at, get_d_bag_at}
-use Rattle.spaces.specs.Steps.{has_start, changed_by, united_by, first_or}
+use Rattle.spaces.specs.Steps.{has_start, changed_by, united_by, first_of}
 
 -- a property has a count in the row of a table that begins at a place; and its counts in the rows of two tables differ
 unfoldable pub used : List ℕ → ℕ → ℕ → Bool
@@ -71,28 +72,33 @@ module _ {size row : ℕ} {deletes adds : List ℕ} (d : HasRow size row deletes
       let h : c < size = subst (λ (n : ℕ). c < n) (length_bag_at d) (up_to_at (length (bag_at size deletes row)) c m) in
       (λ i. ltb (get_d_bag_at a c h i) (get_d_bag_at d c h i)) ∙ le-ltb (get_or adds (60 * row + c) 0) (get_or deletes (60 * row + c) 0) (none c h))
 
--- the first of a list with an element is in the list
-first_in : (other n : ℕ) (ns : List ℕ) → Memᴰ n ns → Memᴰ (first_or other ns) ns
-unfolding first_or
-first_in other n [] m = absurd (Memᴰ.not-nil m)
-first_in other n (k ∷ ns) m = Memᴰ.head refl
+-- the first number of a list, with the others
+first_is : (ns : List ℕ) {n : ℕ} → first_of ns ≡ Some n → (later : List ℕ) × (ns ≡ n ∷ later)
+unfolding first_of
+first_is [] e = absurd (cc)
+first_is (k ∷ ns) e = let f : k ≡ _ = cc in (ns, ap (λ (m : ℕ). m ∷ ns) f)
 
--- the first number left that passes
+-- a list without a first number
+pub none_first : (ns : List ℕ) → first_of ns ≡ None → ns ≡ []
+unfolding first_of
+none_first [] e = refl
+none_first (k ∷ ns) e = absurd (cc)
+
 module _ (test : ℕ → Bool) (size : ℕ) where
-  pub first_here : (other i : ℕ) → i < size → test i ≡ true → first_or other (keep test (left i size)) ≡ i
-  unfolding first_or
-  first_here other i h e = ap (first_or other) (kept_passes test i size h e)
+  -- the first number left that passes
+  pub first_here : (i : ℕ) → i < size → test i ≡ true → first_of (keep test (left i size)) ≡ Some i
+  unfolding first_of
+  first_here i h e = ap first_of (kept_passes test i size h e)
 
-  pub first_later : (other i : ℕ) → i < size → test i ≡ false
-      → first_or other (keep test (left i size)) ≡ first_or other (keep test (left (i + 1) size))
-  first_later other i h e = ap (first_or other) (kept_fails test i size h e)
+  pub first_later : (i : ℕ) → i < size → test i ≡ false → first_of (keep test (left i size)) ≡ first_of (keep test (left (i + 1) size))
+  first_later i h e = ap first_of (kept_fails test i size h e)
 
-  pub first_none : (other i : ℕ) → size ≤ i → first_or other (keep test (left i size)) ≡ other
-  unfolding first_or
-  first_none other i h = ap (first_or other) (kept_none test i size h)
+  pub first_none : (i : ℕ) → size ≤ i → first_of (keep test (left i size)) ≡ None
+  unfolding first_of
+  first_none i h = ap first_of (kept_none test i size h)
 
-  -- where a number passes, the first that passes is below the size
-  pub first_below : (other i : ℕ) → i < size → test i ≡ true → first_or other (keep test (up_to size)) < size
-  first_below other i h e =
-      up_to_at size (first_or other (keep test (up_to size)))
-      (keep_at test (up_to size) _ (first_in other i (keep test (up_to size)) (keep_intro test (up_to size) i (up_to_intro size i h) e))).0
+  -- it is below the size
+  pub first_below : {n : ℕ} → first_of (keep test (up_to size)) ≡ Some n → n < size
+  first_below {n} e =
+      let p = first_is (keep test (up_to size)) e in
+      up_to_at size n (keep_at test (up_to size) n (subst (Memᴰ n) (sym p.1) (Memᴰ.head refl))).0

@@ -1,5 +1,6 @@
 -- Uniting groups: one label gives way to another, in as many places as hold it; places past the properties stay as they are.
 use Prim.Native.Nat.{ℕ, zero, suc, ◌+◌, ◌≤◌, ◌<◌, ◌-◌, min}
+use Rattle.std.specs.Prelude.{Some}
 use native.Mathlib.Omega.{arith}
 use mathlib.Core.Path.{◌≡◌, refl, sym, ap, ◌∙◌, subst}
 use mathlib.Core.Bool.{Bool, true, false, cond, ◌||◌}
@@ -15,7 +16,7 @@ use Rattle.laws.proofs.Mapped.{map_ext}
 use Rattle.laws.proofs.Walks.{changed, changed_at, changed_next, changed_left}
 use Rattle.model.specs.Spaces.{unite, unite_all}
 use Rattle.model.proofs.Grouping.{length_unite, unite_all_keeps}
-use Rattle.spaces.specs.Steps.{has_start, changed_by, united_by, first_or}
+use Rattle.spaces.specs.Steps.{has_start, changed_by, united_by, first_of}
 
 -- a parameter with a start unites the properties that it changes, any other none
 pub united_started : (d a : Bag) → has_start d a ≡ true → united_by d a ≡ changed_by d a
@@ -97,10 +98,12 @@ unite_same groups c d e =
         by_test (eqb l g) (λ p. eqb-true l g p ∙ e ∙ sym (cond_true (eqb l g) k l p)) (λ p. sym (cond_false (eqb l g) k l p))
 
 -- bringing all together with the first, the first itself included
-pub unite_all_first : (other : ℕ) (groups cs : List ℕ) → unite_all groups cs ≡ foldl (unite (first_or other cs)) groups cs
-unfolding unite_all first_or
-unite_all_first other groups [] = refl
-unite_all_first other groups (c ∷ cs) = ap (λ (l : List ℕ). foldl (unite c) l cs) (unite_same groups c c refl)
+pub unite_all_first : {first : ℕ} (groups cs : List ℕ) → first_of cs ≡ Some first → unite_all groups cs ≡ foldl (unite first) groups cs
+unfolding unite_all first_of
+unite_all_first groups [] e = absurd (cc)
+unite_all_first {first} groups (c ∷ cs) e =
+    let f : c ≡ first = cc in
+    ap (λ (l : List ℕ). foldl (unite c) l cs) (unite_same groups c c refl) ∙ ap (λ (n : ℕ). foldl (unite n) groups (c ∷ cs)) f
 
 -- Places past the properties: their label 0 stays, as no label is lower.
 zero_merged : (g h : ℕ) → cond (eqb 0 g || eqb 0 h) (min g h) 0 ≡ 0

@@ -1,5 +1,5 @@
 -- What each step of the code computes: which properties a parameter's rows unite and increase, and members as masks, one for each label of a group.
-use Rattle.std.specs.Prelude.{ℕ, zero, suc, Bool, cond, not, eqb, ltb, length, get_or, set, replicate}
+use Rattle.std.specs.Prelude.{ℕ, zero, suc, Bool, cond, not, eqb, ltb, length, get_or, set, replicate, Option, None, Some}
 use mathlib.Core.List.{List, [], ◌∷◌, foldl}
 use Rattle.laws.specs.Lists.{any, keep, up_to, padded}
 use Rattle.laws.specs.Bags.{Bag, support}
@@ -23,10 +23,10 @@ united_by d a = cond (has_start d a) (changed_by d a) []
 unfoldable pub gained_by : Bag → Bag → List ℕ
 gained_by d a = cond (has_start d a) [] (changed_by d a)
 
--- the first number of a list, or another where there is none
-unfoldable pub first_or : ℕ → List ℕ → ℕ
-first_or other [] = other
-first_or other (n ∷ ns) = n
+-- the first number of a list, if there is one
+unfoldable pub first_of : List ℕ → Option ℕ
+first_of [] = None
+first_of (n ∷ ns) = Some n
 
 -- the groups of the first `size` properties by the parameters in the first rows, 0 past the properties
 unfoldable pub groups_in : ℕ → ℕ → List ℕ → List ℕ → List ℕ

@@ -5,7 +5,7 @@ ghost use Rattle.std.specs.Prelude.{◌≡◌, cond, map, ◌*◌, ◌≤◌, �
 ghost use Rattle.laws.specs.Lists.{up_to, padded};
 ghost use Rattle.model.specs.Spaces as model;
 ghost use Rattle.properties.specs.Tables.{bag_at, HasRow};
-ghost use Rattle.spaces.specs.Steps.{has_start, changed_by, united_by, first_or, groups_in, labelled};
+ghost use Rattle.spaces.specs.Steps.{has_start, changed_by, united_by, first_of, groups_in, labelled};
 
 // The parameter in a row has a rule with a start beside the exchanges: it deletes some property more often than it adds it.
 pub fn has_start(deletes: &[u8], adds: &[u8], row: usize, size: usize) -> bool
@@ -21,18 +21,18 @@ pub fn has_start(deletes: &[u8], adds: &[u8], row: usize, size: usize) -> bool
     false
 }
 
-// The first property that the parameter in a row does not delete as often as it adds it, or `size` where there is none.
-pub fn first_changed(deletes: &[u8], adds: &[u8], row: usize, size: usize) -> usize
+// The first property that the parameter in a row does not delete as often as it adds it.
+pub fn first_changed(deletes: &[u8], adds: &[u8], row: usize, size: usize) -> Option<usize>
     requires { HasRow size row deletes.now × HasRow size row adds.now }
-    ensures { result ≡ first_or size (changed_by (bag_at size deletes.now row) (bag_at size adds.now row)) }
+    ensures { result ≡ first_of (changed_by (bag_at size deletes.now row) (bag_at size adds.now row)) }
 {
     let at = 60 * row;
     for c in 0..size {
         if deletes[at + c] != adds[at + c] {
-            return c;
+            return Some(c);
         }
     }
-    size
+    None
 }
 
 // One label gives way to another.
@@ -40,9 +40,9 @@ fn relabelled(groups: [u8; 60], from: u8, to: u8) -> [u8; 60]
     ensures { result ≡ map (λ l. cond (eqb l from) to l) groups }
 {
     let mut labels = groups;
-    for i in 0..60 {
-        if labels[i] == from {
-            labels[i] = to;
+    for label in labels.iter_mut() {
+        if *label == from {
+            *label = to;
         }
     }
     labels
@@ -70,7 +70,9 @@ fn unite_changed(groups: [u8; 60], deletes: &[u8], adds: &[u8], row: usize, size
     requires has_row { HasRow size row deletes.now × HasRow size row adds.now }
     ensures { result ≡ model.unite_all groups (changed_by (bag_at size deletes.now row) (bag_at size adds.now row)) }
 {
-    let first = first_changed(deletes, adds, row, size);
+    let Some(first) = first_changed(deletes, adds, row, size) else {
+        return groups;
+    };
     let at = 60 * row;
     let mut united = groups;
     for c in 0..size {

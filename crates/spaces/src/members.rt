@@ -98,10 +98,7 @@ fn gain(
         ≡ gain_row groups.now objects before.now members.old (bag_at size preconditions.now row)
         (bag_at size deletes.now row) (bag_at size adds.now row) }
 {
-    if has_start(deletes, adds, row, size) {
-        return;
-    }
-    if size <= first_changed(deletes, adds, row, size) {
+    if has_start(deletes, adds, row, size) || first_changed(deletes, adds, row, size).is_none() {
         return;
     }
     let those = enabled(before, groups, preconditions, row, size, objects);
@@ -142,19 +139,6 @@ fn round(
     gained
 }
 
-// Two tables have the same masks.
-fn same_masks(a: &[u64], b: &[u64]) -> bool
-    requires { (length a.now ≡ 60) × (length b.now ≡ 60) }
-    ensures { result ≡ same a.now b.now }
-{
-    for l in 0..60 {
-        if a[l] != b[l] {
-            return false;
-        }
-    }
-    true
-}
-
 // So many rounds, fewer where one adds no member.
 pub fn close(
     members: [u64; 60],
@@ -185,7 +169,7 @@ pub fn close(
             size,
             objects,
         );
-        if same_masks(&closed, &next) {
+        if closed == next {
             return closed;
         }
         closed = next;

@@ -8,7 +8,7 @@ use Rattle.laws.specs.Lists.{keep}
 use Rattle.laws.proofs.Walks.{left, kept_all}
 use Rattle.properties.specs.Tables.{bag_at}
 use Rattle.properties.proofs.Turns.{less_left}
-use Rattle.spaces.specs.Steps.{changed_by, first_or}
+use Rattle.spaces.specs.Steps.{changed_by, first_of}
 use Rattle.spaces.proofs.Rows.{differs, changed_kept, first_here, first_later, first_none}
 use Rattle.spaces.proofs.grouping.first_changed.Statement.{statement}
 use Rattle.spaces.proofs.grouping.first_changed.Tie as tie
@@ -16,7 +16,7 @@ use Rattle.spaces.proofs.grouping.first_changed.Tie as tie
 abbrev invariant-loop : tie.invariant-loop-c
 invariant-loop deletes adds row size at c₀ c =
     (c ≤ size)
-    × (first_or size (keep (differs deletes adds (60 * row)) (left c size)) ≡ first_or size (changed_by (bag_at size deletes row) (bag_at size adds row)))
+    × (first_of (keep (differs deletes adds (60 * row)) (left c size)) ≡ first_of (changed_by (bag_at size deletes row) (bag_at size adds row)))
 
 abbrev decreases-loop : tie.decreases-loop-c
 decreases-loop deletes adds row size at c₀ c = size - c
@@ -25,7 +25,7 @@ mul_at : tie.Need-overflow_mul-at invariant-loop decreases-loop
 mul_at c = omega arith
 
 loop-holds : tie.Need-loop-c-init invariant-loop decreases-loop
-loop-holds c = (zero-le, ap (first_or c.args.size) (kept_all _ c.args.size ∙ sym (changed_kept c.requires.0 c.requires.1)))
+loop-holds c = (zero-le, ap first_of (kept_all _ c.args.size ∙ sym (changed_kept c.requires.0 c.requires.1)))
 
 add-if1 : tie.Need-overflow_add-at invariant-loop decreases-loop
 add-if1 c = omega arith
@@ -44,7 +44,7 @@ unfolding differs
 returns c =
     let a = c.args in
     sym
-    (first_here (differs a.deletes.now a.adds.now (60 * a.row)) a.size a.size c.loop-c.c c.loop-c-test.true
+    (first_here (differs a.deletes.now a.adds.now (60 * a.row)) a.size c.loop-c.c c.loop-c-test.true
     (ap not (ne_eqb _ _ c.if-deletes-at.true)))
     ∙ c.loop-c.invariant.1
 
@@ -60,7 +60,7 @@ loop-again c =
     let a = c.args in (
       omega arith,
       sym
-          (first_later (differs a.deletes.now a.adds.now (60 * a.row)) a.size a.size c.loop-c.c c.loop-c-test.true
+          (first_later (differs a.deletes.now a.adds.now (60 * a.row)) a.size c.loop-c.c c.loop-c-test.true
           (ap not (eq-eqb _ _ c.if-deletes-at.false)))
           ∙ c.loop-c.invariant.1,
     )
@@ -68,7 +68,7 @@ loop-again c =
 returns-2 : tie.Need-returns invariant-loop decreases-loop
 returns-2 c =
     let a = c.args in
-    sym (first_none (differs a.deletes.now a.adds.now (60 * a.row)) a.size a.size c.loop-c.c c.loop-c-test.false)
+    sym (first_none (differs a.deletes.now a.adds.now (60 * a.row)) a.size c.loop-c.c c.loop-c-test.false)
     ∙ c.loop-c.invariant.1
 
 pub first_changed_spec : {M : Type 1} → statement M
