@@ -6,14 +6,15 @@ use mathlib.Core.Path.{◌≡◌, refl, sym, ap, ◌∙◌, subst}
 use mathlib.Core.List.{List, [], ◌∷◌, ◌++◌, append_assoc, append-nil}
 use lib.ListN.{length, get_or, set, take, drop, length-append, length-drop, length-set, length-map}
 use lib.ListN.{drop_of_length-le}
+use Rattle.std.specs.Prelude.{Result, Ok, Err, IfOk}
 use borrow.Rule.Slice.PartMut.{put_mid, Post-is}
-use lib.Seq.{length-take-le, paste, paste-zero, paste-suc, length-paste, take_all, take_at, drop_at, get_or_at, append_snoc, take-suc-set, drop-set-lt}
+use lib.Seq.{length-take-le, take_all, take_at, drop_at, get_or_at, append_snoc, take-suc-set, drop-set-lt}
 use Rattle.model.specs.Answer.{Answer, refused, accepted, ◌>>=◌}
 use Rattle.model.specs.Card.{Schema, decode}
 use Rattle.model.specs.Strips.{State, Action, fact_bytes, facts_in, well_formed}
 use Rattle.model.specs.Calls.{Call, next_state}
 use Rattle.model.specs.Preview.{Preview, Asked, going, coming, preview, ask_of, ask, commit}
-use Rattle.model.proofs.Answers.{then_inv, need_both_inv, one_value, by_answer, accepted_not_refused}
+use Rattle.model.proofs.Answers.{then_inv, need_both_inv, one_value}
 use Rattle.model.proofs.Buffer.{well_formed_lem}
 use Rattle.model.proofs.Checked.{checked, checked_action, schema_at_right}
 use Rattle.model.proofs.History.{applied}
@@ -21,52 +22,16 @@ use Rattle.model.proofs.PreviewCalls.{ask_as_press, commit_exact, commit_pressed
 use Rattle.model.proofs.PreviewLists.{few_going, few_coming}
 use Rattle.model.proofs.RoundTrip.{decode_checks}
 use Rattle.strips.specs.Answers.{applied_says}
-use Rattle.strips.specs.declared.Applied.{Applied}
-use Rattle.strips.specs.declared.Applied.TheVariants.{Count, CardRefused, StateMalformed, SchemaUnknown, ObjectsWrong, ObjectsRepeated}
-use Rattle.strips.specs.declared.Applied.TheVariants.{PreconditionMissing, StateFull}
-use Rattle.previews.specs.Represents.{rows_for, preview_of, changes_for, blank_changes}
-use Rattle.previews.specs.Answers.{previewed_says, changes_beside, committed_says, Asks, Commits}
+use Rattle.strips.specs.declared.PressRefusal.{PressRefusal}
+use Rattle.previews.specs.Represents.{rows_for, preview_of, changes_for}
+use Rattle.previews.specs.Answers.{previewed_says, committed_says, Asks, Commits}
 use Rattle.previews.specs.declared.Rows.{Rows}
 use Rattle.previews.specs.declared.Changes.{Changes}
-use Rattle.previews.specs.declared.Previewed.{Previewed}
-use Rattle.previews.specs.declared.Committed.{Committed}
+use Rattle.previews.specs.declared.Foreseen.{Foreseen}
+use Rattle.previews.specs.declared.CommitRefusal.{CommitRefusal}
 use Rattle.capi.specs.Numbers.{Small}
-use Rattle.capi.specs.Previewing.{rows_shown, changes_shown, rows_held, changes_held, asked_count, asked_shown, shown_beside, SmallChanges}
+use Rattle.capi.specs.Previewing.{rows_shown, changes_shown, rows_held, changes_held, asked_count, asked_shown, foreseen_count, shown_beside, SmallChanges}
 use Rattle.capi.proofs.Sizes.{press_small}
-
--- ---- bytes copied one after the other
-
--- The first i bytes are copied.
-pub record Copied (from was : List ℕ) (i : ℕ) (now : List ℕ) : Type 0 where
-  pub within : i ≤ length from
-  pub are : now ≡ paste was 0 from i
-
-module _ {from was : List ℕ} where
-  pub none_copied : Copied from was 0 was
-  none_copied = record { within = omega arith; are = paste-zero was 0 from }
-
-  module _ {i : ℕ} {now : List ℕ} (alike : length was ≡ length from) (c : Copied from was i now) where
-    pub copied_next : i < length from → Copied from was (i + 1) (set now i (get_or from i 0))
-    copied_next h = record {
-      within = omega arith;
-      are =
-          ap (λ (l : List ℕ). set l i (get_or from i 0)) c.are
-          ∙ ap (λ (k : ℕ). set (paste was 0 from i) k (get_or from i 0)) (let z : i ≡ 0 + i = omega arith in z)
-          ∙ paste-suc was 0 from i 0 (omega arith) h
-          ∙ ap (paste was 0 from) (sym (add-one i));
-    }
-
-    pub copied_inside : i < length from → i < length now
-    copied_inside h =
-        let within = c.within in
-        let size = ap length c.are ∙ length-paste was 0 from i (omega arith) (omega arith) in
-        omega arith
-
-    pub copied_all : length from ≤ i → now ≡ from
-    copied_all h =
-        let within = c.within in
-        let none = drop_of_length-le was {i = 0 + i} (omega arith) in
-        c.are ∙ ap (λ (l : List ℕ). take i from ++ l) none ∙ append-nil (take i from) ∙ take_all i from (omega arith)
 
 -- ---- changes as bytes, front to back
 
@@ -213,10 +178,6 @@ shown_held c p q r =
 
 -- ---- the numbers of changes fit a byte
 
-small_blank : SmallChanges blank_changes
-unfolding blank_changes rows_for
-small_blank = record { schema_small = omega arith; objects_small = omega arith; gone_small = omega arith; come_small = omega arith }
-
 -- an answer that is accepted is of an action of the card, on a state that allows it
 small_foreseen : (card buffer : List ℕ) (count : ℕ) (a : Action) {asked : Asked} → ask card buffer count a ≡ accepted asked
     → SmallChanges (changes_for asked.foreseen)
@@ -248,50 +209,27 @@ small_foreseen card buffer count a {asked} e =
           come_small = let n = length-map (coming schema a.objects s) fact_bytes in omega arith;
         }
 
-module _ (card buffer : List ℕ) (count : ℕ) (a : Action) {r : Previewed} (asks : Asks (ask card buffer count a) r) where
-  pub changes_small : SmallChanges r.changes
-  unfolding changes_beside
-  changes_small =
-      subst SmallChanges (sym asks.whole)
-      (by_answer (ask card buffer count a)
-      (λ asked e. subst (λ (x : Answer Asked). SmallChanges (changes_beside x)) (sym e) (small_foreseen card buffer count a e))
-      (λ n e. subst (λ (x : Answer Asked). SmallChanges (changes_beside x)) (sym e) small_blank))
+pub changes_small : (card buffer : List ℕ) (count : ℕ) (a : Action) {r : Result Foreseen PressRefusal} → Asks (ask card buffer count a) r
+    → IfOk r (λ f. SmallChanges f.changes)
+changes_small card buffer count a {r = Err e} asks = tt
+changes_small card buffer count a {r = Ok f} asks =
+    unfold previewed_says applied_says ◌>>=◌ in
+    subst SmallChanges (sym asks.whole) (small_foreseen card buffer count a (sym asks.answers))
 
 -- ---- what is answered and written
 
 -- the count, or the refusal, is the action's
-module _ {answer : Answer Asked} {r : Previewed} (asks : Asks answer r) where
-  pub number_asked : applied_says r.applied ≡ asked_count answer
-  unfolding previewed_says
-  number_asked = sym (counts (applied_says r.applied)) ∙ ap asked_count asks.answers
-    where
-      counts : (x : Answer ℕ) → asked_count (x >>= (λ n. accepted (record { count = n; foreseen = preview_of r.changes }))) ≡ x
-      counts (accepted n) = unfold asked_count ◌>>=◌ in refl
-      counts (refused n) = unfold asked_count ◌>>=◌ in refl
+pub number_asked : {answer : Answer Asked} {r : Result Foreseen PressRefusal} → Asks answer r → foreseen_count r ≡ asked_count answer
+number_asked {r = Ok f} asks = unfold foreseen_count previewed_says applied_says asked_count ◌>>=◌ in ap asked_count asks.answers
+number_asked {r = Err e} asks = unfold foreseen_count previewed_says applied_says asked_count ◌>>=◌ in ap asked_count asks.answers
 
-  pub bytes_asked : (bytes : List ℕ) → shown_beside r.applied r.changes bytes ≡ asked_shown answer bytes
-  bytes_asked bytes = go r.applied refl
-    where
-      -- beside a refusal, and beside a count
-      unwritten : {n : ℕ} → applied_says r.applied ≡ refused n → bytes ≡ asked_shown answer bytes
-      unwritten e = unfold previewed_says asked_shown ◌>>=◌ in
-          ap (λ (x : Answer Asked). asked_shown x bytes)
-          (sym (ap (λ (x : Answer ℕ). x >>= (λ n. accepted (record { count = n; foreseen = preview_of r.changes }))) e) ∙ asks.answers)
-
-      written : {n : ℕ} → applied_says r.applied ≡ accepted n → changes_shown r.changes ≡ asked_shown answer bytes
-      written e = unfold previewed_says asked_shown changes_beside ◌>>=◌ in
-          let is = sym (ap (λ (x : Answer ℕ). x >>= (λ n. accepted (record { count = n; foreseen = preview_of r.changes }))) e) ∙ asks.answers in
-          ap changes_shown (asks.whole ∙ ap changes_beside (sym is)) ∙ ap (λ (x : Answer Asked). asked_shown x bytes) is
-
-      go : (x : Applied) → r.applied ≡ x → shown_beside x r.changes bytes ≡ asked_shown answer bytes
-      go (Count n) e = unfold shown_beside applied_says in written (ap applied_says e)
-      go (CardRefused k) e = unfold shown_beside applied_says in unwritten (ap applied_says e)
-      go StateMalformed e = unfold shown_beside applied_says in unwritten (ap applied_says e)
-      go SchemaUnknown e = unfold shown_beside applied_says in unwritten (ap applied_says e)
-      go ObjectsWrong e = unfold shown_beside applied_says in unwritten (ap applied_says e)
-      go ObjectsRepeated e = unfold shown_beside applied_says in unwritten (ap applied_says e)
-      go PreconditionMissing e = unfold shown_beside applied_says in unwritten (ap applied_says e)
-      go StateFull e = unfold shown_beside applied_says in unwritten (ap applied_says e)
+pub bytes_asked : {answer : Answer Asked} {r : Result Foreseen PressRefusal} → Asks answer r → (bytes : List ℕ)
+    → shown_beside r bytes ≡ asked_shown answer bytes
+bytes_asked {r = Ok f} asks bytes =
+    unfold shown_beside previewed_says applied_says asked_shown ◌>>=◌ in
+    ap changes_shown asks.whole ∙ ap (λ (x : Answer Asked). asked_shown x bytes) asks.answers
+bytes_asked {r = Err e} asks bytes =
+    unfold shown_beside previewed_says applied_says asked_shown ◌>>=◌ in ap (λ (x : Answer Asked). asked_shown x bytes) asks.answers
 
 -- a commit answers what its press does, so that what it answers is small
 commit_small : (card buffer : List ℕ) (count : ℕ) (p : Preview) → Small (commit card buffer count p).answer
@@ -301,12 +239,13 @@ commit_small card buffer count p = record {
       (press_small card buffer count p.action).within n (sym (ap (λ (c : Call). c.answer) (commit_pressed card buffer count p current)) ∙ e);
 }
 
-pub commits_small : (card buffer : List ℕ) (count : ℕ) (p : Preview) {after : List ℕ} {r : Committed} → Commits (commit card buffer count p) after r
+pub commits_small : (card buffer : List ℕ) (count : ℕ) (p : Preview) {after : List ℕ} {r : Result ℕ CommitRefusal} → Commits (commit card buffer count p) after r
     → Small (committed_says r)
 commits_small card buffer count p commits = subst Small (sym commits.answer) (commit_small card buffer count p)
 
 -- and so is what asking answers
-pub asks_small : (card buffer : List ℕ) (count : ℕ) (a : Action) {r : Previewed} → Asks (ask card buffer count a) r → Small (applied_says r.applied)
+pub asks_small : (card buffer : List ℕ) (count : ℕ) (a : Action) {r : Result Foreseen PressRefusal} → Asks (ask card buffer count a) r
+    → Small (foreseen_count r)
 asks_small card buffer count a asks =
     subst Small (sym (number_asked asks ∙ count_pressed (ask card buffer count a) ∙ ask_as_press card buffer count a)) (press_small card buffer count a)
   where
@@ -315,23 +254,7 @@ asks_small card buffer count a asks =
     count_pressed (refused n) = unfold asked_count ◌>>=◌ in refl
 
 -- changes that are the same are committed alike
-pub given_so : (card buffer : List ℕ) (count : ℕ) {given changes : Changes} {after : List ℕ} {r : Committed} → given ≡ changes
+pub given_so : (card buffer : List ℕ) (count : ℕ) {given changes : Changes} {after : List ℕ} {r : Result ℕ CommitRefusal} → given ≡ changes
     → Commits (commit card buffer count (preview_of given)) after r → Commits (commit card buffer count (preview_of changes)) after r
 given_so card buffer count {after = after} {r = r} is commits =
     subst (λ (c : Changes). Commits (commit card buffer count (preview_of c)) after r) is commits
-
--- the bytes beside a count, and beside a refusal
-pub shown_counted : (a : Applied) (c : Changes) (bytes : List ℕ) {n : ℕ} → a ≡ Count n → changes_shown c ≡ shown_beside a c bytes
-unfolding shown_beside
-shown_counted a c bytes e = sym (ap (λ (x : Applied). shown_beside x c bytes) e)
-
-pub shown_refused : (a : Applied) (c : Changes) (bytes : List ℕ) {m : ℕ} → applied_says a ≡ refused m → bytes ≡ shown_beside a c bytes
-unfolding shown_beside applied_says
-shown_refused (Count n) c bytes e = accepted_not_refused e
-shown_refused (CardRefused r) c bytes e = refl
-shown_refused StateMalformed c bytes e = refl
-shown_refused SchemaUnknown c bytes e = refl
-shown_refused ObjectsWrong c bytes e = refl
-shown_refused ObjectsRepeated c bytes e = refl
-shown_refused PreconditionMissing c bytes e = refl
-shown_refused StateFull c bytes e = refl

@@ -19,7 +19,7 @@ use Rattle.model.proofs.RoundTrip.{decode_checks, card_length}
 use Rattle.model.proofs.History.{opened, press_cases}
 use Rattle.card.specs.declared.Task.{Task as Kept}
 use Rattle.strips.specs.Answers.{applied_says, Matches}
-use Rattle.strips.specs.declared.Applied.{Applied}
+use Rattle.strips.specs.declared.PressRefusal.{PressRefusal}
 use Rattle.card.specs.Represents.{task_of}
 use Rattle.writer.specs.Answers.{writing_says, Encodes}
 use Rattle.writer.specs.declared.WriterRefusal.{WriterRefusal}
@@ -75,7 +75,7 @@ encode_small t out = record { within = λ n e. go n (check_task t) refl (leb out
         omega arith
 
 -- so what the functions answer is small
-pub does_small : {call : Call} {after : List ℕ} {r : Applied} → Matches call after r → Small call.answer → Small (applied_says r)
+pub does_small : {call : Call} {after : List ℕ} {r : Result ℕ PressRefusal} → Matches call after r → Small call.answer → Small (applied_says r)
 does_small does small = subst Small (sym does.answer) small
 
 pub encodes_small : {t : Kept} {out after : List ℕ} {w : Result ℕ WriterRefusal} → Encodes t out after w → Small (writing_says w)

@@ -1,13 +1,13 @@
 -- Asking and committing in C: changes as 74 bytes, the number that is answered, and what is written.
-use Rattle.std.specs.Prelude.{ℕ, ◌+◌, ◌<◌, List, ◌∷◌, ◌++◌, get_or, take, drop}
-use Rattle.model.specs.Answer.{Answer, refused, accepted}
+use Rattle.std.specs.Prelude.{ℕ, ◌+◌, ◌<◌, List, ◌∷◌, ◌++◌, get_or, take, drop, Result, Ok, Err}
+use Rattle.model.specs.Answer.{Answer, refused, accepted, ◌>>=◌}
 use Rattle.model.specs.Preview.{Asked}
 use Rattle.previews.specs.Represents.{changes_for}
 use Rattle.previews.specs.declared.Rows.{Rows}
 use Rattle.previews.specs.declared.Changes.{Changes}
-use Rattle.strips.specs.declared.Applied.{Applied}
-use Rattle.strips.specs.declared.Applied.TheVariants.{Count, CardRefused, StateMalformed, SchemaUnknown, ObjectsWrong, ObjectsRepeated}
-use Rattle.strips.specs.declared.Applied.TheVariants.{PreconditionMissing, StateFull}
+use Rattle.previews.specs.declared.Foreseen.{Foreseen}
+use Rattle.strips.specs.Answers.{applied_says}
+use Rattle.strips.specs.declared.PressRefusal.{PressRefusal}
 
 -- rows: their number, then eight places of four bytes
 unfoldable pub rows_shown : Rows → List ℕ
@@ -42,15 +42,12 @@ asked_shown (accepted asked) bytes = changes_shown (changes_for asked.foreseen)
 asked_shown (refused n) bytes = bytes
 
 -- the same of the answer as the code has it
-unfoldable pub shown_beside : Applied → Changes → List ℕ → List ℕ
-shown_beside (Count n) changes bytes = changes_shown changes
-shown_beside (CardRefused r) changes bytes = bytes
-shown_beside StateMalformed changes bytes = bytes
-shown_beside SchemaUnknown changes bytes = bytes
-shown_beside ObjectsWrong changes bytes = bytes
-shown_beside ObjectsRepeated changes bytes = bytes
-shown_beside PreconditionMissing changes bytes = bytes
-shown_beside StateFull changes bytes = bytes
+unfoldable pub foreseen_count : Result Foreseen PressRefusal → Answer ℕ
+foreseen_count r = applied_says r >>= (λ f. accepted f.count)
+
+unfoldable pub shown_beside : Result Foreseen PressRefusal → List ℕ → List ℕ
+shown_beside (Ok f) bytes = changes_shown f.changes
+shown_beside (Err e) bytes = bytes
 
 -- The numbers of changes fit a byte.
 pub record SmallChanges (c : Changes) : Type 0 where

@@ -1,28 +1,28 @@
 // The C interface of include/stakestalk.h: each call answers a number, document 01's value or minus the refusal's number.
 #![tactic(auto)]
 
-ghost use Rattle.std.specs.Prelude.{◌∷◌, ◌++◌, ◌≡◌, ◌+◌, ◌≤◌, ◌<◌, pos, length, take, drop};
+ghost use Rattle.std.specs.Prelude.{◌∷◌, ◌++◌, ◌≡◌, ◌+◌, ◌≤◌, ◌<◌, pos, length, take, drop, IfOk};
 ghost use Rattle.model.specs.Answer.{refused};
 ghost use Rattle.model.specs.Calls.{initial, press, section};
 ghost use Rattle.model.specs.Open.{next_open};
 ghost use Rattle.model.specs.Preview.{ask, commit};
 ghost use Rattle.card.specs.Represents.{refusal_number};
 ghost use Rattle.listing.specs.Answers.{listed_says};
-ghost use Rattle.strips.specs.Answers.{applied_says};
+ghost use Rattle.strips.specs.Answers.{press_number, applied_says};
 ghost use Rattle.writer.specs.Answers.{writing_says};
 ghost use Rattle.open_actions.specs.Answers.{given_of};
 ghost use Rattle.previews.specs.Represents.{preview_of};
 ghost use Rattle.previews.specs.Answers.{committed_says};
 ghost use Rattle.capi.specs.Numbers.{signed, checks, rewrites, Small, version_number};
 ghost use Rattle.capi.specs.Asking.{given_as, count_said, bytes_said, object_count, shown_in, SmallAction};
-ghost use Rattle.capi.specs.Previewing.{rows_shown, rows_held, changes_held, changes_shown, asked_count, asked_shown, shown_beside, SmallChanges};
+ghost use Rattle.capi.specs.Previewing.{rows_shown, rows_held, changes_held, changes_shown, asked_count, asked_shown, foreseen_count, shown_beside, SmallChanges};
 
 use card::{OUTPUT_BYTES, Refusal, Verdict, refusal_number};
 use listing::{Listed, section};
 use open_actions::{Found, Given, NextOpen, next_open};
-use previews::{Changes, Committed, Previewed, Rows, commit, preview};
+use previews::{Changes, CommitRefusal, Foreseen, Rows, commit, preview};
 use reader::decode;
-use strips::{Applied, apply, initial};
+use strips::{PressRefusal, apply, initial};
 use writer::{WriterRefusal, encode};
 
 // The version of these calls, 0.3.0, as include/stakestalk.h has it: two decimal digits each for minor and patch.
@@ -42,19 +42,27 @@ fn refusal_code(refusal: Refusal) -> i32
     0 - number
 }
 
-fn applied_code(applied: Applied) -> i32
+fn press_refusal_code(refusal: PressRefusal) -> i32
+    ensures { result ≡ signed (refused (press_number refusal)) }
+{
+    match refusal {
+        PressRefusal::Card(refusal) => refusal_code(refusal),
+        PressRefusal::StateMalformed => -15,
+        PressRefusal::SchemaUnknown => -16,
+        PressRefusal::ObjectsWrong => -17,
+        PressRefusal::ObjectsRepeated => -18,
+        PressRefusal::PreconditionMissing => -19,
+        PressRefusal::StateFull => -20,
+    }
+}
+
+fn applied_code(applied: Result<usize, PressRefusal>) -> i32
     requires { Small (applied_says applied) }
     ensures { result ≡ signed (applied_says applied) }
 {
     match applied {
-        Applied::Count(count) => count as i32,
-        Applied::CardRefused(refusal) => refusal_code(refusal),
-        Applied::StateMalformed => -15,
-        Applied::SchemaUnknown => -16,
-        Applied::ObjectsWrong => -17,
-        Applied::ObjectsRepeated => -18,
-        Applied::PreconditionMissing => -19,
-        Applied::StateFull => -20,
+        Ok(count) => count as i32,
+        Err(refusal) => press_refusal_code(refusal),
     }
 }
 
@@ -129,25 +137,14 @@ fn next_open_code(next: NextOpen, found: &mut [u8; 7]) -> i32
     }
 }
 
-fn committed_code(committed: Committed) -> i32
+fn committed_code(committed: Result<usize, CommitRefusal>) -> i32
     requires { Small (committed_says committed) }
     ensures { result ≡ signed (committed_says committed) }
 {
     match committed {
-        Committed::Answered(applied) => applied_code(applied),
-        Committed::ChangesDiffer => -23,
-    }
-}
-
-// Copies bytes to a run of the same length.
-fn copy(to: &mut [u8], from: &[u8])
-    requires { length to.old ≡ length from.now }
-    ensures { to.new ≡ from.now }
-{
-    let mut i = 0;
-    while i < from.len() {
-        to[i] = from[i];
-        i = i + 1;
+        Ok(count) => count as i32,
+        Err(CommitRefusal::Press(refusal)) => press_refusal_code(refusal),
+        Err(CommitRefusal::ChangesDiffer) => -23,
     }
 }
 
@@ -157,10 +154,7 @@ fn write_rows(bytes: &mut [u8], at: usize, rows: Rows)
     ensures { bytes.new ≡ take at bytes.old ++ rows_shown rows ++ drop (at + 33) bytes.old }
 {
     bytes[at] = rows.count as u8;
-    let start = at + 1;
-    let end = at + 33;
-    let eight = rows.rows;
-    copy(&mut bytes[start..end], &eight);
+    bytes[at + 1..at + 33].copy_from_slice(&rows.rows);
 }
 
 // Writes changes: the schema, the number of objects and six places for them, the rows that go, and those that come.
@@ -170,12 +164,9 @@ fn write_changes(bytes: &mut [u8], changes: Changes)
 {
     bytes[0] = changes.schema as u8;
     bytes[1] = changes.object_count as u8;
-    let objects = changes.objects;
-    copy(&mut bytes[2..GONE], &objects);
-    let gone = changes.gone;
-    write_rows(bytes, GONE, gone);
-    let come = changes.come;
-    write_rows(bytes, COME, come);
+    bytes[2..GONE].copy_from_slice(&changes.objects);
+    write_rows(bytes, GONE, changes.gone);
+    write_rows(bytes, COME, changes.come);
 }
 
 // The rows whose number stands at a place of such bytes.
@@ -183,11 +174,9 @@ fn rows_at(bytes: &[u8], at: usize) -> Rows
     requires { at + 33 ≤ length bytes.now }
     ensures { result ≡ rows_held at bytes.now }
 {
-    let count = bytes[at] as usize;
-    let start = at + 1;
-    let end = at + 33;
+    let count = usize::from(bytes[at]);
     let mut rows = [0u8; 32];
-    copy(&mut rows, &bytes[start..end]);
+    rows.copy_from_slice(&bytes[at + 1..at + 33]);
     Rows { count, rows }
 }
 
@@ -196,10 +185,10 @@ fn changes_from(bytes: &[u8]) -> Changes
     requires { length bytes.now ≡ 74 }
     ensures { result ≡ changes_held bytes.now }
 {
-    let schema = bytes[0] as usize;
-    let object_count = bytes[1] as usize;
+    let schema = usize::from(bytes[0]);
+    let object_count = usize::from(bytes[1]);
     let mut objects = [0u8; 6];
-    copy(&mut objects, &bytes[2..GONE]);
+    objects.copy_from_slice(&bytes[2..GONE]);
     let gone = rows_at(bytes, GONE);
     let come = rows_at(bytes, COME);
     Changes {
@@ -211,19 +200,22 @@ fn changes_from(bytes: &[u8]) -> Changes
     }
 }
 
-// The bytes of changes that are foreseen are written; nothing is beside a refusal.
-fn previewed_code(previewed: Previewed, changes: &mut [u8; CHANGES_BYTES]) -> i32
-    requires { Small (applied_says previewed.applied) × SmallChanges previewed.changes }
-    ensures value { result ≡ signed (applied_says previewed.applied) }
-    ensures changes_after { changes.new ≡ shown_beside previewed.applied previewed.changes changes.old }
+// The bytes of changes that are foreseen are written; nothing is where the action would be refused.
+fn previewed_code(
+    previewed: Result<Foreseen, PressRefusal>,
+    changes: &mut [u8; CHANGES_BYTES],
+) -> i32
+    requires { Small (foreseen_count previewed) × IfOk previewed (λ f. SmallChanges f.changes) }
+    ensures value { result ≡ signed (foreseen_count previewed) }
+    ensures changes_after { changes.new ≡ shown_beside previewed changes.old }
 {
-    let applied = previewed.applied;
-    let Applied::Count(_) = applied else {
-        return applied_code(applied);
-    };
-    let foreseen = previewed.changes;
-    write_changes(changes, foreseen);
-    applied_code(applied)
+    match previewed {
+        Ok(foreseen) => {
+            write_changes(changes, foreseen.changes);
+            foreseen.count as i32
+        }
+        Err(reason) => press_refusal_code(reason),
+    }
 }
 
 // The version of these calls, a larger number for a later one.

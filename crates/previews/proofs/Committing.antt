@@ -7,6 +7,7 @@ use mathlib.Core.Bool.{Bool, true, false, cond}
 use mathlib.Core.List.{List, []}
 use lib.Dec.{leb, ltb}
 use lib.ListN.{length, take}
+use Rattle.std.specs.Prelude.{Result, Ok, Err}
 use borrow.Author.Tests.{ltb-true, ltb-false, lt-ltb, le-ltb, leb-true, leb-false, ne_eqb}
 use Rattle.laws.proofs.Tests.{by_test, and_false_left, cond_true, cond_false}
 use Rattle.model.specs.Answer.{Answer, refused, accepted, ◌>>=◌, ◌>>◌, need}
@@ -14,27 +15,26 @@ use Rattle.model.specs.Card.{Task, decode}
 use Rattle.model.specs.Card as model
 use Rattle.model.specs.Strips.{State, Action, most_facts, facts_in, well_formed, successor, schema_at, check_objects, check_action, limited}
 use Rattle.model.specs.Calls.{Call, finish, store}
-use Rattle.model.specs.Preview.{Preview, preview, agree, commit_of, commit}
-use Rattle.model.proofs.Answers.{accepted_not_refused, then_accepted, then_refused}
+use Rattle.model.specs.Preview.{Preview, Asked, preview, agree, commit_of, commit}
+use Rattle.model.proofs.Answers.{accepted_not_refused, one_value, then_accepted, then_refused}
 use Rattle.model.proofs.Checked.{Checked, checked, checked_schema, schema_at_right}
 use Rattle.model.proofs.RoundTrip.{decode_checks}
 use Rattle.card.specs.Represents.{entries, schema_of}
-use Rattle.card.specs.declared.ArityList.{ArityList}
 use Rattle.card.specs.declared.Schema.{Schema}
 use Rattle.card.proofs.Entries.{entries_within, length_entries}
 use Rattle.strips.specs.Admission.{Admissible, admission_of, admission}
-use Rattle.strips.specs.Answers.{applied_says, Matches, Granted}
+use Rattle.strips.specs.Answers.{press_number, applied_says, Matches, Granted}
 use Rattle.strips.specs.Steps.{storing}
-use Rattle.strips.specs.declared.Applied.{Applied}
-use Rattle.strips.specs.declared.Applied.TheVariants.{Count}
+use Rattle.strips.specs.declared.Admitted.{Admitted}
+use Rattle.strips.specs.declared.PressRefusal.{PressRefusal}
 use Rattle.strips.proofs.Admitting.{admission_first, refused_before}
 use Rattle.previews.specs.Represents.{preview_of, changes_for}
-use Rattle.previews.specs.Answers.{previewed_says, changes_beside, committed_says, Asks, Commits}
+use Rattle.previews.specs.Answers.{previewed_says, commit_number, committed_says, Asks, Commits}
 use Rattle.previews.specs.Steps.{ask_admitted, store_agreed, commit_admitted, lent_count, Allowed}
 use Rattle.previews.specs.declared.Changes.{Changes}
-use Rattle.previews.specs.declared.Previewed.{Previewed}
-use Rattle.previews.specs.declared.Committed.{Committed}
-use Rattle.previews.specs.declared.Committed.TheVariants.{Answered, ChangesDiffer}
+use Rattle.previews.specs.declared.Foreseen.{Foreseen}
+use Rattle.previews.specs.declared.CommitRefusal.{CommitRefusal}
+use Rattle.previews.specs.declared.CommitRefusal.TheVariants.{Press, ChangesDiffer}
 use Rattle.previews.proofs.Foreseeing.{foreseen, limited_fits, limited_full, preview_read}
 
 -- a state that 20 lets pass
@@ -47,13 +47,18 @@ fits_said next f e =
 
 -- 23, and what is stored where it passes.
 module _ (buffer : List ℕ) (agreed : Bool) (answer : Answer State) where
-  pub not_agreed : agreed ≡ false → Commits (store_agreed buffer agreed answer) buffer ChangesDiffer
-  unfolding store_agreed committed_says finish need ◌>>◌
+  pub not_agreed : agreed ≡ false → Commits (store_agreed buffer agreed answer) buffer (Err ChangesDiffer)
+  unfolding store_agreed committed_says commit_number finish need ◌>>◌
   not_agreed e = rw e (record { answer = refl; buffer = refl })
 
-  pub agreed_stored : {after : List ℕ} {r : Applied} → agreed ≡ true → Matches (storing buffer answer) after r
-      → Commits (store_agreed buffer agreed answer) after (Answered r)
-  unfolding store_agreed storing committed_says need ◌>>◌
+  pub agreed_refused : {after : List ℕ} {r : PressRefusal} → agreed ≡ true → Matches (storing buffer answer) after (Err r)
+      → Commits (store_agreed buffer agreed answer) after (Err (Press r))
+  unfolding store_agreed storing applied_says committed_says commit_number need ◌>>◌
+  agreed_refused e matches = rw e (record { answer = matches.answer; buffer = matches.buffer })
+
+  pub agreed_stored : {after : List ℕ} {n : ℕ} → agreed ≡ true → Matches (storing buffer answer) after (Ok n)
+      → Commits (store_agreed buffer agreed answer) after (Ok n)
+  unfolding store_agreed storing applied_says committed_says need ◌>>◌
   agreed_stored e matches = rw e (record { answer = matches.answer; buffer = matches.buffer })
 
 -- An action that may be applied, and what is handed in.
@@ -73,43 +78,40 @@ module _ {arities objects : List ℕ} {schema : Schema} {buffer : List ℕ} {cou
   abbrev committing : Call
   committing = commit_admitted buffer model_schema objects state p
 
-  module _ {seen : Previewed} (asks : Asks (ask_admitted model_schema (record { schema = number; objects = objects }) state) seen) where
-    -- asking is refused by 20 where the next state is
-    full_seen : {m : ℕ} → applied_says seen.applied ≡ refused m → limited next ≡ refused m
-    unfolding ask_admitted previewed_says ◌>>=◌
-    full_seen e =
-        refused_before (limited next) (λ s. record { count = length s; foreseen = foreseen allowed number })
-        (sym asks.answers ∙ ap (λ (a : Answer ℕ). a >>= (λ n. accepted (record { count = n; foreseen = preview_of seen.changes }))) e)
+  abbrev asking : Answer Asked
+  asking = ask_admitted model_schema (record { schema = number; objects = objects }) state
 
-    pub commit_full : {m : ℕ} → applied_says seen.applied ≡ refused m → Commits committing buffer (Answered seen.applied)
-    unfolding commit_admitted committed_says finish ◌>>=◌
-    commit_full e = rw (full_seen e) (record { answer = e; buffer = refl })
+  -- asking is refused by 20 where the next state is
+  full_seen : {e : PressRefusal} → Asks asking (Err e) → limited next ≡ refused (press_number e)
+  unfolding ask_admitted previewed_says applied_says ◌>>=◌
+  full_seen asks = refused_before (limited next) (λ s. record { count = length s; foreseen = foreseen allowed number }) (sym asks.answers)
 
-    module _ {n : ℕ} (counted : seen.applied ≡ Count n) where
-      fits_seen : limited next ≡ accepted next
-      unfolding ask_admitted previewed_says applied_says ◌>>=◌
-      fits_seen =
-          fits_said next (λ s. record { count = length s; foreseen = foreseen allowed number })
-          (sym asks.answers
-          ∙ ap (λ (a : Applied). applied_says a >>= (λ n. accepted (record { count = n; foreseen = preview_of seen.changes }))) counted)
+  pub commit_full : {e : PressRefusal} → Asks asking (Err e) → Commits committing buffer (Err (Press e))
+  unfolding commit_admitted committed_says commit_number finish ◌>>=◌
+  commit_full asks = rw (full_seen asks) (record { answer = refl; buffer = refl })
 
-      -- so that the changes are those of the preview
-      pub changes_seen : seen.changes ≡ changes_for (foreseen allowed number)
-      unfolding ask_admitted changes_beside
-      changes_seen = asks.whole ∙ ap changes_beside (then_accepted _ fits_seen)
+  module _ {found : Foreseen} (asks : Asks asking (Ok found)) where
+    fits_seen : limited next ≡ accepted next
+    unfolding ask_admitted previewed_says applied_says ◌>>=◌
+    fits_seen = fits_said next (λ s. record { count = length s; foreseen = foreseen allowed number }) (sym asks.answers)
 
-      -- what is found in comparing
-      module _ {r : Bool} (compared : r ≡ agree p (preview_of seen.changes)) where
-        agreed : r ≡ agree p (foreseen allowed number)
-        agreed = compared ∙ ap (agree p) (ap preview_of changes_seen ∙ preview_read allowed number)
+    -- so that the changes are those of the preview
+    pub changes_seen : found.changes ≡ changes_for (foreseen allowed number)
+    unfolding ask_admitted previewed_says applied_says ◌>>=◌
+    changes_seen = asks.whole ∙ ap (λ (a : Asked). changes_for a.foreseen) (one_value (asks.answers ∙ then_accepted _ fits_seen))
 
-        -- 23, or the next state is stored
-        pub commit_agreed : {after : List ℕ} {answer : Committed} → Commits (store_agreed buffer r (limited next)) after answer
-            → Commits committing after answer
-        unfolding store_agreed commit_admitted ◌>>=◌
-        commit_agreed {after} {answer} commits =
-            rw fits_seen
-            (subst (λ (b : Bool). Commits (finish buffer (need b 23 >> accepted (store next buffer))) after answer) agreed (rw fits_seen at commits))
+    -- what is found in comparing
+    module _ {r : Bool} (compared : r ≡ agree p (preview_of found.changes)) where
+      agreed : r ≡ agree p (foreseen allowed number)
+      agreed = compared ∙ ap (agree p) (ap preview_of changes_seen ∙ preview_read allowed number)
+
+      -- 23, or the next state is stored
+      pub commit_agreed : {after : List ℕ} {answer : Result ℕ CommitRefusal} → Commits (store_agreed buffer r (limited next)) after answer
+          → Commits committing after answer
+      unfolding store_agreed commit_admitted ◌>>=◌
+      commit_agreed {after} {answer} commits =
+          rw fits_seen
+          (subst (λ (b : Bool). Commits (finish buffer (need b 23 >> accepted (store next buffer))) after answer) agreed (rw fits_seen at commits))
 
 -- Committing, from what may be applied.
 module _ (card buffer : List ℕ) (count : ℕ) (p : Preview) where
@@ -118,15 +120,15 @@ module _ (card buffer : List ℕ) (count : ℕ) (p : Preview) where
     need (agree p (preview schema p.action (facts_in arities count buffer))) 23
     accepted (store next buffer)
 
-  pub commit_refused : {answer : Applied} {m : ℕ} → admission card buffer count p.action ≡ refused m → applied_says answer ≡ refused m
-      → Commits (commit card buffer count p) buffer (Answered answer)
-  unfolding commit commit_of committing_on committed_says finish
-  commit_refused {answer} e says =
-      subst (λ (call : Call). Commits call buffer (Answered answer))
-      (sym (ap (finish buffer) (admission_first card buffer count p.action committing_on ∙ then_refused _ e)))
-      (record { answer = says; buffer = refl })
+  pub commit_refused : (e : PressRefusal) → admission card buffer count p.action ≡ refused (press_number e)
+      → Commits (commit card buffer count p) buffer (Err (Press e))
+  unfolding commit commit_of committing_on committed_says commit_number finish
+  commit_refused e is =
+      subst (λ (call : Call). Commits call buffer (Err (Press e)))
+      (sym (ap (finish buffer) (admission_first card buffer count p.action committing_on ∙ then_refused _ is)))
+      (record { answer = refl; buffer = refl })
 
-  pub commit_granted : {after objects : List ℕ} {r : Committed} {s : Admissible} → admission card buffer count p.action ≡ accepted s
+  pub commit_granted : {after objects : List ℕ} {r : Result ℕ CommitRefusal} {s : Admissible} → admission card buffer count p.action ≡ accepted s
       → p.action.objects ≡ objects → Commits (commit_admitted buffer s.schema objects (facts_in s.arities count buffer) p) after r
       → Commits (commit card buffer count p) after r
   unfolding commit commit_of committing_on commit_admitted
@@ -226,8 +228,7 @@ module _ (changes : Changes) (six : length changes.objects ≡ 6) {lent : ℕ} (
       (few_carried (ltb-false 6 changes.object_count few)))
 
   -- of more no action is granted
-  pub lent_same : {answer : Answer Admissible} {buffer : List ℕ} {count : ℕ} {predicates : ArityList} {schema : Schema}
-      → Granted answer buffer count lending.objects predicates schema → carried.objects ≡ lending.objects
+  pub lent_same : {buffer : List ℕ} {count : ℕ} {a : Admitted} → Granted buffer count lending.objects a → carried.objects ≡ lending.objects
   unfolding preview_of schema_of
   lent_same granted =
       by_test (ltb 6 changes.object_count)

@@ -4,6 +4,7 @@ use native.Mathlib.Omega.{arith}
 use mathlib.Core.Path.{◌≡◌, refl, sym, ap, ◌∙◌, subst}
 use mathlib.Core.List.{List, map}
 use lib.ListN.{length, length-map}
+use Rattle.std.specs.Prelude.{Result, Ok, Err}
 use borrow.Author.Tests.{le-leb, lt-leb}
 use Rattle.laws.specs.Lists.{padded}
 use Rattle.model.specs.Answer.{Answer, refused, accepted, ◌>>=◌, ◌>>◌, need}
@@ -15,16 +16,16 @@ use Rattle.card.specs.Represents.{schema_of}
 use Rattle.card.specs.declared.Schema.{Schema}
 use Rattle.card.proofs.Entries.{entries_kept}
 use Rattle.strips.specs.Admission.{Admissible, admission}
-use Rattle.strips.specs.Answers.{applied_says}
-use Rattle.strips.specs.declared.Applied.{Applied}
-use Rattle.strips.specs.declared.Applied.TheVariants.{Count, StateFull}
+use Rattle.strips.specs.Answers.{press_number, applied_says}
+use Rattle.strips.specs.declared.PressRefusal.{PressRefusal}
+use Rattle.strips.specs.declared.PressRefusal.TheVariants.{StateFull}
 use Rattle.strips.proofs.Admitting.{admission_first}
-use Rattle.previews.specs.Represents.{rows_for, preview_of, changes_for, blank_changes}
-use Rattle.previews.specs.Answers.{previewed_says, changes_beside, Asks}
+use Rattle.previews.specs.Represents.{rows_for, preview_of, changes_for}
+use Rattle.previews.specs.Answers.{previewed_says, Asks}
 use Rattle.previews.specs.Steps.{ask_admitted, Allowed}
 use Rattle.previews.specs.declared.Rows.{Rows}
 use Rattle.previews.specs.declared.Changes.{Changes}
-use Rattle.previews.specs.declared.Previewed.{Previewed}
+use Rattle.previews.specs.declared.Foreseen.{Foreseen}
 use Rattle.previews.proofs.RowLists.{rows_read}
 use Rattle.previews.proofs.InOrder.{going_few, coming_few, size_next, gone_four, come_four}
 
@@ -95,23 +96,22 @@ module _ {arities objects : List ℕ} {schema : Schema} {buffer : List ℕ} {cou
     asking = ask_admitted model_schema (record { schema = number; objects = objects }) state
 
     -- 20
-    pub asked_full : {r : Previewed} → most_facts < count + changes.come.count - changes.gone.count
-        → r ≡ record { applied = StateFull; changes = blank_changes } → Asks asking r
-    unfolding ask_admitted previewed_says changes_beside applied_says ◌>>=◌
-    asked_full h is =
+    pub asked_full : most_facts < count + changes.come.count - changes.gone.count → Asks asking (Err StateFull)
+    unfolding ask_admitted previewed_says applied_says press_number ◌>>=◌
+    asked_full h =
         let full : most_facts < length next = (let counted = next_counted in omega arith) in
-        rw (limited_full next full) (rw is (record { answers = refl; whole = refl }))
+        rw (limited_full next full) (record { answers = refl; whole = tt })
 
     -- or the count and the preview
     pub asked_fits : count + changes.come.count - changes.gone.count ≤ most_facts
-        → Asks asking (record { applied = Count (count + changes.come.count - changes.gone.count); changes = changes })
-    unfolding ask_admitted previewed_says changes_beside applied_says ◌>>=◌
+        → Asks asking (Ok (record { count = count + changes.come.count - changes.gone.count; changes = changes }))
+    unfolding ask_admitted previewed_says applied_says ◌>>=◌
     asked_fits h =
         let few : length next ≤ most_facts = (let counted = next_counted in omega arith) in
         rw (limited_fits next few)
         (record {
           answers = λ i. accepted (record { count = next_counted i; foreseen = (ap preview_of made ∙ preview_read) i });
-          whole = made;
+          whole = made ∙ ap changes_for (sym (ap preview_of made ∙ preview_read));
         })
 
 -- Asking, from what may be applied.
@@ -119,14 +119,13 @@ module _ (card buffer : List ℕ) (count : ℕ) (action : Action) where
   asking_on : List ℕ → model.Schema → State → Answer Asked
   asking_on arities schema next = accepted (record { count = length next; foreseen = preview schema action (facts_in arities count buffer) })
 
-  pub asked_refused : {r : Previewed} {answer : Applied} {m : ℕ} → admission card buffer count action ≡ refused m → applied_says answer ≡ refused m
-      → r ≡ record { applied = answer; changes = blank_changes } → Asks (ask card buffer count action) r
-  unfolding ask ask_of asking_on previewed_says changes_beside ◌>>=◌
-  asked_refused {r} {answer} {m} e says is =
-      subst (λ (a : Answer Asked). Asks a r) (sym (admission_first card buffer count action asking_on ∙ then_refused _ e))
-      (rw is (record { answers = ap (λ (a : Answer ℕ). a >>= (λ n. accepted (record { count = n; foreseen = preview_of blank_changes }))) says; whole = refl }))
+  pub asked_refused : (e : PressRefusal) → admission card buffer count action ≡ refused (press_number e) → Asks (ask card buffer count action) (Err e)
+  unfolding ask ask_of asking_on previewed_says applied_says ◌>>=◌
+  asked_refused e is =
+      subst (λ (a : Answer Asked). Asks a (Err e)) (sym (admission_first card buffer count action asking_on ∙ then_refused _ is))
+      (record { answers = refl; whole = tt })
 
-  pub asked_granted : {r : Previewed} {s : Admissible} → admission card buffer count action ≡ accepted s
+  pub asked_granted : {r : Result Foreseen PressRefusal} {s : Admissible} → admission card buffer count action ≡ accepted s
       → Asks (ask_admitted s.schema action (facts_in s.arities count buffer)) r → Asks (ask card buffer count action) r
   unfolding ask ask_of asking_on ask_admitted
   asked_granted {r} e asks =

@@ -6,6 +6,7 @@ use mathlib.Core.Path.{◌≡◌, refl, sym, ap, ap₂, ◌∙◌}
 use mathlib.Core.Bool.{Bool, true, false, ◌&&◌}
 use mathlib.Core.List.{List, [], ◌∷◌, ◌++◌, flat_map, append_assoc, Memᴰ}
 use lib.Dec.{eqb}
+use lib.Pointwise.{pointwise}
 use lib.ListN.{length, take, drop, length-drop}
 use lib.Seq.{take_at, drop_at, take-add, length-take-le}
 use Rattle.laws.specs.Lists.{same, padded}
@@ -43,6 +44,14 @@ length_first_rows zero bytes = refl
 length_first_rows (suc n) bytes = ap suc (length_first_rows n (drop 4 bytes))
 
 -- ---- compared
+
+-- what `==` says of two slices
+same_pointwise : (xs ys : List ℕ) → pointwise eqb xs ys ≡ same xs ys
+unfolding same
+same_pointwise [] [] = refl
+same_pointwise [] (y ∷ ys) = refl
+same_pointwise (x ∷ xs) [] = refl
+same_pointwise (x ∷ xs) (y ∷ ys) = ap (λ (b : Bool). eqb x y && b) (same_pointwise xs ys)
 
 same_append : (xs ys zs ws : List ℕ) → length xs ≡ length zs → same (xs ++ ys) (zs ++ ws) ≡ (same xs zs && same ys ws)
 unfolding same
@@ -84,12 +93,11 @@ other_number given found differ =
     (λ e. sym e)
 
 -- as many rows as were found are compared by their bytes
-pub rows_compared : (given found : Rows) {r : Bool} → length given.rows ≡ 32 → length found.rows ≡ 32 → found.count ≤ 8
-    → given.count ≡ found.count → r ≡ same (take (4 * found.count - 0) given.rows) (take (4 * found.count - 0) found.rows)
-    → r ≡ same_rows (rows_of given) (rows_of found)
+pub rows_compared : (given found : Rows) → length given.rows ≡ 32 → length found.rows ≡ 32 → found.count ≤ 8 → given.count ≡ found.count
+    → pointwise eqb (take (4 * found.count - 0) given.rows) (take (4 * found.count - 0) found.rows) ≡ same_rows (rows_of given) (rows_of found)
 unfolding rows_of
-rows_compared given found p q few alike compared =
-    compared
+rows_compared given found p q few alike =
+    same_pointwise (take (4 * found.count - 0) given.rows) (take (4 * found.count - 0) found.rows)
     ∙ ap (λ (k : ℕ). same (take k given.rows) (take k found.rows)) (sub-zero (4 * found.count))
     ∙ rows_as_bytes found.count given.rows found.rows (omega arith) (omega arith)
     ∙ ap (λ (n : ℕ). same_rows (first_rows n given.rows) (first_rows found.count found.rows)) (sym alike)

@@ -1,34 +1,34 @@
 -- What the answers of asking and committing say, the documents' number or value for each case.
-use Rattle.std.specs.Prelude.{ℕ, ◌≡◌, List}
+use Rattle.std.specs.Prelude.{ℕ, ◌≡◌, List, Result, Ok, Err, IfOk}
 use Rattle.model.specs.Answer.{Answer, refused, accepted, ◌>>=◌}
 use Rattle.model.specs.Calls.{Call}
 use Rattle.model.specs.Preview.{Asked}
-use Rattle.strips.specs.Answers.{applied_says}
-use Rattle.previews.specs.Represents.{preview_of, changes_for, blank_changes}
-use Rattle.previews.specs.declared.Changes.{Changes}
-use Rattle.previews.specs.declared.Previewed.{Previewed}
-use Rattle.previews.specs.declared.Committed.{Committed}
-use Rattle.previews.specs.declared.Committed.TheVariants.{Answered, ChangesDiffer}
+use Rattle.strips.specs.Answers.{press_number, applied_says}
+use Rattle.strips.specs.declared.PressRefusal.{PressRefusal}
+use Rattle.previews.specs.Represents.{preview_of, changes_for}
+use Rattle.previews.specs.declared.Foreseen.{Foreseen}
+use Rattle.previews.specs.declared.CommitRefusal.{CommitRefusal}
+use Rattle.previews.specs.declared.CommitRefusal.TheVariants.{Press, ChangesDiffer}
 
 -- the count, and the preview that the changes stand for; or the refusal
-unfoldable pub previewed_says : Previewed → Answer Asked
-previewed_says r = applied_says r.applied >>= (λ n. accepted (record { count = n; foreseen = preview_of r.changes }))
+unfoldable pub previewed_says : Result Foreseen PressRefusal → Answer Asked
+previewed_says r = applied_says r >>= (λ f. accepted (record { count = f.count; foreseen = preview_of f.changes }))
 
--- the changes beside an answer
-unfoldable pub changes_beside : Answer Asked → Changes
-changes_beside (accepted asked) = changes_for asked.foreseen
-changes_beside (refused n) = blank_changes
-
--- The function answers as the definitions do, and what is past the lists, or beside a refusal, is 0.
-pub record Asks (answer : Answer Asked) (r : Previewed) : Type 0 where
+-- The function answers as the definitions do, and what is past the lists is 0.
+pub record Asks (answer : Answer Asked) (r : Result Foreseen PressRefusal) : Type 0 where
   pub answers : previewed_says r ≡ answer
-  pub whole : r.changes ≡ changes_beside answer
+  pub whole : IfOk r (λ f. f.changes ≡ changes_for (preview_of f.changes))
 
-unfoldable pub committed_says : Committed → Answer ℕ
-committed_says (Answered applied) = applied_says applied
-committed_says ChangesDiffer = refused 23
+-- the number of a refusal
+unfoldable pub commit_number : CommitRefusal → ℕ
+commit_number (Press e) = press_number e
+commit_number ChangesDiffer = 23
+
+unfoldable pub committed_says : Result ℕ CommitRefusal → Answer ℕ
+committed_says (Ok n) = accepted n
+committed_says (Err e) = refused (commit_number e)
 
 -- The function's answer, and the buffer lent to it as the function leaves it, are those of a call of the definitions.
-pub record Commits (call : Call) (after : List ℕ) (r : Committed) : Type 0 where
+pub record Commits (call : Call) (after : List ℕ) (r : Result ℕ CommitRefusal) : Type 0 where
   pub answer : committed_says r ≡ call.answer
   pub buffer : after ≡ call.buffer

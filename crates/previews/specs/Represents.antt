@@ -41,10 +41,6 @@ changes_for p =
       come = rows_for p.come;
     }
 
--- no action and no facts: the changes beside a refusal
-unfoldable pub blank_changes : Changes
-blank_changes = record { schema = 0; object_count = 0; objects = padded 6 0 []; gone = rows_for []; come = rows_for [] }
-
 -- numbers of facts as the code keeps them, and their rows
 unfoldable pub numbers_kept : List ℕ → Facts
 numbers_kept ns = record { count = length ns; numbers = padded 8 0 ns }

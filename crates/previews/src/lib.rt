@@ -9,15 +9,16 @@ ghost use Rattle.card.specs.Represents.{schema_of};
 ghost use Rattle.sets.specs.Numbers.{inserted_all};
 ghost use Rattle.state.specs.Rows.{numbers_in, RowsAscend};
 ghost use Rattle.strips.specs.Steps.{ActionReady};
-ghost use Rattle.previews.specs.Represents.{numbers_kept, rows_kept, rows_of, changes_for, blank_changes, preview_of};
+ghost use Rattle.previews.specs.Represents.{numbers_kept, rows_kept, rows_of, changes_for, preview_of};
 ghost use Rattle.previews.specs.Answers.{Asks, Commits};
+ghost use Rattle.previews.specs.declared.CommitRefusal.TheVariants.{Press};
 ghost use Rattle.previews.specs.Steps.{ask_admitted, store_agreed, commit_admitted, lent_count, Allowed, FactsHeld};
 
 use actions::{Facts, MOST_PARAMETERS, in_front, put_in, taken_out};
 use card::Schema;
 use sets::insert_all;
 use state::{MOST_FACTS, has_row, write_rows};
-use strips::{Applied, admit, store_successor};
+use strips::{PressRefusal, admit, store_successor};
 
 // The most atoms of one of a schema's lists, and so of facts that go or come, and the bytes of as many rows.
 const MOST_ATOMS: usize = 8;
@@ -42,18 +43,26 @@ pub struct Changes {
     pub come: Rows,
 }
 
-// What asking answers: as applying the action would, and the changes beside it, since an enum holds no array. Beside a refusal they are blank.
+// What an action would do to a state: the number of facts that there would be then, and the changes.
 #[derive(Clone, Copy)]
-pub struct Previewed {
-    pub applied: Applied,
+pub struct Foreseen {
+    pub count: usize,
     pub changes: Changes,
 }
 
-// What committing answers: as applying the action does, or that the changes are no longer those handed in (23).
+// Why changes are not committed: as applying the action is refused, or since they are no longer those handed in (23).
 #[derive(Clone, Copy)]
-pub enum Committed {
-    Answered(Applied),
+pub enum CommitRefusal {
+    Press(PressRefusal),
     ChangesDiffer,
+}
+
+impl From<PressRefusal> for CommitRefusal {
+    ghost from_gives = { λ r e. e ≡ Press r };
+
+    fn from(refusal: PressRefusal) -> CommitRefusal {
+        CommitRefusal::Press(refusal)
+    }
 }
 
 // Of some facts those that are not in the state.
@@ -61,19 +70,13 @@ fn missing(facts: Facts, state: &[u8], count: usize) -> Facts
     requires { FactsHeld facts × RowsAscend count state.now }
     ensures { result ≡ numbers_kept (keep (λ n. not (member n (numbers_in count state.now))) (take facts.count facts.numbers)) }
 {
-    let facts_count = facts.count;
     let mut numbers = [0u32; MOST_ATOMS];
     let mut new = 0;
-    let mut i = 0;
-    while i < facts_count {
-        let n = facts.numbers[i];
-        if has_row(state, count, n) {
-            i = i + 1;
-            continue;
+    for n in &facts.numbers[0..facts.count] {
+        if !has_row(state, count, *n) {
+            numbers[new] = *n;
+            new += 1;
         }
-        numbers[new] = n;
-        new = new + 1;
-        i = i + 1;
     }
     Facts {
         count: new,
@@ -86,10 +89,8 @@ fn in_order(facts: Facts) -> Rows
     requires { FactsHeld facts }
     ensures { result ≡ rows_kept (inserted_all (take facts.count facts.numbers) []) }
 {
-    let facts_count = facts.count;
-    let numbers = facts.numbers;
     let mut ordered = [0u32; MOST_ATOMS];
-    let count = insert_all(&mut ordered, 0, &numbers[0..facts_count]);
+    let count = insert_all(&mut ordered, 0, &facts.numbers[0..facts.count]);
     let mut rows = [0u8; MOST_ROW_BYTES];
     write_rows(&mut rows, &ordered[0..count]);
     Rows { count, rows }
@@ -113,35 +114,12 @@ fn changes_of(
     let adds = put_in(schema, arities, objects);
     let new = missing(adds, state, count);
     let come = in_order(new);
-    let object_count = objects.len();
-    let front = in_front(objects);
     Changes {
         schema: number,
-        object_count,
-        objects: front,
+        object_count: objects.len(),
+        objects: in_front(objects),
         gone,
         come,
-    }
-}
-
-// A refusal, with blank changes.
-fn without_changes(refusal: Applied) -> Previewed
-    ensures { result ≡ record { applied = refusal; changes = blank_changes } }
-{
-    let none = Rows {
-        count: 0,
-        rows: [0; MOST_ROW_BYTES],
-    };
-    let changes = Changes {
-        schema: 0,
-        object_count: 0,
-        objects: [0; MOST_PARAMETERS],
-        gone: none,
-        come: none,
-    };
-    Previewed {
-        applied: refusal,
-        changes,
     }
 }
 
@@ -153,37 +131,20 @@ fn foresee(
     count: usize,
     number: usize,
     objects: &[u8],
-) -> Previewed
+) -> Result<Foreseen, PressRefusal>
     requires { Allowed arities.now objects.now schema state.now count }
     ensures { Asks (ask_admitted (schema_of arities.now schema) (record { schema = number; objects = objects.now })
         (facts_in arities.now count state.now)) result }
 {
     let changes = changes_of(schema, arities, state, count, number, objects);
-    let gone = changes.gone;
-    let come = changes.come;
-    let next = count + come.count - gone.count;
+    let next = count + changes.come.count - changes.gone.count;
     if MOST_FACTS < next {
-        return without_changes(Applied::StateFull);
+        return Err(PressRefusal::StateFull);
     }
-    Previewed {
-        applied: Applied::Count(next),
+    Ok(Foreseen {
+        count: next,
         changes,
-    }
-}
-
-// Two runs of bytes, of one length, are the same.
-fn same_bytes(a: &[u8], b: &[u8]) -> bool
-    requires { length a.now ≡ length b.now }
-    ensures { result ≡ same a.now b.now }
-{
-    let mut i = 0;
-    while i < a.len() {
-        if a[i] != b[i] {
-            return false;
-        }
-        i = i + 1;
-    }
-    true
+    })
 }
 
 // The rows that are given are as many as those found, and the same. A number of rows that no list has is another number.
@@ -191,14 +152,8 @@ fn same_rows(given: Rows, found: Rows) -> bool
     requires { found.count ≤ 8 }
     ensures { result ≡ same_rows (rows_of given) (rows_of found) }
 {
-    let count = found.count;
-    if given.count != count {
-        return false;
-    }
-    let end = 4 * count;
-    let given_rows = given.rows;
-    let found_rows = found.rows;
-    same_bytes(&given_rows[0..end], &found_rows[0..end])
+    let end = 4 * found.count;
+    given.count == found.count && given.rows[0..end] == found.rows[0..end]
 }
 
 // The same facts go, and the same come.
@@ -206,14 +161,7 @@ fn agree(given: Changes, found: Changes) -> bool
     requires { (found.gone.count ≤ 8) × (found.come.count ≤ 8) }
     ensures { result ≡ agree (preview_of given) (preview_of found) }
 {
-    let given_gone = given.gone;
-    let found_gone = found.gone;
-    if !same_rows(given_gone, found_gone) {
-        return false;
-    }
-    let given_come = given.come;
-    let found_come = found.come;
-    same_rows(given_come, found_come)
+    same_rows(given.gone, found.gone) && same_rows(given.come, found.come)
 }
 
 // 23, the last check; only then is the next state stored.
@@ -224,16 +172,16 @@ fn store_agreed(
     state: &mut [u8],
     count: usize,
     objects: &[u8],
-) -> Committed
+) -> Result<usize, CommitRefusal>
     requires { ActionReady arities.now objects.now schema state.old count }
     ensures { Commits (store_agreed state.old agreed (limited (successor (schema_of arities.now schema) objects.now
         (facts_in arities.now count state.old)))) state.new result }
 {
     if !agreed {
-        return Committed::ChangesDiffer;
+        return Err(CommitRefusal::ChangesDiffer);
     }
-    let stored = store_successor(schema, arities, state, count, objects);
-    Committed::Answered(stored)
+    let stored = store_successor(schema, arities, state, count, objects)?;
+    Ok(stored)
 }
 
 // 20, then 23.
@@ -244,19 +192,13 @@ fn commit_admitted(
     count: usize,
     objects: &[u8],
     changes: Changes,
-) -> Committed
+) -> Result<usize, CommitRefusal>
     requires { Allowed arities.now objects.now schema state.old count }
     ensures { Commits (commit_admitted state.old (schema_of arities.now schema) objects.now
         (facts_in arities.now count state.old) (preview_of changes)) state.new result }
 {
-    let number = changes.schema;
-    let seen = foresee(schema, arities, state, count, number, objects);
-    let applied = seen.applied;
-    let Applied::Count(_) = applied else {
-        return Committed::Answered(applied);
-    };
-    let found = seen.changes;
-    let agreed = agree(changes, found);
+    let found = foresee(schema, arities, state, count, changes.schema, objects)?;
+    let agreed = agree(changes, found.changes);
     store_agreed(agreed, schema, arities, state, count, objects)
 }
 
@@ -269,21 +211,20 @@ fn lent_count(count: usize) -> usize
 }
 
 // Asking: what applying the action would answer, and what it would do. What is lent is only read.
-pub fn preview(card: &[u8], state: &[u8], count: usize, schema: usize, objects: &[u8]) -> Previewed
+pub fn preview(
+    card: &[u8],
+    state: &[u8],
+    count: usize,
+    schema: usize,
+    objects: &[u8],
+) -> Result<Foreseen, PressRefusal>
     ensures { Asks (ask card.now state.now count (record { schema = schema; objects = objects.now })) result }
 {
-    let admitted = admit(card, state, count, schema, objects);
-    let answer = admitted.answer;
-    let Applied::Count(_) = answer else {
-        return without_changes(answer);
-    };
-    let chosen = admitted.schema;
+    let admitted = admit(card, state, count, schema, objects)?;
     let predicates = admitted.predicates;
-    let predicate_count = predicates.count;
-    let arities = predicates.arities;
     foresee(
-        chosen,
-        &arities[0..predicate_count],
+        admitted.schema,
+        &predicates.arities[0..predicates.count],
         state,
         count,
         schema,
@@ -292,25 +233,21 @@ pub fn preview(card: &[u8], state: &[u8], count: usize, schema: usize, objects: 
 }
 
 // Committing: the action that the changes carry is applied, if on this state the same facts go and the same come. A refusal alters no byte.
-pub fn commit(card: &[u8], state: &mut [u8], count: usize, changes: Changes) -> Committed
+pub fn commit(
+    card: &[u8],
+    state: &mut [u8],
+    count: usize,
+    changes: Changes,
+) -> Result<usize, CommitRefusal>
     ensures { Commits (commit card.now state.old count (preview_of changes)) state.new result }
 {
-    let schema = changes.schema;
     let kept = changes.objects;
-    let object_count = changes.object_count;
-    let lent = lent_count(object_count);
-    let admitted = admit(card, state, count, schema, &kept[0..lent]);
-    let answer = admitted.answer;
-    let Applied::Count(_) = answer else {
-        return Committed::Answered(answer);
-    };
-    let chosen = admitted.schema;
+    let lent = lent_count(changes.object_count);
+    let admitted = admit(card, state, count, changes.schema, &kept[0..lent])?;
     let predicates = admitted.predicates;
-    let predicate_count = predicates.count;
-    let arities = predicates.arities;
     commit_admitted(
-        chosen,
-        &arities[0..predicate_count],
+        admitted.schema,
+        &predicates.arities[0..predicates.count],
         state,
         count,
         &kept[0..lent],

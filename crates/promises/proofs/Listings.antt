@@ -6,6 +6,7 @@ use mathlib.Core.Path.{◌≡◌, refl, sym, ap, ◌∙◌, subst}
 use mathlib.Core.List.{List, [], ◌++◌, flat_map}
 use lib.ListN.{length, get_or, take, drop}
 use lib.Seq.{take_at, drop_at}
+use Rattle.std.specs.Prelude.{Result}
 use Rattle.laws.specs.Lists.{up_to}
 use Rattle.laws.proofs.Lists.{mem_get_d}
 use Rattle.model.specs.Answer.{accepted}
@@ -19,7 +20,7 @@ use Rattle.model.specs.Truth.{◌is_section_of◌, Holds}
 use Rattle.model.proofs.TextLines.{text_determines}
 use Rattle.model.proofs.SectionCalls.{written, section_calls, accepted_section}
 use Rattle.strips.specs.Answers.{applied_says, Matches}
-use Rattle.strips.specs.declared.Applied.{Applied}
+use Rattle.strips.specs.declared.PressRefusal.{PressRefusal}
 use Rattle.listing.specs.Answers.{listed_says, Lists}
 use Rattle.listing.specs.declared.Listed.{Listed}
 use Rattle.promises.proofs.Histories.{Calls, calls_keep_the_listing}
@@ -58,7 +59,7 @@ one_section card before after number n r lists e =
 
 -- whatever lines the bytes are the text of: they are a section of the card's listing, and what is listed is true of the state after any calls
 pub bytes_are_true : (card before after : List ℕ) (number n : ℕ) (r : Listed) → Lists card number before after r → listed_says r ≡ accepted n
-    → (buffer opened : List ℕ) (count : ℕ) (o : Applied) → Matches (initial card buffer) opened o → applied_says o ≡ accepted count
+    → (buffer opened : List ℕ) (count : ℕ) (o : Result ℕ PressRefusal) → Matches (initial card buffer) opened o → applied_says o ≡ accepted count
     → (events : List Event) (standing : Standing) → Calls card (record { buffer = opened; count = count }) events standing
     → (lines : List Line) → take n after ≡ text lines
     → (t : model.Task) × (model.decode card ≡ accepted t) × (lines is_section_of t) × Holds t (state_of t standing)

@@ -9,6 +9,7 @@ use mathlib.Core.List.{List, [], ◌∷◌, ◌++◌, map, foldl, Memᴰ}
 use lib.Dec.{leb}
 use lib.ListN.{length, take, drop, replicate, length-map, length-append, length-drop, length-replicate}
 use lib.Seq.{take_at, drop_at}
+use Rattle.std.specs.Prelude.{Result}
 use borrow.Author.Tests.{le-leb}
 use Rattle.laws.specs.Lists.{all, keep, member, padded}
 use Rattle.laws.proofs.Tests.{and_left, and_right}
@@ -37,7 +38,7 @@ use Rattle.actions.specs.Grounds.{holds_in, missing_in, Bound}
 use Rattle.strips.specs.Answers.{Matches}
 use Rattle.strips.specs.Steps.{storing, storing_numbers, next_numbers, ListKept, StateKept, ActionReady, NextReady}
 use Rattle.strips.proofs.Replacing.{replaced_by_facts}
-use Rattle.strips.specs.declared.Applied.{Applied}
+use Rattle.strips.specs.declared.PressRefusal.{PressRefusal}
 
 -- facts put in one after the other are known
 pub puts_known :
@@ -195,7 +196,7 @@ module _ {arities objects : List ℕ} {schema : Schema} {buffer : List ℕ} {cou
       (numbers_removed shape (taken_out model_schema objects) before out_known before_known))
 
   -- storing the numbers of the next state is storing that state
-  pub next_replaced : {numbers after : List ℕ} {r : Applied} → numbers ≡ map fact_number next → Matches (storing_numbers buffer numbers) after r
+  pub next_replaced : {numbers after : List ℕ} {r : Result ℕ PressRefusal} → numbers ≡ map fact_number next → Matches (storing_numbers buffer numbers) after r
       → Matches (storing buffer (limited next)) after r
   next_replaced {numbers} q matches =
       let same = ap (λ (l : List ℕ). stored l buffer) q ∙ stored_written shape next buffer next_known in

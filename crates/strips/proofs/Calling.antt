@@ -2,6 +2,7 @@
 use Prim.Native.Nat.{ℕ}
 use mathlib.Core.Path.{◌≡◌, refl, sym, ap, subst}
 use mathlib.Core.List.{List}
+use Rattle.std.specs.Prelude.{Result, Err}
 use Rattle.model.specs.Answer.{Answer, ◌>>=◌}
 use Rattle.model.specs.Card as model
 use Rattle.model.specs.Calls.{Call, finish}
@@ -10,9 +11,9 @@ use Rattle.card.specs.declared.Decoded.{Decoded}
 use Rattle.card.specs.declared.Refusal.{Refusal}
 use Rattle.card.specs.declared.Verdict.TheVariants.{Accepted, Refused}
 use Rattle.card.proofs.Deciding.{refuses, accepts}
-use Rattle.strips.specs.Answers.{applied_says, Matches}
-use Rattle.strips.specs.declared.Applied.{Applied}
-use Rattle.strips.specs.declared.Applied.TheVariants.{CardRefused}
+use Rattle.strips.specs.Answers.{press_number, applied_says, Matches}
+use Rattle.strips.specs.declared.PressRefusal.{PressRefusal}
+use Rattle.strips.specs.declared.PressRefusal.TheVariants.{Card}
 
 -- `next` is what follows the card reader
 module _ {card : List ℕ} {d : Decoded} (decodes : Decodes card d) (buffer : List ℕ) (next : model.Task → Answer Call) where
@@ -20,14 +21,14 @@ module _ {card : List ℕ} {d : Decoded} (decodes : Decodes card d) (buffer : Li
   abbrev follows : Answer model.Task → Call
   follows answer = finish buffer (answer >>= next)
 
-  pub card_refused : {r : Refusal} → d.verdict ≡ Refused r → Matches (follows (model.decode card)) buffer (CardRefused r)
-  unfolding ◌>>=◌ finish applied_says
-  card_refused {r} verdict =
-      subst (λ (call : Call). Matches call buffer (CardRefused r)) (sym (ap follows (refuses card d decodes r verdict)))
-      (record { answer = refl; buffer = refl })
+  pub card_refused : {r : Refusal} {e : PressRefusal} → d.verdict ≡ Refused r → e ≡ Card r → Matches (follows (model.decode card)) buffer (Err e)
+  unfolding ◌>>=◌ finish applied_says press_number
+  card_refused {r} {e} verdict is =
+      subst (λ (call : Call). Matches call buffer (Err e)) (sym (ap follows (refuses card d decodes r verdict)))
+      (rw is (record { answer = refl; buffer = refl }))
 
   pub card_accepted :
-      {after : List ℕ} {r : Applied} → d.verdict ≡ Accepted → Matches (finish buffer (next (task_of d.task))) after r
+      {after : List ℕ} {r : Result ℕ PressRefusal} → d.verdict ≡ Accepted → Matches (finish buffer (next (task_of d.task))) after r
       → Matches (follows (model.decode card)) after r
   unfolding ◌>>=◌
   card_accepted {after} {r} verdict matches =

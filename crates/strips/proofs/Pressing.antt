@@ -7,11 +7,12 @@ use mathlib.Core.Bool.{Bool, true, false}
 use mathlib.Core.List.{List, ◌++◌, map}
 use lib.ListN.{length, get_or, take, drop, length-map}
 use lib.Seq.{take_at}
+use Rattle.std.specs.Prelude.{Ok, Err}
 use Rattle.model.specs.Answer.{Answer, refused, accepted, ◌>>◌}
 use Rattle.model.specs.Card as model
 use Rattle.model.specs.Strips.{Action, state_bytes, facts_in, well_formed, schema_at}
 use Rattle.model.specs.Calls.{finish, initial_of}
-use Rattle.model.proofs.Answers.{first_passed, both_accepted}
+use Rattle.model.proofs.Answers.{both_accepted, both_refused}
 use Rattle.card.specs.Represents.{arities_for, schema_of, schema_for, facts_of, task_of, task_for, blank_schema, Represented}
 use Rattle.card.specs.declared.Schema.{Schema}
 use Rattle.card.specs.declared.Task.{Task}
@@ -20,12 +21,12 @@ use Rattle.card.proofs.Entries.{arities_part}
 use Rattle.state.specs.Rows.{fact_number, stored, Shape}
 use Rattle.state.proofs.FactNumbers.{stored_written}
 use Rattle.actions.specs.Grounds.{FactsRight}
-use Rattle.strips.specs.Admission.{Admissible, admit_schema, count_admitted, admission_of}
-use Rattle.strips.specs.Answers.{applied_says, arities_beside, schema_beside, Matches, Granted}
+use Rattle.strips.specs.Admission.{Admissible, admit_schema, admission_of}
+use Rattle.strips.specs.Answers.{press_number, applied_says, admissible_of, admitted_for, Matches, Granted}
 use Rattle.strips.specs.Steps.{SchemaKept, StateKept}
-use Rattle.strips.specs.declared.Applied.{Applied}
-use Rattle.strips.specs.declared.Applied.TheVariants.{Count}
-use Rattle.strips.proofs.Admitting.{admitted_tests, refused_alike}
+use Rattle.strips.specs.declared.Admitted.{Admitted}
+use Rattle.strips.specs.declared.PressRefusal.{PressRefusal}
+use Rattle.strips.proofs.Admitting.{admitted_tests}
 use Rattle.strips.proofs.Tasks.{model_task, arities, task_shape, few_schemas, chosen_is, chosen_for, chosen_kept}
 use Rattle.strips.proofs.Tasks.{get_d_default, facts_kept_lem, facts_known}
 use Rattle.strips.proofs.Refusing.{state_malformed, schema_unknown, schema_named, task_opened}
@@ -102,49 +103,47 @@ module _ (task : Task) (kept : Represented task (task_of task)) where
             ∙ ap (λ (l : List ℕ). with_schema l (schema_at (model_task task kept) action.schema)) (sym same)
             ∙ ap (with_schema part) (sym chosen_named)
 
-        -- the answer to 17 to 19, with the number of facts where they pass
-        module _
-            (answer : Applied)
-            (answered : applied_says answer ≡ count_admitted task.objects (schema_of part chosen) action.objects (facts_in part count buffer) count)
-          where
-            -- a refusal is that of the action
-            pub refused_schema : (m : ℕ) → applied_says answer ≡ refused m → admitting ≡ refused m
-            refused_schema m e = schema_left ∙ refused_alike _ _ _ (sym answered ∙ e)
+        -- the answer to 17 to 19
+        abbrev checks : Answer (Unit {0})
+        checks = admit_schema task.objects (schema_of part chosen) action.objects (facts_in part count buffer)
 
-            module _ {m : ℕ} (counted : answer ≡ Count m) where
-              passed_all : admit_schema task.objects (schema_of part chosen) action.objects (facts_in part count buffer) ≡ accepted tt
-              unfolding applied_says
-              passed_all = first_passed _ _ m (sym answered ∙ ap applied_says counted)
+        -- a refusal is that of the action
+        pub refused_schema : (e : PressRefusal) → applied_says (Err e) ≡ checks → admitting ≡ refused (press_number e)
+        unfolding applied_says
+        refused_schema e says = schema_left ∙ both_refused _ (sym says)
 
-              -- an action that passes may be applied
-              pub schema_granted : Granted admitting buffer count action.objects task.predicates chosen
-              unfolding schema_of
-              schema_granted =
-                  let tests = admitted_tests task.objects (schema_of part chosen) action.objects (facts_in part count buffer) passed_all in
-                  record {
-                    inside = predicates_inside task kept;
-                    ready = record {
-                      known_objects = task.objects;
-                      state = state_kept;
-                      schema_kept = schema_kept;
-                      one_for_each = tests.one_for_each;
-                      objects_known = tests.objects_known;
-                      different = tests.different;
-                    };
-                    allowed = tests.holds;
-                    is = schema_left ∙ both_accepted _ passed_all;
-                  }
+        -- an action that passes may be applied
+        abbrev pub admitted : Admitted
+        admitted = record { predicates = task.predicates; schema = chosen }
 
-              -- and the arities and the schema are kept whole
-              pub arities_whole : task.predicates ≡ arities_beside admitting
-              unfolding arities_beside task_of task_for
-              arities_whole =
-                  ap (λ (t : Task). t.predicates) kept.stands ∙ ap arities_for (sym same) ∙ sym (ap arities_beside schema_granted.is)
+        pub schema_passed : applied_says (Ok tt) ≡ checks → admitting ≡ accepted (admissible_of admitted)
+        unfolding applied_says
+        schema_passed says = schema_left ∙ both_accepted _ (sym says)
 
-              pub schema_whole : chosen ≡ schema_beside admitting
-              unfolding schema_beside
-              schema_whole =
-                  usual ∙ chosen_for task kept action.schema within ∙ ap schema_for (sym chosen_named) ∙ sym (ap schema_beside schema_granted.is)
+        arities_whole : task.predicates ≡ arities_for part
+        unfolding task_of task_for
+        arities_whole = ap (λ (t : Task). t.predicates) kept.stands ∙ ap arities_for (sym same)
+
+        schema_whole : chosen ≡ schema_for (schema_of part chosen)
+        schema_whole = usual ∙ chosen_for task kept action.schema within ∙ ap schema_for (sym chosen_named)
+
+        pub schema_granted : applied_says (Ok tt) ≡ checks → Granted buffer count action.objects admitted
+        unfolding applied_says schema_of admitted_for
+        schema_granted says =
+            let tests = admitted_tests task.objects (schema_of part chosen) action.objects (facts_in part count buffer) (sym says) in
+            record {
+              inside = predicates_inside task kept;
+              ready = record {
+                known_objects = task.objects;
+                state = state_kept;
+                schema_kept = schema_kept;
+                one_for_each = tests.one_for_each;
+                objects_known = tests.objects_known;
+                different = tests.different;
+              };
+              allowed = tests.holds;
+              whole = λ i. record { predicates = arities_whole i; schema = schema_whole i };
+            }
 
   -- the opening call: the numbers of the facts, at the front of an array, stored
   module _ (buffer numbers was : List ℕ) (loaded : numbers ≡ map fact_number (facts_of part task.facts) ++ drop task.facts.count was) where
@@ -165,7 +164,7 @@ module _ (task : Task) (kept : Represented task (task_of task)) where
 
     pub opened :
         {after : List ℕ} → state_bytes ≤ length buffer → after ≡ stored (take (task.facts.count - 0) numbers) buffer
-        → Matches (finish buffer (initial_of (model_task task kept) buffer)) after (Count task.facts.count)
+        → Matches (finish buffer (initial_of (model_task task kept) buffer)) after (Ok task.facts.count)
     opened large e =
         task_opened (model_task task kept) buffer large (fact_count_lem task kept)
         (e ∙ ap (λ (l : List ℕ). stored l buffer) numbers_of_facts

@@ -5,23 +5,24 @@ use mathlib.Core.Bool.{Bool, true, false}
 use mathlib.Core.List.{List}
 use lib.Dec.{leb}
 use lib.ListN.{length}
+use Rattle.std.specs.Prelude.{Ok, Err}
 use borrow.Author.Tests.{le-leb, lt-leb}
 use Rattle.model.specs.Answer.{accepted, ◌>>=◌, ◌>>◌, need}
 use Rattle.model.specs.Strips.{State, most_facts, written, limited}
 use Rattle.model.specs.Calls.{Call, finish, store}
 use Rattle.state.specs.Rows.{stored}
-use Rattle.strips.specs.Answers.{applied_says, Matches}
+use Rattle.strips.specs.Answers.{press_number, applied_says, Matches}
 use Rattle.strips.specs.Steps.{storing, storing_numbers}
-use Rattle.strips.specs.declared.Applied.TheVariants.{Count, StateFull}
+use Rattle.strips.specs.declared.PressRefusal.TheVariants.{StateFull}
 
 module _ (numbers buffer : List ℕ) where
-  pub too_many : 1024 < length numbers → Matches (storing_numbers buffer numbers) buffer StateFull
-  unfolding storing_numbers need ◌>>◌ ◌>>=◌ finish applied_says
+  pub too_many : 1024 < length numbers → Matches (storing_numbers buffer numbers) buffer (Err StateFull)
+  unfolding storing_numbers need ◌>>◌ ◌>>=◌ finish applied_says press_number
   too_many h = rw (lt-leb (length numbers) 1024 h) (record { answer = refl; buffer = refl })
 
   pub not_too_many : {after : List ℕ} → length numbers ≤ 1024 → after ≡ stored numbers buffer
-      → Matches (storing_numbers buffer numbers) after (Count (length numbers))
-  unfolding storing_numbers need ◌>>◌ ◌>>=◌ finish applied_says
+      → Matches (storing_numbers buffer numbers) after (Ok (length numbers))
+  unfolding storing_numbers need ◌>>◌ ◌>>=◌ finish applied_says press_number
   not_too_many h e = rw (le-leb (length numbers) 1024 h) (record { answer = refl; buffer = e })
 
   -- the numbers are stored where the facts that they stand for are

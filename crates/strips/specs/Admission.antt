@@ -10,10 +10,6 @@ admit_schema known schema objects state = do
   check_objects known schema objects
   need (applicable schema objects state) 19
 
--- and then the number of facts that the state has
-abbrev pub count_admitted : ℕ → Schema → List ℕ → State → ℕ → Answer ℕ
-count_admitted known schema objects state count = admit_schema known schema objects state >> accepted count
-
 -- What may be applied: the arities of a task, and a schema of it.
 pub record Admissible : Type 0 where
   pub arities : List ℕ

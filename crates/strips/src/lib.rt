@@ -7,27 +7,35 @@ ghost use Rattle.model.specs.Open.{is_accepted};
 ghost use Rattle.model.specs.Calls.{finish, initial_of, initial, press};
 ghost use Rattle.card.specs.Represents.{schema_of, task_of, Represented};
 ghost use Rattle.sets.specs.Numbers.{Becomes};
-ghost use Rattle.strips.specs.Answers.{applied_says, Matches, not_admitted, Admits};
+ghost use Rattle.strips.specs.Answers.{applied_says, Matches, Admits};
 ghost use Rattle.strips.specs.Steps.{storing, storing_numbers, next_numbers, ActionReady, NextReady, StateKept, SchemaKept};
-ghost use Rattle.strips.specs.Admission.{count_admitted, admission_of, admission};
+ghost use Rattle.strips.specs.declared.PressRefusal.TheVariants.{Card};
+ghost use Rattle.strips.specs.Admission.{admit_schema, admission_of, admission};
 
 use actions::{all_different, all_hold, all_known, fact_numbers, missing_facts, put_in, taken_out};
-use card::{ArityList, Refusal, Schema, Task, Verdict, blank_schema, no_arities};
+use card::{ArityList, Refusal, Schema, Task, Verdict};
 use reader::decode;
 use sets::{insert_all, remove_all};
 use state::{MOST_FACTS, STATE_BYTES, load, store, well_formed};
 
-// What the opening call and applying an action answer: the number of facts, or why not. A refusal of the card is handed through.
+// Why the opening call or an action is refused. A refusal of the card is handed through.
 #[derive(Clone, Copy)]
-pub enum Applied {
-    Count(usize),
-    CardRefused(Refusal),
+pub enum PressRefusal {
+    Card(Refusal),
     StateMalformed,
     SchemaUnknown,
     ObjectsWrong,
     ObjectsRepeated,
     PreconditionMissing,
     StateFull,
+}
+
+impl From<Refusal> for PressRefusal {
+    ghost from_gives = { λ r e. e ≡ Card r };
+
+    fn from(refusal: Refusal) -> PressRefusal {
+        PressRefusal::Card(refusal)
+    }
 }
 
 // Room for the facts of a state and the eight that an action puts in.
@@ -46,26 +54,22 @@ fn next_numbers(
         numbers.old numbers.new result }
 {
     let out = taken_out(schema, arities, objects);
-    let out_count = out.count;
-    let out_numbers = out.numbers;
-    let left = remove_all(numbers, count, &out_numbers[0..out_count]);
+    let left = remove_all(numbers, count, &out.numbers[0..out.count]);
     let new = put_in(schema, arities, objects);
-    let new_count = new.count;
-    let new_numbers = new.numbers;
-    insert_all(numbers, left, &new_numbers[0..new_count])
+    insert_all(numbers, left, &new.numbers[0..new.count])
 }
 
 // 20, the last check; only then is the next state written.
-fn store_next(state: &mut [u8], numbers: &[u32]) -> Applied
+fn store_next(state: &mut [u8], numbers: &[u32]) -> Result<usize, PressRefusal>
     requires { state_bytes ≤ length state.old }
     ensures { Matches (storing_numbers state.old numbers.now) state.new result }
 {
     let count = numbers.len();
     if MOST_FACTS < count {
-        return Applied::StateFull;
+        return Err(PressRefusal::StateFull);
     }
     store(state, numbers);
-    Applied::Count(count)
+    Ok(count)
 }
 
 // The next state of an action, stored: 20.
@@ -75,7 +79,7 @@ pub fn store_successor(
     state: &mut [u8],
     count: usize,
     objects: &[u8],
-) -> Applied
+) -> Result<usize, PressRefusal>
     requires { ActionReady arities.now objects.now schema state.old count }
     ensures { Matches (storing state.old (limited (successor (schema_of arities.now schema) objects.now
         (facts_in arities.now count state.old)))) state.new result }
@@ -92,36 +96,18 @@ pub fn allows(schema: Schema, arities: &[u8], state: &[u8], count: usize, object
     requires { ActionReady arities.now objects.now schema state.now count }
     ensures { result ≡ is_accepted (progress (schema_of arities.now schema) objects.now (facts_in arities.now count state.now)) }
 {
-    let preconditions = schema.preconditions;
-    if !all_hold(preconditions, arities, state, count, objects) {
+    if !all_hold(schema.preconditions, arities, state, count, objects) {
         return false;
     }
-    let deletes = schema.deletes;
-    let room = MOST_FACTS + deletes.count - count;
-    let adds = schema.adds;
-    if adds.count <= room {
-        return true;
-    }
-    missing_facts(adds, arities, state, count, objects) <= room
+    let room = MOST_FACTS + schema.deletes.count - count;
+    schema.adds.count <= room || missing_facts(schema.adds, arities, state, count, objects) <= room
 }
 
-// An action that may be applied: the arities of its card's predicates, and its schema, with the number of facts that the state has. Or why
-// it may not be applied; then the two are blank.
+// An action that may be applied: the arities of its card's predicates, and its schema.
 #[derive(Clone, Copy)]
 pub struct Admitted {
-    pub answer: Applied,
     pub predicates: ArityList,
     pub schema: Schema,
-}
-
-fn not_admitted(refusal: Applied) -> Admitted
-    ensures { result ≡ not_admitted refusal }
-{
-    Admitted {
-        answer: refusal,
-        predicates: no_arities(),
-        schema: blank_schema(),
-    }
 }
 
 // 17 to 19: the objects first, then the preconditions.
@@ -132,123 +118,116 @@ fn admit_schema(
     state: &[u8],
     count: usize,
     objects: &[u8],
-) -> Applied
+) -> Result<(), PressRefusal>
     requires { (StateKept arities.now known state.now count) × (SchemaKept arities.now schema) }
-    ensures { applied_says result
-        ≡ count_admitted known (schema_of arities.now schema) objects.now (facts_in arities.now count state.now) count }
+    ensures { applied_says result ≡ admit_schema known (schema_of arities.now schema) objects.now (facts_in arities.now count state.now) }
 {
-    let parameters = schema.parameters;
-    if objects.len() != parameters {
-        return Applied::ObjectsWrong;
+    if objects.len() != schema.parameters {
+        return Err(PressRefusal::ObjectsWrong);
     }
     if !all_known(objects, known) {
-        return Applied::ObjectsWrong;
+        return Err(PressRefusal::ObjectsWrong);
     }
     if !all_different(objects) {
-        return Applied::ObjectsRepeated;
+        return Err(PressRefusal::ObjectsRepeated);
     }
-    let preconditions = schema.preconditions;
-    if !all_hold(preconditions, arities, state, count, objects) {
-        return Applied::PreconditionMissing;
+    if !all_hold(schema.preconditions, arities, state, count, objects) {
+        return Err(PressRefusal::PreconditionMissing);
     }
-    Applied::Count(count)
+    Ok(())
 }
 
 // 15 to 19, for a task: the state first, then the schema.
-fn admit_task(task: Task, state: &[u8], count: usize, number: usize, objects: &[u8]) -> Admitted
+fn admit_task(
+    task: Task,
+    state: &[u8],
+    count: usize,
+    number: usize,
+    objects: &[u8],
+) -> Result<Admitted, PressRefusal>
     requires { Represented task (task_of task) }
     ensures { Admits (admission_of (task_of task) state.now count (record { schema = number; objects = objects.now }))
         state.now count objects.now result }
 {
     let predicates = task.predicates;
-    let predicate_count = predicates.count;
-    let arities = predicates.arities;
-    let known = task.objects;
-    if !well_formed(state, count, &arities[0..predicate_count], known) {
-        return not_admitted(Applied::StateMalformed);
+    let arities = &predicates.arities[0..predicates.count];
+    if !well_formed(state, count, arities, task.objects) {
+        return Err(PressRefusal::StateMalformed);
     }
-    let schemas = task.schemas;
-    let schema_count = schemas.count;
-    if schema_count <= number {
-        return not_admitted(Applied::SchemaUnknown);
+    if task.schemas.count <= number {
+        return Err(PressRefusal::SchemaUnknown);
     }
-    let schema = schemas.schemas[number];
-    let answer = admit_schema(
-        schema,
-        &arities[0..predicate_count],
-        known,
-        state,
-        count,
-        objects,
-    );
-    let Applied::Count(_) = answer else {
-        return not_admitted(answer);
-    };
-    Admitted {
-        answer,
-        predicates,
-        schema,
-    }
+    let schema = task.schemas.schemas[number];
+    admit_schema(schema, arities, task.objects, state, count, objects)?;
+    Ok(Admitted { predicates, schema })
 }
 
 // The checks that applying, previewing and committing an action make alike, 1 to 19: the card, the state, the action, its preconditions.
-pub fn admit(card: &[u8], state: &[u8], count: usize, schema: usize, objects: &[u8]) -> Admitted
+pub fn admit(
+    card: &[u8],
+    state: &[u8],
+    count: usize,
+    schema: usize,
+    objects: &[u8],
+) -> Result<Admitted, PressRefusal>
     ensures { Admits (admission card.now state.now count (record { schema = schema; objects = objects.now }))
         state.now count objects.now result }
 {
     let decoded = decode(card);
-    let verdict = decoded.verdict;
-    let task = decoded.task;
-    match verdict {
-        Verdict::Refused(refusal) => not_admitted(Applied::CardRefused(refusal)),
-        Verdict::Accepted => admit_task(task, state, count, schema, objects),
+    match decoded.verdict {
+        Verdict::Refused(refusal) => Err(PressRefusal::from(refusal)),
+        Verdict::Accepted => admit_task(decoded.task, state, count, schema, objects),
     }
 }
 
 // The opening call for a task: its facts are stored.
-fn open_task(task: Task, state: &mut [u8]) -> Applied
+fn open_task(task: Task, state: &mut [u8]) -> Result<usize, PressRefusal>
     requires { Represented task (task_of task) }
     ensures { Matches (finish state.old (initial_of (task_of task) state.old)) state.new result }
 {
     if state.len() < STATE_BYTES {
-        return Applied::StateMalformed;
+        return Err(PressRefusal::StateMalformed);
     }
-    let predicates = task.predicates;
-    let predicate_count = predicates.count;
-    let arities = predicates.arities;
     let facts = task.facts;
-    let count = facts.count;
+    let predicates = task.predicates;
     let mut numbers = [0u32; 512];
-    fact_numbers(facts, &arities[0..predicate_count], &mut numbers);
-    store(state, &numbers[0..count]);
-    Applied::Count(count)
+    fact_numbers(
+        facts,
+        &predicates.arities[0..predicates.count],
+        &mut numbers,
+    );
+    store(state, &numbers[0..facts.count]);
+    Ok(facts.count)
 }
 
 // The opening call: the initial state of a card's task is written to the buffer, and its count is answered.
-pub fn initial(card: &[u8], state: &mut [u8]) -> Applied
+pub fn initial(card: &[u8], state: &mut [u8]) -> Result<usize, PressRefusal>
     ensures { Matches (initial card.now state.old) state.new result }
 {
     let decoded = decode(card);
-    let verdict = decoded.verdict;
-    let task = decoded.task;
-    match verdict {
-        Verdict::Refused(reason) => Applied::CardRefused(reason),
-        Verdict::Accepted => open_task(task, state),
+    match decoded.verdict {
+        Verdict::Refused(reason) => Err(PressRefusal::from(reason)),
+        Verdict::Accepted => open_task(decoded.task, state),
     }
 }
 
 // An action is applied to the state in the buffer, and the next state's count is answered. A refusal alters no byte.
-pub fn apply(card: &[u8], state: &mut [u8], count: usize, schema: usize, objects: &[u8]) -> Applied
+pub fn apply(
+    card: &[u8],
+    state: &mut [u8],
+    count: usize,
+    schema: usize,
+    objects: &[u8],
+) -> Result<usize, PressRefusal>
     ensures { Matches (press card.now state.old count (record { schema = schema; objects = objects.now })) state.new result }
 {
-    let admitted = admit(card, state, count, schema, objects);
-    let answer = admitted.answer;
-    let Applied::Count(_) = answer else {
-        return answer;
-    };
-    let chosen = admitted.schema;
+    let admitted = admit(card, state, count, schema, objects)?;
     let predicates = admitted.predicates;
-    let predicate_count = predicates.count;
-    let arities = predicates.arities;
-    store_successor(chosen, &arities[0..predicate_count], state, count, objects)
+    store_successor(
+        admitted.schema,
+        &predicates.arities[0..predicates.count],
+        state,
+        count,
+        objects,
+    )
 }
