@@ -18,7 +18,7 @@ pub const MOST_FACTS: usize = 1024;
 
 pub const FILLER: u8 = 255;
 
-// The first rows of a state, four bytes each.
+// The first `count` rows of a state, four bytes each.
 fn rows(state: &[u8], count: usize) -> &[[u8; 4]]
     requires { 4 * count ≤ length state.now }
     ensures { result.now ≡ first_chunks 4 count state.now }
@@ -75,7 +75,7 @@ fn row_right(row: [u8; 4], arities: &[u8], objects: usize) -> bool
         && place_right(third, 3, arity, objects)
 }
 
-// The first `count` rows are right, and each stands above the one before it.
+// The first `count` rows are right, and each stands above the one before it: at or above `least`, which may be 2 ^ 32.
 fn rows_right(state: &[u8], count: usize, arities: &[u8], objects: usize) -> bool
     requires { (4 * count ≤ length state.now) × (in_range arities.now ≡ true) }
     ensures { result ≡ rows_in arities.now objects 0 count state.now }

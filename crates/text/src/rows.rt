@@ -55,7 +55,7 @@ pub fn write_last_counts(out: &mut [u8], counts: &[u16]) -> usize
     at + 1
 }
 
-// The members of a mask, the lowest first.
+// The members of a mask, the lowest first. The mask is walked by its trailing zeros (document 01), so that no list of them is kept.
 pub fn write_members(out: &mut [u8], mask: u64) -> usize
     requires { Room (numbers (members_of mask)) out.old }
     ensures { Writes (numbers (members_of mask)) out.old out.new result }
@@ -69,7 +69,7 @@ pub fn write_members(out: &mut [u8], mask: u64) -> usize
     at
 }
 
-// The members as the last list of a line.
+// The members as the last list of a line. No function for both lists: it would take a closure, and a clause on what that writes.
 pub fn write_last_members(out: &mut [u8], mask: u64) -> usize
     requires { Room (last_numbers (members_of mask)) out.old }
     ensures { Writes (last_numbers (members_of mask)) out.old out.new result }
