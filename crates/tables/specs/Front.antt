@@ -1,10 +1,10 @@
 -- What the card writer answers and leaves where it is lent the front of a buffer, and the bytes that tell its answer.
-use Rattle.std.specs.Prelude.{ℕ, ◌/◌, ◌%◌, ◌≡◌, List, [], ◌∷◌, ◌++◌, length, take, drop}
+use Rattle.std.specs.Prelude.{ℕ, ◌/◌, ◌%◌, ◌≡◌, List, [], ◌∷◌, ◌++◌, length, take, drop, Result}
 use Rattle.model.specs.Answer.{Answer, refused, accepted}
 use Rattle.model.specs.Calls.{Call, encode}
 use Rattle.card.specs.declared.Task.{Task}
 use Rattle.card.specs.Represents.{task_of}
-use Rattle.writer.specs.declared.Writing.{Writing}
+use Rattle.writer.specs.declared.WriterRefusal.{WriterRefusal}
 use Rattle.writer.specs.Answers.{writing_says}
 use Rattle.tables.specs.Flat.{table_from, lent_from}
 
@@ -29,7 +29,7 @@ encode_front t lent out =
     record { answer = call.answer; buffer = call.buffer ++ drop lent out }
 
 -- what was written, and the whole buffer as the writer leaves it
-pub record EncodesFront (t : Task) (lent : ℕ) (out after : List ℕ) (w : Writing) : Type 0 where
+pub record EncodesFront (t : Task) (lent : ℕ) (out after : List ℕ) (w : Result ℕ WriterRefusal) : Type 0 where
   pub answer : writing_says w ≡ (encode_front t lent out).answer
   pub buffer : after ≡ (encode_front t lent out).buffer
 

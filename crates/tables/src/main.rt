@@ -12,40 +12,33 @@ ghost use Rattle.tables.specs.Flat.{byte_at, atom_from, atoms_from, schema_from,
 ghost use Rattle.tables.specs.Front.{number_of, length_of, head_of, EncodesFront, Answers};
 
 use card::{ArityList, Atom, AtomList, FactList, Schema, SchemaList, Task, refusal_number};
+use std::array;
 use std::io::{Read, Write};
-use writer::{Writing, encode};
+use writer::{WriterRefusal, encode};
 
 // The byte at a place; past the end there is 0.
 fn byte_at(bytes: &[u8], at: usize) -> u8
     ensures { result ≡ byte_at bytes.now at }
 {
-    if at < bytes.len() {
-        return bytes[at];
-    }
-    0
+    bytes.get(at).copied().unwrap_or(0)
 }
 
 // The same as a number that fits a byte.
 fn number_at(bytes: &[u8], at: usize) -> usize
     ensures { (result ≡ byte_at bytes.now at) × (result ≤ 255) }
 {
-    let byte = byte_at(bytes, at);
-    byte as usize
+    usize::from(byte_at(bytes, at))
 }
 
 fn atom_from(bytes: &[u8], at: usize) -> Atom
     requires { at ≤ 6000 }
     ensures { result ≡ atom_from bytes.now at }
 {
-    let predicate = byte_at(bytes, at);
-    let first = byte_at(bytes, at + 1);
-    let second = byte_at(bytes, at + 2);
-    let third = byte_at(bytes, at + 3);
     Atom {
-        predicate: predicate,
-        first: first,
-        second: second,
-        third: third,
+        predicate: byte_at(bytes, at),
+        first: byte_at(bytes, at + 1),
+        second: byte_at(bytes, at + 2),
+        third: byte_at(bytes, at + 3),
     }
 }
 
@@ -53,15 +46,9 @@ fn atoms_from(bytes: &[u8], at: usize) -> AtomList
     requires { at ≤ 5000 }
     ensures { result ≡ atoms_from bytes.now at }
 {
-    let count = number_at(bytes, at);
-    let front = atom_from(bytes, at + 1);
-    let mut atoms = [front; 8];
-    for i in 1..8 {
-        atoms[i] = atom_from(bytes, at + 1 + 4 * i);
-    }
     AtomList {
-        count: count,
-        atoms: atoms,
+        count: number_at(bytes, at),
+        atoms: array::from_fn(|i| atom_from(bytes, at + 1 + 4 * i)),
     }
 }
 
@@ -69,76 +56,50 @@ fn schema_from(bytes: &[u8], at: usize) -> Schema
     requires { at ≤ 4000 }
     ensures { result ≡ schema_from bytes.now at }
 {
-    let parameters = number_at(bytes, at);
-    let preconditions = atoms_from(bytes, at + 1);
-    let deletes = atoms_from(bytes, at + 34);
-    let adds = atoms_from(bytes, at + 67);
     Schema {
-        parameters: parameters,
-        preconditions: preconditions,
-        deletes: deletes,
-        adds: adds,
+        parameters: number_at(bytes, at),
+        preconditions: atoms_from(bytes, at + 1),
+        deletes: atoms_from(bytes, at + 34),
+        adds: atoms_from(bytes, at + 67),
     }
 }
 
 fn arities_from(bytes: &[u8]) -> ArityList
     ensures { result ≡ arities_from bytes.now }
 {
-    let count = number_at(bytes, 0);
-    let front = byte_at(bytes, 1);
-    let mut arities = [front; 20];
-    for i in 1..20 {
-        arities[i] = byte_at(bytes, 1 + i);
-    }
     ArityList {
-        count: count,
-        arities: arities,
+        count: number_at(bytes, 0),
+        arities: array::from_fn(|i| byte_at(bytes, 1 + i)),
     }
 }
 
 fn schemas_from(bytes: &[u8]) -> SchemaList
     ensures { result ≡ schemas_from bytes.now }
 {
-    let count = number_at(bytes, 22);
-    let front = schema_from(bytes, 23);
-    let mut schemas = [front; 32];
-    for i in 1..32 {
-        schemas[i] = schema_from(bytes, 23 + 100 * i);
-    }
     SchemaList {
-        count: count,
-        schemas: schemas,
+        count: number_at(bytes, 22),
+        schemas: array::from_fn(|i| schema_from(bytes, 23 + 100 * i)),
     }
 }
 
 fn facts_from(bytes: &[u8]) -> FactList
     ensures { result ≡ facts_from bytes.now }
 {
-    let high = number_at(bytes, 3223);
-    let low = number_at(bytes, 3224);
-    let front = atom_from(bytes, 3225);
-    let mut facts = [front; 512];
-    for i in 1..512 {
-        facts[i] = atom_from(bytes, 3225 + 4 * i);
-    }
+    let count = [byte_at(bytes, 3223), byte_at(bytes, 3224)];
     FactList {
-        count: high * 256 + low,
-        facts: facts,
+        count: usize::from(u16::from_be_bytes(count)),
+        facts: array::from_fn(|i| atom_from(bytes, 3225 + 4 * i)),
     }
 }
 
 fn table_from(bytes: &[u8]) -> Task
     ensures { result ≡ table_from bytes.now }
 {
-    let predicates = arities_from(bytes);
-    let objects = number_at(bytes, 21);
-    let schemas = schemas_from(bytes);
-    let facts = facts_from(bytes);
     Task {
-        predicates: predicates,
-        objects: objects,
-        schemas: schemas,
-        facts: facts,
+        predicates: arities_from(bytes),
+        objects: number_at(bytes, 21),
+        schemas: schemas_from(bytes),
+        facts: facts_from(bytes),
     }
 }
 
@@ -149,11 +110,7 @@ fn lent_from(bytes: &[u8], most: usize) -> usize
     let high = number_at(bytes, 5273);
     let middle = number_at(bytes, 5274);
     let low = number_at(bytes, 5275);
-    let size = high * 65536 + middle * 256 + low;
-    if size <= most {
-        return size;
-    }
-    most
+    (high * 65536 + middle * 256 + low).min(most)
 }
 
 // A number's low byte.
@@ -163,28 +120,24 @@ fn low_byte(number: usize) -> u8
     (number % 256) as u8
 }
 
-fn number_of(writing: Writing) -> u8
+fn number_of(writing: Result<usize, WriterRefusal>) -> u8
     ensures { result ≡ number_of (writing_says writing) }
 {
     match writing {
-        Writing::Written(_) => 0,
-        Writing::Refused(refusal) => refusal_number(refusal),
-        Writing::OutputShort => 21,
+        Ok(_) => 0,
+        Err(WriterRefusal::Table(refusal)) => refusal_number(refusal),
+        Err(WriterRefusal::OutputShort) => 21,
     }
 }
 
-fn length_of(writing: Writing) -> usize
+fn length_of(writing: Result<usize, WriterRefusal>) -> usize
     ensures { result ≡ length_of (writing_says writing) }
 {
-    match writing {
-        Writing::Written(length) => length,
-        Writing::Refused(_) => 0,
-        Writing::OutputShort => 0,
-    }
+    writing.unwrap_or(0)
 }
 
 // The answer in three bytes: the number of the refusal, or 0, and the length, high byte first.
-fn head_of(writing: Writing) -> [u8; 3]
+fn head_of(writing: Result<usize, WriterRefusal>) -> [u8; 3]
     ensures { result ≡ head_of (writing_says writing) }
 {
     let length = length_of(writing);
@@ -192,11 +145,11 @@ fn head_of(writing: Writing) -> [u8; 3]
 }
 
 // The writer is lent the front of a buffer.
-fn write_to_front(table: Task, lent: usize, out: &mut [u8]) -> Writing
+fn write_to_front(table: Task, lent: usize, out: &mut [u8]) -> Result<usize, WriterRefusal>
     requires { lent ≤ length out.old }
     ensures { EncodesFront table lent out.old out.new result }
 {
-    encode(table, &mut out[0..lent])
+    encode(table, &mut out[..lent])
 }
 
 // The writer's answer to a table in flat form, in three bytes; what it writes is left in the buffer.

@@ -1,16 +1,13 @@
-use Rattle.std.proofs.Common.{arith}
-use Rattle.tables.specs.Flat.{facts_from}
-use Rattle.tables.proofs.Filling.{fill_starts, fill_next, fill_ends}
+use Rattle.std.proofs.Common.{◌≡◌, ◌+◌, ◌*◌, rules}
+use Rattle.tables.specs.Flat.{array, byte_at, atom_from, facts_from}
+use Rattle.tables.proofs.Filling.{made}
 use Rattle.tables.proofs.facts_from.Goals as goal
-
-pub loop-i-init : goal.loop-i-init
-loop-i-init c = fill_starts 512 (omega arith) c.atom_from-front.ensures
-
-pub loop-i-preserved : goal.loop-i-preserved
-loop-i-preserved c = fill_next (omega arith) c.atom_from.ensures c.loop-i.invariant
 
 pub returns : goal.returns
 unfolding facts_from
 returns c =
-    let filled = fill_ends c.loop-i-test.false c.loop-i.invariant in
-    rw (c.number_at-high.ensures.0, c.number_at-low.ensures.0) rw (filled)
+    let facts : c.from_fn.result ≡ array 512 (λ i. atom_from c.args.bytes.now (3225 + 4 * i)) =
+    made (λ i. atom_from c.args.bytes.now (3225 + 4 * i)) (λ i y q k. search rules) c.from_fn.ensures.items in
+    let count : c.from.result ≡ byte_at c.args.bytes.now 3223 * 256 + byte_at c.args.bytes.now 3224 =
+    rw (c.from.ensures, c.from_be_bytes.ensures, c.byte_at.ensures, c.byte_at-2.ensures) in
+    rw (count, facts)

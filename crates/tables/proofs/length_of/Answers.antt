@@ -1,17 +1,16 @@
-use Rattle.std.proofs.Common.{sym, ap}
-use Rattle.writer.specs.declared.Writing.{Writing}
+use Rattle.std.proofs.Common.{◌≡◌, ℕ, Result, Ok, Err, refl, ◌∙◌}
+use Rattle.std.specs.Result.{result_unwrap_or}
+use Rattle.writer.specs.declared.WriterRefusal.{WriterRefusal}
+use Rattle.writer.specs.declared.WriterRefusal.TheVariants.{Table, OutputShort}
 use Rattle.writer.specs.Answers.{writing_says}
 use Rattle.tables.specs.Front.{length_of}
 use Rattle.tables.proofs.length_of.Goals as goal
 
-pub returns-in-Written : goal.returns-in-Written
+told : (w : Result ℕ WriterRefusal) → result_unwrap_or w 0 ≡ length_of (writing_says w)
 unfolding length_of writing_says
-returns-in-Written c = sym (ap (λ (w : Writing). length_of (writing_says w)) c.in-Written.is)
+told (Ok n) = refl
+told (Err (Table r)) = refl
+told (Err OutputShort) = refl
 
-pub returns-in-Refused : goal.returns-in-Refused
-unfolding length_of writing_says
-returns-in-Refused c = sym (ap (λ (w : Writing). length_of (writing_says w)) c.in-Refused.is)
-
-pub returns-in-OutputShort : goal.returns-in-OutputShort
-unfolding length_of writing_says
-returns-in-OutputShort c = sym (ap (λ (w : Writing). length_of (writing_says w)) c.in-OutputShort.is)
+pub returns : goal.returns
+returns c = c.unwrap_or.ensures ∙ told c.args.writing
