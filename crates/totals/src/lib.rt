@@ -16,14 +16,12 @@ fn total_by(table: &[u16], count: usize, column: usize, members: u32) -> u32
         return 0;
     }
     let n = table[column];
-    let mut i: usize = 1;
-    while i < count {
+    for i in 1..count {
         if table[60 * i + column] != n {
             return 0;
         }
-        i = i + 1;
     }
-    n as u32 * members + 1
+    u32::from(n) * members + 1
 }
 
 // Enters the totals of a space, each at the number of its property. The conditions are in a table, a row each, the own properties in
@@ -37,10 +35,7 @@ pub fn enter_totals(fixed: &mut [u32], own: &[usize], table: &[u16], count: usiz
         members
         fixed.old }
 {
-    let mut column: usize = 0;
-    while column < own.len() {
-        let c = own[column];
-        fixed[c] = total_by(table, count, column, members);
-        column = column + 1;
+    for (column, c) in own.iter().enumerate() {
+        fixed[*c] = total_by(table, count, column, members);
     }
 }
