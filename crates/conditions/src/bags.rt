@@ -2,7 +2,7 @@
 ghost use Rattle.std.specs.Prelude.{◌≡◌, ◌≤◌, drop};
 ghost use Rattle.laws.specs.Bags as laws;
 ghost use Rattle.properties.specs.Tables.{bag_at, HasRow};
-ghost use Rattle.conditions.specs.Comparing.{in_code, Differ};
+ghost use Rattle.conditions.specs.Comparing.{in_code, FirstDifference};
 
 // How a condition stands to another (document 02, No. 2). One contains another if none of its counts is smaller (document 01).
 #[derive(Clone, Copy)]
@@ -17,19 +17,19 @@ pub enum Comparison {
     Apart,
 }
 
-// The first place at which rows i and j differ, or `size` where they do not.
-fn first_difference(table: &[u16], size: usize, i: usize, j: usize) -> usize
+// The first place at which rows i and j differ.
+fn first_difference(table: &[u16], size: usize, i: usize, j: usize) -> Option<usize>
     requires { HasRow size i table.now × HasRow size j table.now }
-    ensures { Differ (bag_at size table.now i) (bag_at size table.now j) result }
+    ensures { FirstDifference (bag_at size table.now i) (bag_at size table.now j) result }
 {
     let first = 60 * i;
     let second = 60 * j;
     for k in 0..size {
         if table[first + k] != table[second + k] {
-            return k;
+            return Some(k);
         }
     }
-    size
+    None
 }
 
 // None of the counts of row i from a place on is smaller than that of row j.
@@ -52,10 +52,9 @@ pub fn compare(table: &[u16], size: usize, i: usize, j: usize) -> Comparison
     requires { HasRow size i table.now × HasRow size j table.now }
     ensures { result ≡ in_code (laws.compare (bag_at size table.now i) (bag_at size table.now j)) }
 {
-    let place = first_difference(table, size, i, j);
-    if place == size {
+    let Some(place) = first_difference(table, size, i, j) else {
         return Comparison::Equal;
-    }
+    };
     if table[60 * i + place] < table[60 * j + place] {
         if covers_from(table, size, j, i, place) {
             return Comparison::Within;

@@ -106,11 +106,10 @@ pub fn minimal_of(table: &[u16], count: usize, size: usize) -> Minimal
     let mut indices = [0u8; 64];
     let mut n = 0;
     for i in 0..count {
-        if !is_minimal(containing[i], contained[i]) {
-            continue;
+        if is_minimal(containing[i], contained[i]) {
+            indices[n] = i as u8;
+            n += 1;
         }
-        indices[n] = i as u8;
-        n = n + 1;
     }
     Minimal {
         count: n,

@@ -47,7 +47,7 @@ returns c =
     let h = c.requires in
     let l = c.loop-k in
     let k = c.loop-k-test.true in
-    differ_here l.invariant (λ e. c.if-table-first.true (sym (get_d_bag_at h.0 l.k k) ∙ e ∙ get_d_bag_at h.1 l.k k))
+    differ_here l.invariant (omega (arith, k, length_bag_at h.0)) (λ e. c.if-table-first.true (sym (get_d_bag_at h.0 l.k k) ∙ e ∙ get_d_bag_at h.1 l.k k))
 
 add-k : tie.Need-overflow_step-k invariant-loop decreases-loop
 add-k c = search rules
@@ -65,7 +65,7 @@ loop-again c =
 returns-2 : tie.Need-returns invariant-loop decreases-loop
 returns-2 c =
     let long = length_bag_at c.requires.0 in
-    differ_nowhere c.loop-k.invariant (omega (arith, c.loop-k-test.false, long)) (sym long)
+    differ_nowhere c.loop-k.invariant (omega (arith, c.loop-k-test.false, long))
 
 pub first_difference_spec : {M : Type 1} → statement M
 first_difference_spec =
