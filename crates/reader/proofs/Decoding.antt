@@ -1,10 +1,10 @@
 -- A card read part by part: the predicates, the objects, the schemas, the facts, and nothing after them.
-use Prim.Native.Nat.{ℕ, ◌-◌, ◌≤◌, ◌<◌}
+use Prim.Native.Nat.{ℕ, ◌≤◌, ◌<◌}
 use native.Mathlib.Omega.{arith}
 use mathlib.Core.Bool.{true, false}
 use mathlib.Core.List.{List}
 use mathlib.Core.Option.{none}
-use mathlib.Core.Path.{◌≡◌, refl, ap, ◌∙◌, sym, subst, subst⁻¹}
+use mathlib.Core.Path.{◌≡◌, refl, ap, ◌∙◌, sym, subst⁻¹}
 use lib.ListN.{length, take, drop, length-append, drop_of_length-le}
 use lib.Seq.{drop-cons}
 use Rattle.laws.specs.Lists.{padded}
@@ -19,14 +19,11 @@ use Rattle.card.specs.declared.Decoded.{Decoded}
 use Rattle.card.specs.declared.Verdict.TheVariants.{Accepted}
 use Rattle.card.specs.Represents.{refusal_number, arities_of, arities_for, schemas_of, schemas_for, facts_of, facts_for}
 use Rattle.card.specs.Represents.{task_of, task_for, answer_of, task_beside, Decodes}
-use Rattle.card.proofs.Entries.{arities_part}
+use Rattle.card.proofs.Entries.{arities_within}
 use Rattle.model.proofs.Answers.{need_both}
 use Rattle.reader_bytes.proofs.Answers.{goes, halts, fails, differ, byte_that_held}
 use Rattle.reader_atoms.proofs.Many.{many_all}
-use Rattle.reader_lists.specs.declared.FactsRead.{FactsRead}
-use Rattle.reader_lists.specs.ListReads.{FactsReads}
-use Rattle.reader.specs.declared.SchemaRead.{SchemaRead}
-use Rattle.reader.specs.TaskReads.{decoded_refused, SchemaReads}
+use Rattle.reader.specs.TaskReads.{decoded_refused}
 
 module _ (card : List ℕ) where
   -- the predicates are refused
@@ -92,6 +89,18 @@ arities_room {l} e =
     let size = ap (λ l. length l.arities) e ∙ length-append (arities_of l) _ in
     omega arith
 
+-- the part of the array that is lent has the arities
+pub lent_arities : {l : ArityList} → l ≡ arities_for (arities_of l) → arities_of l ≡ take l.count l.arities
+lent_arities {l} kept = arities_within l (arities_room kept)
+
+-- a task is kept as its parts are
+pub task_kept : {l : ArityList} (objects : ℕ) {sl : SchemaList} {fl : FactList} → l ≡ arities_for (arities_of l)
+    → sl ≡ schemas_for (schemas_of (arities_of l) sl) → fl ≡ facts_for (facts_of (arities_of l) fl)
+    → ◌≡◌ {A = Task} (record { predicates = l; objects = objects; schemas = sl; facts = fl })
+    (task_for (task_of (record { predicates = l; objects = objects; schemas = sl; facts = fl })))
+unfolding task_for task_of
+task_kept objects p s f = λ i. record { predicates = p i; objects = objects; schemas = s i; facts = f i }
+
 -- the code's answer to a refused card
 pub decodes_refused : {card : List ℕ} {d : Decoded} {k : Refusal} → d ≡ decoded_refused k
     → model.decode card ≡ refused (refusal_number k) → Decodes card d
@@ -104,23 +113,3 @@ pub decodes_accepted : {card : List ℕ} {t : Task} → model.decode card ≡ ac
     → Decodes card (record { verdict = Accepted; task = t })
 unfolding answer_of task_beside
 decodes_accepted a k = record { answer = sym a; kept = k ∙ sym (ap task_beside a) }
-
--- reads with the part of the array are reads with the arities
-module _ {l : ArityList} (kept : l ≡ arities_for (arities_of l)) {card : List ℕ} (s : List ℕ) where
-  pub schema_with : {r : SchemaRead}
-      → SchemaReads (take (l.count - 0) l.arities) card (model.schema (take (l.count - 0) l.arities) s) r
-      → SchemaReads (arities_of l) card (model.schema (arities_of l) s) r
-  schema_with {r} w = subst (λ a. SchemaReads a card (model.schema a s) r) (arities_part l (arities_room kept)) w
-
-  pub facts_with : (objects : ℕ) {r : FactsRead}
-      → FactsReads (take (l.count - 0) l.arities) card (model.facts (take (l.count - 0) l.arities) objects s) r
-      → FactsReads (arities_of l) card (model.facts (arities_of l) objects s) r
-  facts_with objects {r} w = subst (λ a. FactsReads a card (model.facts a objects s) r) (arities_part l (arities_room kept)) w
-
--- a task is kept as its parts are
-pub task_kept : {l : ArityList} (objects : ℕ) {sl : SchemaList} {fl : FactList} → l ≡ arities_for (arities_of l)
-    → sl ≡ schemas_for (schemas_of (arities_of l) sl) → fl ≡ facts_for (facts_of (arities_of l) fl)
-    → ◌≡◌ {A = Task} (record { predicates = l; objects = objects; schemas = sl; facts = fl })
-    (task_for (task_of (record { predicates = l; objects = objects; schemas = sl; facts = fl })))
-unfolding task_for task_of
-task_kept objects p s f = λ i. record { predicates = p i; objects = objects; schemas = s i; facts = f i }

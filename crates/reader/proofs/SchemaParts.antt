@@ -1,6 +1,7 @@
 -- A schema's lists, one after the other, and the schema that they make.
 use Prim.Native.Nat.{ℕ, ◌≤◌}
 use native.Mathlib.Omega.{arith}
+use Rattle.std.proofs.Common.{Ok}
 use mathlib.Core.Bool.{Bool, true, false}
 use mathlib.Core.List.{List, []}
 use mathlib.Core.Option.{Option, none}
@@ -10,11 +11,8 @@ use Rattle.model.specs.Answer.{Answer, refused, accepted}
 use Rattle.model.specs.Card as model
 use Rattle.card.specs.declared.AtomList.{AtomList}
 use Rattle.card.specs.declared.Schema.{Schema}
-use Rattle.card.specs.declared.Refusal.{Refusal}
 use Rattle.card.specs.Represents.{refusal_number, entries, atoms_of, atoms_for, schema_of, schema_for}
 use Rattle.reader_bytes.specs.declared.Cursor.{Cursor}
-use Rattle.reader_bytes.specs.declared.Step.{Step}
-use Rattle.reader_bytes.specs.declared.Step.TheVariants.{At}
 use Rattle.card.specs.declared.ListField.{ListField}
 use Rattle.card.specs.declared.ListField.TheVariants.{Preconditions, Deletes, Adds}
 use Rattle.card.specs.Fields.{field_test}
@@ -23,10 +21,7 @@ use Rattle.reader_atoms.specs.Atoms.{field_atom, AtomsKept}
 use Rattle.model.proofs.Answers.{one_value}
 use Rattle.reader_bytes.proofs.Answers.{goes, halts, differ, between_held}
 use Rattle.reader_atoms.proofs.Many.{many_count}
-use Rattle.reader_bytes.proofs.Reading.{refuses, accepted_by, kept_as}
 use Rattle.reader_lists.proofs.AtomLists.{list_absent, list_uncounted, list_counted}
-use Rattle.reader.specs.declared.SchemaRead.{SchemaRead}
-use Rattle.reader.specs.TaskReads.{schema_refused, SchemaReads}
 
 -- a list of a schema has at most 8 atoms
 list_few : (present : Bool) (read : Option model.Atom → model.Reader model.Atom) (s : List ℕ) {xs : List model.Atom} {rest : List ℕ}
@@ -39,20 +34,19 @@ list_few true read s {xs} {rest} e = counted (model.byte_that (model.between 1 8
     counted : (r : Answer (ℕ × List ℕ)) → model.byte_that (model.between 1 8) 6 s ≡ r → length xs ≤ 8
     counted (refused k) f = absurd (differ (sym (list_uncounted true read s refl f) ∙ e))
     counted (accepted (n, s₁)) f =
-        let count : length xs ≡ n = many_count read none n s₁ (sym (list_counted true read s refl f) ∙ e) in
+        let count : length xs ≡ n = many_count read none n s₁ (sym (list_counted true read s refl f refl) ∙ e) in
         let few : n ≤ 8 = (between_held 1 8 6 s f).1 in
         omega arith
 
 -- a list that was read, and the empty one, are kept as lists are
 pub list_kept : (arities : List ℕ) (present : Bool) (read : Option model.Atom → model.Reader model.Atom) (s : List ℕ)
-    {card : List ℕ} {step : Step} {l : AtomList} {c : Cursor}
-    → Reads (atoms_of arities) atoms_for (atoms_for []) card (model.list present read s) step l → step ≡ At c → AtomsKept arities l
+    {card : List ℕ} {l : AtomList} {c : Cursor}
+    → Reads (atoms_of arities) atoms_for card (model.list present read s) (Ok (l, c)) → AtomsKept arities l
 unfolding atoms_for
-list_kept arities present read s {l = l} w e =
-    let kept = kept_as w e in
-    let few : length (atoms_of arities l) ≤ 8 = list_few present read s (accepted_by w e) in
-    let count : l.count ≡ length (atoms_of arities l) = ap (λ l. l.count) kept in
-    record { few = omega arith; kept = kept }
+list_kept arities present read s {l = l} r =
+    let few : length (atoms_of arities l) ≤ 8 = list_few present read s r.says in
+    let count : l.count ≡ length (atoms_of arities l) = ap (λ l. l.count) r.keeps in
+    record { few = omega arith; kept = r.keeps }
 
 pub no_list_kept : (arities : List ℕ) {l : AtomList} → l ≡ atoms_for [] → AtomsKept arities l
 unfolding atoms_for atoms_of entries
@@ -109,8 +103,3 @@ pub schema_kept : (arities : List ℕ) (parameters : ℕ) {preconditions deletes
     (schema_for (schema_of arities (record { parameters = parameters; preconditions = preconditions; deletes = deletes; adds = adds })))
 unfolding schema_for schema_of
 schema_kept arities parameters p d a = λ i. record { parameters = parameters; preconditions = p i; deletes = d i; adds = a i }
-
--- a refused schema
-pub schema_refused_lem : (arities : List ℕ) {card : List ℕ} {answer : Answer (model.Schema × List ℕ)} {r : SchemaRead} {k : Refusal} → r ≡ schema_refused k
-    → answer ≡ refused (refusal_number k) → SchemaReads arities card answer r
-schema_refused_lem arities {card} {answer} e a = subst⁻¹ (λ r. SchemaReads arities card answer r) e (refuses a)

@@ -1,11 +1,10 @@
 -- The derived operations of atoms: they compare the four bytes.
-use Rattle.std.proofs.Common.{◌≡◌, ℕ, refl, ◌∙◌, ap, ap₂, arith, Bool, true, false, cond, ◌||◌, ◌&&◌, List, [], ◌∷◌, Option, Some, Ordering, Less, Equal, Greater}
+use Rattle.std.proofs.Common.{◌≡◌, ℕ, refl, ◌∙◌, ap, arith, Bool, true, false, cond, ◌||◌, ◌&&◌, Option, Some, Ordering, Less, Equal, Greater}
 use mathlib.Core.Bool.{and-true}
 use lib.Dec.{ltb, eqb}
 use Rattle.std.proofs.lemmas.Bool.Decides.{nat_tests}
 use Rattle.std.specs.Ordering.{nat_cmp, is_lt, is_some_and, partial_ordering_then, partial_lt}
-use Rattle.std.specs.List.{list_any}
-use Rattle.laws.specs.Lists.{any, same, before}
+use Rattle.laws.specs.Lists.{same, before}
 use Rattle.card.specs.declared.Atom.{Atom}
 use Rattle.card.specs.contracts.AtomPartialOrd as order
 use Rattle.reader_atoms.specs.Atoms.{bytes_of}
@@ -43,17 +42,8 @@ eqb_turned : (x y : ℕ) → eqb y x ≡ eqb x y
 eqb_turned x y = grind (arith, nat_tests)
 
 -- `==`, the other way round, says whether their bytes are the same
-equal_bytes : (a b : Atom)
+pub equal_bytes : (a b : Atom)
     → (eqb b.predicate a.predicate && (eqb b.first a.first && (eqb b.second a.second && eqb b.third a.third))) ≡ same (bytes_of a) (bytes_of b)
 unfolding same
 equal_bytes a b =
     rw (eqb_turned a.predicate b.predicate, eqb_turned a.first b.first, eqb_turned a.second b.second, eqb_turned a.third b.third, and-true) refl
-
-module _ (a : Atom) where
-  -- what `contains` tells
-  pub contains_bytes : (atoms : List Atom)
-      → list_any (λ b. eqb b.predicate a.predicate && (eqb b.first a.first && (eqb b.second a.second && eqb b.third a.third))) atoms
-      ≡ any (λ b. same (bytes_of a) (bytes_of b)) atoms
-  unfolding any
-  contains_bytes [] = refl
-  contains_bytes (b ∷ bs) = ap₂ ◌||◌ (equal_bytes a b) (contains_bytes bs)

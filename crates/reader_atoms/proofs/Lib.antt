@@ -3,5 +3,4 @@ pub mod Filling
 pub mod ArgumentBytes
 pub mod Orders
 pub mod Derived
-pub mod AtomReading
 pub mod Checks

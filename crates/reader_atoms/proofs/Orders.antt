@@ -1,5 +1,5 @@
 -- Two atoms compared by all their bytes: as the definitions compare them, since places past the arity hold 0.
-use Prim.Native.Nat.{ℕ, zero, suc}
+use Prim.Native.Nat.{ℕ, zero, suc, ◌+◌, ◌≤◌, ◌<◌}
 use native.Mathlib.Omega.{arith}
 use mathlib.Core.Bool.{Bool, true, false, ◌&&◌, ◌||◌}
 use mathlib.Core.List.{List, [], ◌∷◌, ◌++◌, map}
@@ -11,8 +11,10 @@ use Rattle.laws.specs.Lists.{any, same, before}
 use Rattle.laws.proofs.Orders.{before_append}
 use Rattle.model.specs.Card as model
 use Rattle.card.specs.declared.Atom.{Atom}
-use Rattle.card.specs.Represents.{atom_of, atom_for}
-use Rattle.reader_atoms.specs.Atoms.{bytes_of, argument_places}
+use Rattle.card.specs.declared.AtomList.{AtomList}
+use Rattle.card.specs.Represents.{entries, blank_atom, atom_of, atom_for}
+use Rattle.card.proofs.Entries.{next_entry, no_entry}
+use Rattle.reader_atoms.specs.Atoms.{bytes_of, argument_places, has_bytes}
 
 eqb_self : (x : ℕ) → eqb x x ≡ true
 eqb_self x = eq-eqb x x refl
@@ -91,3 +93,26 @@ has_bytes_lem arities a (b ∷ bs) ka ks =
     let kb : Kept arities b = cc in
     let kr : bs ≡ map atom_for (map (atom_of arities) bs) = cc in
     ap₂ ◌||◌ (same_bytes arities a b ka kb) (has_bytes_lem arities a bs ka kr)
+
+-- an atom with the same bytes is on the list from place i on
+unfoldable pub has_from : AtomList → Atom → ℕ → Bool
+has_from l a i = any (λ b. same (bytes_of a) (bytes_of b)) (drop i (entries l.count blank_atom l.atoms))
+
+pub has_first : (l : AtomList) (a : Atom) → has_bytes l a ≡ has_from l a 0
+unfolding has_bytes has_from
+has_first l a = refl
+
+pub has_last : (l : AtomList) (a : Atom) (i : ℕ) → l.count ≤ i → has_from l a i ≡ false
+unfolding has_from any
+has_last l a i h = rw (no_entry l.count blank_atom l.atoms i h)
+
+module _ (l : AtomList) (a : Atom) (i : ℕ) (more : i < l.count) where
+  has_step : has_from l a i ≡ (same (bytes_of a) (bytes_of (get_or l.atoms i blank_atom)) || has_from l a (i + 1))
+  unfolding has_from any
+  has_step = rw (next_entry l.count blank_atom l.atoms i more)
+
+  pub has_found : same (bytes_of a) (bytes_of (get_or l.atoms i blank_atom)) ≡ true → has_from l a i ≡ true
+  has_found e = has_step ∙ ap (λ t. t || has_from l a (i + 1)) e
+
+  pub has_next : same (bytes_of a) (bytes_of (get_or l.atoms i blank_atom)) ≡ false → has_from l a i ≡ has_from l a (i + 1)
+  has_next e = has_step ∙ ap (λ t. t || has_from l a (i + 1)) e

@@ -9,31 +9,13 @@ use Rattle.card.specs.declared.AtomList.{AtomList}
 use Rattle.card.specs.declared.ListField.{ListField}
 use Rattle.card.specs.declared.ListField.TheVariants.{Preconditions, Deletes, Adds}
 use Rattle.card.specs.declared.Refusal.{Refusal}
-use Rattle.card.specs.declared.Refusal.TheVariants.{CardEnds}
 use Rattle.card.specs.Fields.{field_test, field_refusal}
 use Rattle.card.specs.Represents.{entries, atom_of, atom_for, atoms_of, atoms_for, blank_atom, refusal_number}
-use Rattle.reader_bytes.specs.declared.Step.{Step}
-use Rattle.reader_bytes.specs.declared.Step.TheVariants.{At, Refused}
-use Rattle.reader_atoms.specs.declared.AtomRead.{AtomRead}
-use Rattle.reader_atoms.specs.declared.AtomRead.TheVariants.{Found, Refused as NoAtom}
-use Rattle.reader_bytes.specs.Reads.{Reads}
-
-abbrev pub atom_step : AtomRead → Step
-atom_step (Found a c) = At c
-atom_step (NoAtom r) = Refused r
-
-abbrev pub atom_value : AtomRead → Atom
-atom_value (Found a c) = a
-atom_value (NoAtom r) = blank_atom
+use Rattle.reader_bytes.specs.Reads.{Read, Reads}
 
 -- the code's whole answer where an atom is due
-abbrev pub AtomReads : List ℕ → List ℕ → Answer (model.Atom × List ℕ) → AtomRead → Type 0
-AtomReads arities card answer r = Reads (atom_of arities) atom_for blank_atom card answer (atom_step r) (atom_value r)
-
--- the refusal that a refused read carries
-abbrev pub refusal_of_atom : AtomRead → Refusal
-refusal_of_atom (Found a c) = CardEnds
-refusal_of_atom (NoAtom r) = r
+abbrev pub AtomReads : List ℕ → List ℕ → Answer (model.Atom × List ℕ) → Read Atom → Type 0
+AtomReads arities card answer r = Reads (atom_of arities) atom_for card answer r
 
 -- the arguments' bytes of an atom of that arity
 unfoldable pub argument_bytes : ℕ → ℕ → ℕ → model.Reader (List ℕ)
@@ -49,8 +31,8 @@ unfoldable pub with_arguments : ℕ → List ℕ → Atom
 with_arguments predicate arguments = atom_for (record { predicate = predicate; arguments = arguments })
 
 -- the code's whole answer where the arguments of an atom are due
-abbrev pub ArgumentsRead : ℕ → ℕ → List ℕ → Answer (List ℕ × List ℕ) → AtomRead → Type 0
-ArgumentsRead predicate arity card answer r = Reads (arguments_of arity) (with_arguments predicate) blank_atom card answer (atom_step r) (atom_value r)
+abbrev pub ArgumentsRead : ℕ → ℕ → List ℕ → Answer (List ℕ × List ℕ) → Read Atom → Type 0
+ArgumentsRead predicate arity card answer r = Reads (arguments_of arity) (with_arguments predicate) card answer r
 
 -- the four bytes of an atom
 abbrev pub bytes_of : Atom → List ℕ
@@ -94,18 +76,18 @@ abbrev pub PreviousKept : List ℕ → Maybe Atom → Type 0
 PreviousKept arities previous = previous ≡ previous_for (previous_of arities previous)
 
 -- What the functions promise: the code's whole answer at a place on the card.
-abbrev pub ArgumentsReadAt : ℕ → ℕ → ℕ → Refusal → List ℕ → ℕ → AtomRead → Type 0
+abbrev pub ArgumentsReadAt : ℕ → ℕ → ℕ → Refusal → List ℕ → ℕ → Read Atom → Type 0
 ArgumentsReadAt predicate arity bound refusal card at r =
     ArgumentsRead predicate arity card (argument_bytes arity bound (refusal_number refusal) (drop at card)) r
 
-abbrev pub AtomReadAt : List ℕ → ℕ → Refusal → List ℕ → ℕ → AtomRead → Type 0
+abbrev pub AtomReadAt : List ℕ → ℕ → Refusal → List ℕ → ℕ → Read Atom → Type 0
 AtomReadAt arities bound refusal card at r = AtomReads arities card (model.atom arities bound (refusal_number refusal) (drop at card)) r
 
-abbrev pub SchemaAtomReadAt : List ℕ → ℕ → ListField → AtomList → Maybe Atom → List ℕ → ℕ → AtomRead → Type 0
+abbrev pub SchemaAtomReadAt : List ℕ → ℕ → ListField → AtomList → Maybe Atom → List ℕ → ℕ → Read Atom → Type 0
 SchemaAtomReadAt arities parameters field preconditions previous card at r =
     let read = field_atom arities parameters field (atoms_of arities preconditions) (previous_of arities previous) in
     AtomReads arities card (read (drop at card)) r
 
-abbrev pub FactReadAt : List ℕ → ℕ → Maybe Atom → List ℕ → ℕ → AtomRead → Type 0
+abbrev pub FactReadAt : List ℕ → ℕ → Maybe Atom → List ℕ → ℕ → Read Atom → Type 0
 FactReadAt arities objects previous card at r =
     AtomReads arities card (model.fact arities objects (previous_of arities previous) (drop at card)) r

@@ -1,32 +1,14 @@
-// An atom of a schema and a fact, read from a card. Each read answers an enum: a value with the cursor after it, or the refusal.
+// An atom of a schema and a fact, read from a card.
 #![tactic(auto)]
 
 ghost use Rattle.std.specs.Prelude.{◌≤◌, true, ◌≡◌, length};
 ghost use Rattle.model.specs.Card.{in_range};
 ghost use Rattle.card.specs.Fields.{field_refusal};
 ghost use Rattle.reader_atoms.specs.Atoms.{ArgumentsReadAt, AtomReadAt, SchemaAtomReadAt, FactReadAt, AtomsKept, PreviousKept};
-ghost use Rattle.reader_atoms.specs.Atoms.{has_bytes, above_bytes, belongs_bytes, refusal_of_atom};
+ghost use Rattle.reader_atoms.specs.Atoms.{has_bytes, above_bytes, belongs_bytes};
 
 use card::{Atom, AtomList, ListField, Refusal};
-use reader_bytes::{ByteRead, Cursor};
-
-#[derive(Clone, Copy)]
-pub enum AtomRead {
-    Found(Atom, Cursor),
-    Refused(Refusal),
-}
-
-impl AtomRead {
-    // The refusal of a refused read.
-    pub fn refusal(self) -> Refusal
-        ensures { result ≡ refusal_of_atom self }
-    {
-        match self {
-            AtomRead::Found(_, _) => Refusal::CardEnds,
-            AtomRead::Refused(r) => r,
-        }
-    }
-}
+use reader_bytes::{Cursor, Read};
 
 // The arguments of an atom, one byte each, below the bound. Places past the arity hold 0.
 fn arguments(
@@ -36,65 +18,36 @@ fn arguments(
     arity: u8,
     bound: usize,
     refusal: Refusal,
-) -> AtomRead
+) -> Read<Atom>
     requires { (1 ≤ arity) × (arity ≤ 3) }
     ensures { ArgumentsReadAt predicate arity bound refusal card.now c.at result }
 {
-    let read = reader_bytes::byte_below(card, c, bound, refusal);
-    let ByteRead::Byte(first, c) = read else {
-        return AtomRead::Refused(read.refusal());
+    let (first, c) = reader_bytes::byte_below(card, c, bound, refusal)?;
+    let one = Atom {
+        predicate,
+        first,
+        second: 0,
+        third: 0,
     };
     if arity == 1 {
-        return AtomRead::Found(
-            Atom {
-                predicate,
-                first,
-                second: 0,
-                third: 0,
-            },
-            c,
-        );
+        return Ok((one, c));
     }
-    let read = reader_bytes::byte_below(card, c, bound, refusal);
-    let ByteRead::Byte(second, c) = read else {
-        return AtomRead::Refused(read.refusal());
-    };
+    let (second, c) = reader_bytes::byte_below(card, c, bound, refusal)?;
+    let two = Atom { second, ..one };
     if arity == 2 {
-        return AtomRead::Found(
-            Atom {
-                predicate,
-                first,
-                second,
-                third: 0,
-            },
-            c,
-        );
+        return Ok((two, c));
     }
-    let read = reader_bytes::byte_below(card, c, bound, refusal);
-    let ByteRead::Byte(third, c) = read else {
-        return AtomRead::Refused(read.refusal());
-    };
-    AtomRead::Found(
-        Atom {
-            predicate,
-            first,
-            second,
-            third,
-        },
-        c,
-    )
+    let (third, c) = reader_bytes::byte_below(card, c, bound, refusal)?;
+    Ok((Atom { third, ..two }, c))
 }
 
 // An atom: a predicate byte, and its arguments.
-fn atom(card: &[u8], c: Cursor, arities: &[u8], bound: usize, refusal: Refusal) -> AtomRead
+fn atom(card: &[u8], c: Cursor, arities: &[u8], bound: usize, refusal: Refusal) -> Read<Atom>
     requires { in_range arities.now ≡ true }
     ensures { AtomReadAt arities.now bound refusal card.now c.at result }
 {
-    let read = reader_bytes::byte_below(card, c, arities.len(), refusal);
-    let ByteRead::Byte(predicate, c) = read else {
-        return AtomRead::Refused(read.refusal());
-    };
-    let arity = arities[predicate as usize];
+    let (predicate, c) = reader_bytes::byte_below(card, c, arities.len(), refusal)?;
+    let arity = arities[usize::from(predicate)];
     arguments(card, c, predicate, arity, bound, refusal)
 }
 
@@ -103,7 +56,13 @@ fn has(list: AtomList, a: Atom) -> bool
     requires { (list.count ≤ 8) × (length list.atoms ≡ 8) }
     ensures { result ≡ has_bytes list a }
 {
-    list.atoms[..list.count].contains(&a)
+    // not `contains`, which takes twice the instructions here
+    for i in 0..list.count {
+        if list.atoms[i] == a {
+            return true;
+        }
+    }
+    false
 }
 
 // The atom stands above the one before it, if there is one.
@@ -145,19 +104,19 @@ pub fn schema_atom(
     field: ListField,
     preconditions: AtomList,
     previous: Option<Atom>,
-) -> AtomRead
+) -> Read<Atom>
     requires { (in_range arities.now ≡ true) × AtomsKept arities.now preconditions × PreviousKept arities.now previous }
     ensures { SchemaAtomReadAt arities.now parameters field preconditions previous card.now c.at result }
 {
     let read = atom(card, c, arities, parameters, Refusal::AtomUnknown);
-    let AtomRead::Found(a, _) = read else {
+    let Ok((a, _)) = read else {
         return read;
     };
     if !is_above(previous, a) {
-        return AtomRead::Refused(Refusal::AtomOrder);
+        return Err(Refusal::AtomOrder);
     }
     if !belongs(field, preconditions, a) {
-        return AtomRead::Refused(refusal_of(field));
+        return Err(refusal_of(field));
     }
     read
 }
@@ -169,17 +128,17 @@ pub fn fact(
     arities: &[u8],
     objects: usize,
     previous: Option<Atom>,
-) -> AtomRead
+) -> Read<Atom>
     requires { (in_range arities.now ≡ true) × PreviousKept arities.now previous }
     ensures { FactReadAt arities.now objects previous card.now c.at result }
 {
     let read = atom(card, c, arities, objects, Refusal::FactUnknown);
-    let AtomRead::Found(a, _) = read else {
+    let Ok((a, _)) = read else {
         return read;
     };
     if is_above(previous, a) {
         read
     } else {
-        AtomRead::Refused(Refusal::FactOrder)
+        Err(Refusal::FactOrder)
     }
 }

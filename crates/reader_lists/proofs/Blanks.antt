@@ -1,5 +1,6 @@
 -- What the reader's lists are before anything is read, and when all is read.
 use Prim.Native.Nat.{ℕ, ◌≤◌}
+use Rattle.std.proofs.Common.{Ok}
 use mathlib.Core.List.{List, [], map, map-id}
 use mathlib.Core.Option.{Option, none}
 use mathlib.Core.Path.{◌≡◌, ap, ap₂, ◌∙◌}
@@ -12,7 +13,6 @@ use Rattle.card.specs.declared.AtomList.{AtomList}
 use Rattle.card.specs.declared.ArityList.{ArityList}
 use Rattle.card.specs.declared.FactList.{FactList}
 use Rattle.card.specs.Represents.{entries, atom_of, atom_for, blank_atom, atoms_of, atoms_for, arities_of, arities_for, facts_of, facts_for}
-use Rattle.reader_bytes.specs.declared.Step.TheVariants.{At}
 use Rattle.reader_bytes.specs.Reads.{Reads}
 use Rattle.reader_bytes.proofs.Reading.{accepts}
 use Rattle.reader_atoms.proofs.Filling.{Filling, filling_ends, filled, filled_count}
@@ -33,8 +33,8 @@ module _ {card start : List ℕ} {n i at : ℕ} (within : at ≤ length card) (d
   module _ (arities : List ℕ) {array : List Atom} (read : Option model.Atom → model.Reader model.Atom) where
     -- all atoms of a list are read
     pub atoms_filled : Filling (atom_of arities) atom_for blank_atom 8 read n start array i (drop at card)
-        → Reads (atoms_of arities) atoms_for (atoms_for []) card (model.many read none n start) (At (record { at = at }))
-        (record { count = n; atoms = array })
+        → Reads (atoms_of arities) atoms_for card (model.many read none n start)
+        (Ok (record { count = n; atoms = array }, record { at = at }))
     unfolding atoms_of atoms_for
     atoms_filled f =
         accepts (filling_ends f done) within
@@ -42,8 +42,8 @@ module _ {card start : List ℕ} {n i at : ℕ} (within : at ≤ length card) (d
 
     -- all facts are read
     pub facts_filled : Filling (atom_of arities) atom_for blank_atom 512 read n start array i (drop at card)
-        → Reads (facts_of arities) facts_for (facts_for []) card (model.many read none n start) (At (record { at = at }))
-        (record { count = n; facts = array })
+        → Reads (facts_of arities) facts_for card (model.many read none n start)
+        (Ok (record { count = n; facts = array }, record { at = at }))
     unfolding facts_of facts_for
     facts_filled f =
         accepts (filling_ends f done) within
@@ -51,8 +51,8 @@ module _ {card start : List ℕ} {n i at : ℕ} (within : at ≤ length card) (d
 
   -- all arities are read
   pub arities_filled : {array : List ℕ} (read : Option ℕ → model.Reader ℕ) → Filling (λ b. b) (λ b. b) 0 20 read n start array i (drop at card)
-      → Reads arities_of arities_for (arities_for []) card (model.many read none n start) (At (record { at = at }))
-      (record { count = n; arities = array })
+      → Reads arities_of arities_for card (model.many read none n start)
+      (Ok (record { count = n; arities = array }, record { at = at }))
   unfolding arities_of arities_for
   arities_filled {array} read f =
       let read_all : List ℕ = entries n 0 array in

@@ -10,11 +10,8 @@ use Rattle.card.specs.declared.Atom.{Atom}
 use Rattle.card.specs.declared.Refusal.{Refusal}
 use Rattle.card.specs.Represents.{refusal_number, atom_of, atom_for, blank_atom}
 use Rattle.reader_bytes.specs.declared.Cursor.{Cursor}
-use Rattle.reader_atoms.specs.declared.AtomRead.{AtomRead}
-use Rattle.reader_atoms.specs.declared.AtomRead.TheVariants.{Found, Refused as NoAtom}
-use Rattle.std.proofs.Common.{Option as Maybe, None, Some}
-use Rattle.reader_atoms.specs.Atoms.{AtomReads, previous_of, previous_for, PreviousKept, refusal_of_atom}
-use Rattle.reader_atoms.proofs.AtomReading.{atom_read, atom_within, atom_kept, atom_refusal}
+use Rattle.std.proofs.Common.{Ok, Err, Option as Maybe, None, Some}
+use Rattle.reader_atoms.specs.Atoms.{AtomReads, previous_of, previous_for, PreviousKept}
 use Rattle.reader_atoms.proofs.Filling.{Filling, last_of, filling_starts, filling_goes_on, filling_stops, filling_last}
 
 module _ (arities : List ℕ) (size : ℕ) (read : Option model.Atom → model.Reader model.Atom) (n : ℕ) (start card : List ℕ) where
@@ -42,22 +39,21 @@ ordered_starts {arities} {size} {read} {n} {start} {array = array} few within he
     }
 
 module _ {arities : List ℕ} {size : ℕ} {read : Option model.Atom → model.Reader model.Atom} {n : ℕ} {start card : List ℕ}
-    {array : List Atom} {i at : ℕ} {previous : Maybe Atom} {r : AtomRead} (o : Ordered arities size read n start card array i at previous) (more : i < n)
-    (w : AtomReads arities card (read (previous_of arities previous) (drop at card)) r) where
+    {array : List Atom} {i at : ℕ} {previous : Maybe Atom} (o : Ordered arities size read n start card array i at previous) (more : i < n) where
   -- the next atom is stored
-  pub ordered_goes_on : {a : Atom} {c : Cursor} → r ≡ Found a c → Ordered arities size read n start card (set array i a) (i + 1) c.at (Some a)
+  pub ordered_goes_on : {a : Atom} {c : Cursor} → AtomReads arities card (read (previous_of arities previous) (drop at card)) (Ok (a, c))
+      → Ordered arities size read n start card (set array i a) (i + 1) c.at (Some a)
   unfolding previous_of previous_for
-  ordered_goes_on {a} {c} e =
-      let next = subst (λ p. read p (drop at card) ≡ accepted (atom_of arities a, drop c.at card)) o.last (atom_read w e) in
+  ordered_goes_on {a} {c} r =
+      let next = subst (λ p. read p (drop at card) ≡ accepted (atom_of arities a, drop c.at card)) o.last r.says in
       record {
-        within = atom_within w e;
-        filling = filling_goes_on o.filling more next (atom_kept w e);
+        within = r.within;
+        filling = filling_goes_on o.filling more next r.keeps;
         last = sym (filling_last o.filling a more);
-        kept = ap Some (atom_kept w e);
+        kept = ap Some r.keeps;
       }
 
   -- the next atom is refused
-  pub ordered_stops : {k k' : Refusal} → r ≡ NoAtom k → k' ≡ refusal_of_atom r → model.many read none n start ≡ refused (refusal_number k')
-  ordered_stops {k' = k'} e t =
-      filling_stops o.filling more
-      (subst (λ p. read p (drop at card) ≡ refused (refusal_number k')) o.last (atom_refusal w e t))
+  pub ordered_stops : {k : Refusal} → AtomReads arities card (read (previous_of arities previous) (drop at card)) (Err k)
+      → model.many read none n start ≡ refused (refusal_number k)
+  ordered_stops {k} r = filling_stops o.filling more (subst (λ p. read p (drop at card) ≡ refused (refusal_number k)) o.last r.says)

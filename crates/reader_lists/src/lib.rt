@@ -1,5 +1,4 @@
-// The lists of a card: arities, the atoms of a schema, facts. An array stands beside its step, since an enum holds no array;
-// beside a refusal it is blank.
+// The lists of a card: arities, the atoms of a schema, facts.
 #![tactic(auto)]
 
 ghost use Rattle.std.specs.Prelude.{◌≤◌, true, ◌≡◌, length};
@@ -10,26 +9,7 @@ ghost use Rattle.reader_lists.specs.ListReads.{AtomsReadIn, ListReadAt, AritiesR
 use card::{
     ArityList, Atom, AtomList, FactList, ListField, Refusal, no_arities, no_atoms, no_facts,
 };
-use reader_atoms::AtomRead;
-use reader_bytes::{ByteRead, Cursor, Step};
-
-#[derive(Clone, Copy)]
-pub struct AtomsRead {
-    pub step: Step,
-    pub list: AtomList,
-}
-
-#[derive(Clone, Copy)]
-pub struct AritiesRead {
-    pub step: Step,
-    pub list: ArityList,
-}
-
-#[derive(Clone, Copy)]
-pub struct FactsRead {
-    pub step: Step,
-    pub list: FactList,
-}
+use reader_bytes::{Cursor, Read};
 
 // `count` atoms of a list of a schema; `part` is the card from the first of them on.
 fn atoms(
@@ -39,38 +19,29 @@ fn atoms(
     parameters: usize,
     field: ListField,
     preconditions: AtomList,
-) -> AtomsRead
+) -> Read<AtomList>
     requires { (count ≤ 8) × (in_range arities.now ≡ true) × AtomsKept arities.now preconditions }
     ensures { AtomsReadIn arities.now parameters field preconditions count part.now result }
 {
     let mut list = no_atoms();
     let mut previous: Option<Atom> = None;
-    let mut at = 0;
+    let mut c = Cursor { at: 0 };
     for i in 0..count {
-        let read = reader_atoms::schema_atom(
+        let (a, after) = reader_atoms::schema_atom(
             part,
-            Cursor { at: at },
+            c,
             arities,
             parameters,
             field,
             preconditions,
             previous,
-        );
-        let AtomRead::Found(a, after) = read else {
-            return AtomsRead {
-                step: Step::Refused(read.refusal()),
-                list: no_atoms(),
-            };
-        };
+        )?;
         list.atoms[i] = a;
         previous = Some(a);
-        at = after.at;
+        c = after;
     }
     list.count = count;
-    AtomsRead {
-        step: Step::At(Cursor { at: at }),
-        list: list,
-    }
+    Ok((list, c))
 }
 
 // A list of a schema, where its bit stands: a count byte, and its atoms after it.
@@ -82,97 +53,56 @@ pub fn list(
     parameters: usize,
     field: ListField,
     preconditions: AtomList,
-) -> AtomsRead
+) -> Read<AtomList>
     requires { (c.at ≤ length card.now) × (in_range arities.now ≡ true) × AtomsKept arities.now preconditions }
     ensures { ListReadAt arities.now parameters field preconditions present card.now c.at result }
 {
     if !present {
-        return AtomsRead {
-            step: Step::At(c),
-            list: no_atoms(),
-        };
+        return Ok((no_atoms(), c));
     }
-    let counted = reader_bytes::byte_between(card, c, 1, 8, Refusal::ListRange);
-    let ByteRead::Byte(count, after) = counted else {
-        return AtomsRead {
-            step: Step::Refused(counted.refusal()),
-            list: no_atoms(),
-        };
-    };
+    let (count, after) = reader_bytes::byte_between(card, c, 1, 8, Refusal::ListRange)?;
     let at = after.at;
-    let read = atoms(
+    let (items, end) = atoms(
         &card[at..],
-        count as usize,
+        usize::from(count),
         arities,
         parameters,
         field,
         preconditions,
-    );
-    let step = read.step;
-    let Step::At(end) = step else {
-        return read;
-    };
-    let items = read.list;
-    AtomsRead {
-        step: Step::At(Cursor { at: at + end.at }),
-        list: items,
-    }
+    )?;
+    Ok((items, Cursor { at: at + end.at }))
 }
 
 // `count` arities, each 1 to 3.
-pub fn arities(card: &[u8], c: Cursor, count: usize) -> AritiesRead
+pub fn arities(card: &[u8], c: Cursor, count: usize) -> Read<ArityList>
     requires { (count ≤ 20) × (c.at ≤ length card.now) }
     ensures { AritiesReadAt count card.now c.at result }
 {
     let mut list = no_arities();
-    let mut at = c.at;
+    let mut c = c;
     for i in 0..count {
-        let read = reader_bytes::byte_between(
-            card,
-            Cursor { at: at },
-            1,
-            3,
-            Refusal::PredicateRange,
-        );
-        let ByteRead::Byte(arity, after) = read else {
-            return AritiesRead {
-                step: Step::Refused(read.refusal()),
-                list: no_arities(),
-            };
-        };
+        let (arity, after) = reader_bytes::byte_between(card, c, 1, 3, Refusal::PredicateRange)?;
         list.arities[i] = arity;
-        at = after.at;
+        c = after;
     }
     list.count = count;
-    AritiesRead {
-        step: Step::At(Cursor { at: at }),
-        list: list,
-    }
+    Ok((list, c))
 }
 
 // `count` facts.
-pub fn facts(card: &[u8], c: Cursor, count: usize, arities: &[u8], objects: usize) -> FactsRead
+pub fn facts(card: &[u8], c: Cursor, count: usize, arities: &[u8], objects: usize) -> Read<FactList>
     requires { (count ≤ 512) × (c.at ≤ length card.now) × (in_range arities.now ≡ true) }
     ensures { FactsReadAt arities.now objects count card.now c.at result }
 {
     let mut list = no_facts();
     let mut previous: Option<Atom> = None;
-    let mut at = c.at;
+    let mut c = c;
     for i in 0..count {
-        let read = reader_atoms::fact(card, Cursor { at: at }, arities, objects, previous);
-        let AtomRead::Found(f, after) = read else {
-            return FactsRead {
-                step: Step::Refused(read.refusal()),
-                list: no_facts(),
-            };
-        };
+        let (f, after) = reader_atoms::fact(card, c, arities, objects, previous)?;
         list.facts[i] = f;
         previous = Some(f);
-        at = after.at;
+        c = after;
     }
     list.count = count;
-    FactsRead {
-        step: Step::At(Cursor { at: at }),
-        list: list,
-    }
+    Ok((list, c))
 }

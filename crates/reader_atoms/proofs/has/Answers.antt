@@ -1,15 +1,24 @@
--- The atoms of a list are the first ones of its array.
-use Rattle.std.proofs.Common.{◌≡◌, ◌∙◌, sym, ap, take, arith}
-use Rattle.laws.specs.Lists.{any, same}
-use Rattle.card.specs.Represents.{entries, blank_atom}
-use Rattle.card.proofs.Entries.{entries_within}
-use Rattle.reader_atoms.specs.Atoms.{has_bytes, bytes_of}
-use Rattle.reader_atoms.proofs.Derived.{contains_bytes}
+-- `has` looks through the list.
+use Rattle.std.proofs.Common.{◌∙◌, sym}
+use Rattle.card.specs.Represents.{blank_atom}
+use Rattle.reader_atoms.proofs.Derived.{equal_bytes}
+use Rattle.reader_atoms.proofs.Orders.{has_first, has_last, has_found, has_next}
 use Rattle.reader_atoms.proofs.has.Goals as goal
 
+pub loop-i-init : goal.loop-i-init
+loop-i-init c = has_first _ _
+
+pub returns-then-eq : goal.returns-then-eq
+unfolding blank_atom
+returns-then-eq c =
+    let found = sym (equal_bytes c.args.a _) ∙ sym c.eq.ensures ∙ c.if-eq.true in
+    sym (c.loop-i.invariant ∙ has_found _ _ _ c.loop-i-test.true found)
+
+pub loop-i-preserved : goal.loop-i-preserved
+unfolding blank_atom
+loop-i-preserved c =
+    let other = sym (equal_bytes c.args.a _) ∙ sym c.eq.ensures ∙ c.if-eq.false in
+    c.loop-i.invariant ∙ has_next _ _ _ c.loop-i-test.true other
+
 pub returns : goal.returns
-unfolding has_bytes
-returns c =
-    let l = c.args.list in
-    let listed : entries l.count blank_atom l.atoms ≡ take l.count l.atoms = entries_within l.count blank_atom l.atoms (omega arith) in
-    c.contains.ensures.value ∙ contains_bytes c.args.a _ ∙ ap (any (λ b. same (bytes_of c.args.a) (bytes_of b))) (sym listed)
+returns c = sym (c.loop-i.invariant ∙ has_last _ _ _ c.loop-i-test.false)
