@@ -1,5 +1,5 @@
 // Atoms compared as far as the arity of their predicates goes. Arguments past the arity are no part of an atom.
-ghost use Rattle.std.specs.Prelude.{◌≡◌, get_or};
+ghost use Rattle.std.specs.Prelude.{◌≡◌, [], ◌∷◌, get_or};
 ghost use Rattle.model.specs.Card as model;
 ghost use Rattle.model.specs.Writer.{known};
 ghost use Rattle.card.specs.Represents.{atom_of};
@@ -10,67 +10,36 @@ use card::Atom;
 pub fn arity(arities: &[u8], predicate: u8) -> usize
     ensures { result ≡ get_or arities.now predicate 0 }
 {
-    let p = predicate as usize;
-    if p < arities.len() {
-        arities[p] as usize
-    } else {
-        0
+    match arities.get(usize::from(predicate)) {
+        Some(&n) => usize::from(n),
+        None => 0,
     }
+}
+
+// The arguments of an atom of arity 3; an atom of a smaller arity has the first of them.
+fn arguments(a: Atom) -> [u8; 3]
+    ensures { result ≡ a.first ∷ a.second ∷ a.third ∷ [] }
+{
+    [a.first, a.second, a.third]
 }
 
 // The predicate is known, of an arity up to 3, and each argument is below `bound`.
 pub(crate) fn is_known(arities: &[u8], bound: usize, a: Atom) -> bool
     ensures { result ≡ known arities.now bound (atom_of arities.now a) }
 {
-    if (a.predicate as usize) >= arities.len() {
-        return false;
-    }
     let n = arity(arities, a.predicate);
-    if n == 0 {
-        return true;
-    }
-    if (a.first as usize) >= bound {
+    if usize::from(a.predicate) >= arities.len() || n > 3 {
         return false;
     }
-    if n == 1 {
-        return true;
-    }
-    if (a.second as usize) >= bound {
-        return false;
-    }
-    if n == 2 {
-        return true;
-    }
-    if (a.third as usize) >= bound {
-        return false;
-    }
-    n == 3
+    arguments(a)[..n].iter().all(|x| usize::from(*x) < bound)
 }
 
 // The two atoms are the same.
 pub(crate) fn is_same(arities: &[u8], a: Atom, b: Atom) -> bool
     ensures { result ≡ model.same_atom (atom_of arities.now a) (atom_of arities.now b) }
 {
-    if a.predicate != b.predicate {
-        return false;
-    }
-    let n = arity(arities, a.predicate);
-    if n == 0 {
-        return true;
-    }
-    if a.first != b.first {
-        return false;
-    }
-    if n == 1 {
-        return true;
-    }
-    if a.second != b.second {
-        return false;
-    }
-    if n == 2 {
-        return true;
-    }
-    a.third == b.third
+    let n = arity(arities, a.predicate).min(3);
+    a.predicate == b.predicate && arguments(a)[..n] == arguments(b)[..n]
 }
 
 // The first atom stands below the second.
@@ -80,21 +49,6 @@ pub(crate) fn is_below(arities: &[u8], a: Atom, b: Atom) -> bool
     if a.predicate != b.predicate {
         return a.predicate < b.predicate;
     }
-    let n = arity(arities, a.predicate);
-    if n == 0 {
-        return false;
-    }
-    if a.first != b.first {
-        return a.first < b.first;
-    }
-    if n == 1 {
-        return false;
-    }
-    if a.second != b.second {
-        return a.second < b.second;
-    }
-    if n == 2 {
-        return false;
-    }
-    a.third < b.third
+    let n = arity(arities, a.predicate).min(3);
+    arguments(a)[..n] < arguments(b)[..n]
 }

@@ -13,6 +13,7 @@ unfolding model.has
 returns c =
     let same = model.same_atom (atom_of c.args.arities.now c.args.a) in
     let eight : length c.args.list.atoms ≡ 8 = search rules in
-    any_from_yields_List (λ b. same (atom_of c.args.arities.now b)) _ _ _ c.any.ensures.ran (YieldsList-from_slice _ (search rules)) (λ x b q k. search (rules, tests))
+    any_from_yields_List (λ b. same (atom_of c.args.arities.now b)) _ _ _ c.any.ensures.ran (YieldsList-from_slice _ (search rules))
+    (λ x b q k. search (rules, tests))
     ∙ any_same same (atom_of c.args.arities.now) _
     ∙ ap (any same) (atoms_read c.args.arities.now c.args.list (omega arith))
