@@ -104,6 +104,7 @@ fn table_from(bytes: &[u8]) -> Task
 }
 
 // How many bytes of a buffer are lent: no more than it has.
+// Three bytes added up: no integer type has three bytes, and from_be_bytes of four would need a 0 before them and a cast after them.
 fn lent_from(bytes: &[u8], most: usize) -> usize
     ensures { result ≡ lent_from bytes.now most }
 {

@@ -96,6 +96,7 @@ fn write_schema(out: &mut [u8], at: usize, arities: &[u8], s: Schema) -> usize
 }
 
 // Schemas, one after the other.
+// Its own loop beside write_atoms: with the writing as a closure, the contract would have to say what the closure writes, for three lines less.
 fn write_schemas(out: &mut [u8], at: usize, arities: &[u8], schemas: &[Schema]) -> usize
     requires { (all schema_fits schemas.now ≡ true) × (at + schema_room * length schemas.now ≤ length out.old) }
     ensures { WritesAt (schema_room * length schemas.now) at (flat_map schema_bytes (map (schema_of arities.now) schemas.now))

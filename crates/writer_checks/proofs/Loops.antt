@@ -10,10 +10,8 @@ use Rattle.model.specs.Answer.{Answer, ◌>>◌}
 use Rattle.model.specs.Writer.{each}
 use Rattle.card.specs.declared.Refusal.{Refusal}
 use Rattle.card.specs.declared.AtomList.{AtomList}
-use Rattle.card.specs.declared.FactList.{FactList}
-use Rattle.card.specs.declared.SchemaList.{SchemaList}
-use Rattle.card.specs.Represents.{atom_of, atoms_of, facts_of, schema_of, schemas_of}
-use Rattle.card.proofs.Entries.{atoms_within, facts_within, schemas_within}
+use Rattle.card.specs.Represents.{atom_of, atoms_of}
+use Rattle.card.proofs.Entries.{atoms_within}
 use Rattle.writer_checks.specs.Checking.{checked_says}
 
 -- a search of the code's, and the definition's
@@ -28,16 +26,9 @@ unfolding all
 all_same test [] = refl
 all_same test (x ∷ xs) = ap (λ b. test x && b) (all_same test xs)
 
--- the items of a list, which the code reads as the first of its array
-module _ (arities : List ℕ) where
-  pub atoms_read : (l : AtomList) → l.count ≤ length l.atoms → map (atom_of arities) (take (l.count - 0) l.atoms) ≡ atoms_of arities l
-  atoms_read l h = rw sub-zero (sym (atoms_within arities l h))
-
-  pub facts_read : (l : FactList) → l.count ≤ length l.facts → map (atom_of arities) (take (l.count - 0) l.facts) ≡ facts_of arities l
-  facts_read l h = rw sub-zero (sym (facts_within arities l h))
-
-  pub schemas_read : (l : SchemaList) → l.count ≤ length l.schemas → map (schema_of arities) (take (l.count - 0) l.schemas) ≡ schemas_of arities l
-  schemas_read l h = rw sub-zero (sym (schemas_within arities l h))
+-- the atoms of a list, which the code reads as the first of its array
+pub atoms_read : (arities : List ℕ) (l : AtomList) → l.count ≤ length l.atoms → map (atom_of arities) (take (l.count - 0) l.atoms) ≡ atoms_of arities l
+atoms_read arities l h = rw sub-zero (sym (atoms_within arities l h))
 
 -- checks of items one after the other, each told the item before it: what is left to check at place i is the answer
 module _ {A B : Type 0} (check : Option B → B → Answer (Unit {0})) (f : A → B) (xs : List A) (i : ℕ) where

@@ -43,6 +43,7 @@ fn check_atom(
 }
 
 // 9 and 10: an atom beside the preconditions of its schema.
+// A switch on the list, and no closure that tests the atom: each contract from here to check_list would have to say what the closure answers.
 fn check_field(
     arities: &[u8],
     field: ListField,
@@ -173,6 +174,7 @@ fn check_schemas(arities: &[u8], list: SchemaList) -> Result<(), Refusal>
 }
 
 // 12 and 13.
+// Its own loop beside check_atoms: with the check as a closure, the contract would have to say what the closure answers, for three lines less.
 fn check_facts(arities: &[u8], objects: usize, list: FactList) -> Result<(), Refusal>
     requires { list.count ≤ 512 }
     ensures { checked_says result ≡ writer.each (writer.check_fact arities.now objects) none
