@@ -10,8 +10,9 @@ use lib.Seq.{ext_get_or}
 use mir.Syntax.{w32}
 use mir.Val.{SFits, to_z, of_z}
 use mir.Facts.{to_z-of_z, to_z_pos}
+use Rattle.std.specs.Prelude.{Option as Optional, Some, None, Ok, Err}
 use Rattle.laws.specs.Lists.{padded}
-use Rattle.model.specs.Answer.{Answer, accepted}
+use Rattle.model.specs.Answer.{Answer, refused, accepted}
 use Rattle.model.specs.Card.{decode}
 use Rattle.model.specs.Strips.{Action, facts_in, well_formed}
 use Rattle.model.specs.Open.{check_given, next_open_of, next_open}
@@ -19,12 +20,9 @@ use Rattle.model.proofs.Answers.{then_inv, both_inv, need_both_inv, one_value}
 use Rattle.model.proofs.Checked.{checked, schema_at_right}
 use Rattle.model.proofs.OpenActions.{open_named, answered_next}
 use Rattle.model.proofs.RoundTrip.{decode_checks}
-use Rattle.open_actions.specs.Answers.{given_of, found_says, next_open_says, number_in, objects_in, Says}
-use Rattle.open_actions.specs.declared.Given.{Given}
-use Rattle.open_actions.specs.declared.Given.TheVariants.{Nothing, Action as After}
-use Rattle.open_actions.specs.declared.Found.{Found}
-use Rattle.open_actions.specs.declared.Found.TheVariants.{Action as Open, End, CardRefused, StateMalformed, SchemaUnknown, ObjectsWrong, ObjectsRepeated}
-use Rattle.open_actions.specs.declared.NextOpen.{NextOpen}
+use Rattle.open_actions.specs.Answers.{NextOpen, given_of, action_said, number_said, next_open_says, objects_in, Says}
+use Rattle.open_actions.specs.declared.OpenAction.{OpenAction}
+use Rattle.open_actions.specs.declared.OpenRefusal.{OpenRefusal}
 use Rattle.capi.specs.Numbers.{signed}
 use Rattle.capi.specs.Asking.{given_as, object_count, shown_in, count_said, bytes_said, SmallAction}
 use Rattle.capi.proofs.Codes.{number_fits}
@@ -47,61 +45,44 @@ action_small card buffer count given a e =
     (omega arith, omega arith))))
 
 module _ (card buffer : List ℕ) (count : ℕ) (given : Option Action) {r : NextOpen} (says : Says (next_open card buffer count given) r) where
-  pub found_small : SmallAction r.found
-  unfolding next_open_says found_says number_in objects_in
+  pub found_small : SmallAction r
+  unfolding next_open_says action_said objects_in
   found_small = record {
-    small = λ schema number e.
-        let is : next_open card buffer count given ≡ accepted (some (record { schema = schema; objects = take number r.objects })) =
-        sym says.answers ∙ ap (λ (f : Found). found_says f r.objects) e in
+    small = λ a e.
+        let is : next_open card buffer count given ≡ accepted (some (record { schema = a.schema; objects = take a.object_count a.objects })) =
+        sym says.answers ∙ ap next_open_says e in
         let small = action_small card buffer count given _ is in
         let low = small.0 in
         let few = small.1 in
-        let told = ap number_in (sym e) ∙ says.counted ∙ ap (λ (x : Answer (Option Action)). length (objects_in x)) is in
+        let told = says.counted a e ∙ ap (λ (x : Answer (Option Action)). length (objects_in x)) is in
         (omega arith, omega arith);
   }
 
 -- the same said of what is given
-pub asked_so : (card buffer : List ℕ) (count : ℕ) (objects : List ℕ) {given other : Given} {r : NextOpen} → given ≡ other
+pub asked_so : (card buffer : List ℕ) (count : ℕ) (objects : List ℕ) {given other : Optional ℕ} {r : NextOpen} → given ≡ other
     → Says (next_open card buffer count (given_of given objects)) r → Says (next_open card buffer count (given_of other objects)) r
-asked_so card buffer count objects {r = r} e says = subst (λ (g : Given). Says (next_open card buffer count (given_of g objects)) r) e says
+asked_so card buffer count objects {r = r} e says = subst (λ (g : Optional ℕ). Says (next_open card buffer count (given_of g objects)) r) e says
 
--- the number and the bytes of the code's answer are those of what it says
-number_said : (found : Found) (objects : List ℕ) → number_in found ≡ length (objects_in (found_says found objects))
-    → count_said found ≡ object_count (found_says found objects)
-unfolding found_says number_in objects_in count_said object_count
-number_said (Open schema count) objects counted = ap accepted counted
-number_said End objects counted = refl
-number_said (CardRefused refusal) objects counted = refl
-number_said StateMalformed objects counted = refl
-number_said SchemaUnknown objects counted = refl
-number_said ObjectsWrong objects counted = refl
-number_said ObjectsRepeated objects counted = refl
+-- the number and the bytes of the code's answer are those of the definitions
+number_told : (r : NextOpen) {answer : Answer (Option Action)} → Says answer r → count_said r ≡ object_count (next_open_says r)
+unfolding next_open_says action_said objects_in count_said object_count
+number_told (Ok (Some a)) says = ap accepted (says.counted a refl ∙ ap (λ (x : Answer (Option Action)). length (objects_in x)) (sym says.answers))
+number_told (Ok None) says = refl
+number_told (Err e) says = refl
 
-bytes_said_lem : (bytes : List ℕ) (found : Found) (objects : List ℕ) → objects ≡ padded 6 0 (objects_in (found_says found objects))
-    → bytes_said found objects bytes ≡ shown_in (found_says found objects) bytes
-unfolding found_says objects_in bytes_said shown_in
-bytes_said_lem bytes (Open schema count) objects rest_zero = ap (λ (l : List ℕ). schema ∷ l) rest_zero
-bytes_said_lem bytes End objects rest_zero = refl
-bytes_said_lem bytes (CardRefused refusal) objects rest_zero = refl
-bytes_said_lem bytes StateMalformed objects rest_zero = refl
-bytes_said_lem bytes SchemaUnknown objects rest_zero = refl
-bytes_said_lem bytes ObjectsWrong objects rest_zero = refl
-bytes_said_lem bytes ObjectsRepeated objects rest_zero = refl
+bytes_told : (bytes : List ℕ) (r : NextOpen) {answer : Answer (Option Action)} → Says answer r → bytes_said r bytes ≡ shown_in (next_open_says r) bytes
+unfolding next_open_says action_said objects_in bytes_said shown_in
+bytes_told bytes (Ok (Some a)) says =
+    ap (λ (l : List ℕ). a.schema ∷ l)
+    (says.rest_zero a refl ∙ ap (λ (x : Answer (Option Action)). padded 6 0 (objects_in x)) (sym says.answers))
+bytes_told bytes (Ok None) says = refl
+bytes_told bytes (Err e) says = refl
 
--- so they are those of the definitions
-pub number_answered : {answer : Answer (Option Action)} {r : NextOpen} → Says answer r → count_said r.found ≡ object_count answer
-unfolding next_open_says
-number_answered {answer} {r} says =
-    number_said r.found r.objects (says.counted ∙ ap (λ (x : Answer (Option Action)). length (objects_in x)) (sym says.answers))
-    ∙ ap object_count says.answers
+pub number_answered : {answer : Answer (Option Action)} {r : NextOpen} → Says answer r → count_said r ≡ object_count answer
+number_answered {r = r} says = number_told r says ∙ ap object_count says.answers
 
-pub bytes_answered : {answer : Answer (Option Action)} {r : NextOpen} (bytes : List ℕ) → Says answer r
-    → bytes_said r.found r.objects bytes ≡ shown_in answer bytes
-unfolding next_open_says
-bytes_answered {answer} {r} bytes says =
-    bytes_said_lem bytes r.found r.objects
-    (says.rest_zero ∙ ap (λ (x : Answer (Option Action)). padded 6 0 (objects_in x)) (sym says.answers))
-    ∙ ap (λ (x : Answer (Option Action)). shown_in x bytes) says.answers
+pub bytes_answered : {answer : Answer (Option Action)} {r : NextOpen} (bytes : List ℕ) → Says answer r → bytes_said r bytes ≡ shown_in answer bytes
+bytes_answered {r = r} bytes says = bytes_told bytes r says ∙ ap (λ (x : Answer (Option Action)). shown_in x bytes) says.answers
 
 -- an array of six, element by element
 pub six_objects : (objects : List ℕ) → length objects ≡ 6
@@ -120,11 +101,11 @@ six_objects objects size = ext_get_or 0 _ objects (sym size) each
 
 -- ---- the code's answer, case by case
 
-pub given_none : (z : ℤ) (schema : ℕ) → SFits w32 z → of_z w32 z ≡ 0 → Nothing ≡ given_as z schema
+pub given_none : (z : ℤ) (schema : ℕ) → SFits w32 z → of_z w32 z ≡ 0 → None ≡ given_as z schema
 unfolding given_as
 given_none z schema fits e = ap (λ (y : ℤ). given_as y schema) (sym (sym (to_z-of_z {w = w32} {z = z} fits) ∙ ap (to_z w32) e))
 
-pub given_some : (z : ℤ) (schema : ℕ) → (of_z w32 z ≡ 0 → ⊥) → After schema ≡ given_as z schema
+pub given_some : (z : ℤ) (schema : ℕ) → (of_z w32 z ≡ 0 → ⊥) → Some schema ≡ given_as z schema
 unfolding given_as
 given_some (pos zero) schema differs = absurd (differs refl)
 given_some (pos (suc n)) schema differs = refl
@@ -134,14 +115,29 @@ given_some (negsuc n) schema differs = refl
 pub few_fits : (n : ℕ) → n ≤ 6 → SFits w32 (pos n)
 few_fits n h = number_fits n (omega arith)
 
-pub few_code : {found : Found} (schema n : ℕ) → found ≡ Open schema n → n ≤ 6 → to_z w32 n ≡ signed (count_said found)
-unfolding signed count_said
-few_code schema n e h = to_z_pos w32 (few_fits n h).sfits ∙ ap (λ (f : Found). signed (count_said f)) (sym e)
+module _ {next : NextOpen} {o : Optional OpenAction} (ok : next ≡ Ok o) where
+  pub action_code : {a : OpenAction} → o ≡ Some a → SmallAction next → to_z w32 a.object_count ≡ signed (count_said next)
+  unfolding signed count_said
+  action_code {a} is small =
+      to_z_pos w32 (few_fits a.object_count (small.small a (ok ∙ ap Ok is)).1).sfits ∙ ap (λ (r : NextOpen). signed (count_said r)) (sym (ok ∙ ap Ok is))
 
-pub bytes_of : {found other : Found} (objects bytes : List ℕ) → found ≡ other → bytes_said other objects bytes ≡ bytes_said found objects bytes
-bytes_of objects bytes e = ap (λ (f : Found). bytes_said f objects bytes) (sym e)
+  pub action_told : {a : OpenAction} (bytes : List ℕ) → o ≡ Some a → a.schema ∷ a.objects ≡ bytes_said next bytes
+  unfolding bytes_said
+  action_told bytes is = ap (λ (r : NextOpen). bytes_said r bytes) (sym (ok ∙ ap Ok is))
 
--- the number and the bytes of any other answer
-pub told_of : {found other : Found} (objects bytes : List ℕ) → found ≡ other
-    → (signed (count_said other) ≡ signed (count_said found)) × (bytes_said other objects bytes ≡ bytes_said found objects bytes)
-told_of objects bytes e = (ap (λ (f : Found). signed (count_said f)) (sym e), bytes_of objects bytes e)
+  pub end_code : o ≡ None → pos 0 ≡ signed (count_said next)
+  unfolding signed count_said
+  end_code is = ap (λ (r : NextOpen). signed (count_said r)) (sym (ok ∙ ap Ok is))
+
+  pub end_told : (bytes : List ℕ) → o ≡ None → bytes ≡ bytes_said next bytes
+  unfolding bytes_said
+  end_told bytes is = ap (λ (r : NextOpen). bytes_said r bytes) (sym (ok ∙ ap Ok is))
+
+module _ {next : NextOpen} {e : OpenRefusal} (err : next ≡ Err e) where
+  pub refusal_code : {refusal : OpenRefusal} → e ≡ refusal → signed (refused (number_said refusal)) ≡ signed (count_said next)
+  unfolding count_said
+  refusal_code is = ap (λ (r : NextOpen). signed (count_said r)) (sym (err ∙ ap Err is))
+
+  pub refusal_told : (bytes : List ℕ) → bytes ≡ bytes_said next bytes
+  unfolding bytes_said
+  refusal_told bytes = ap (λ (r : NextOpen). bytes_said r bytes) (sym err)

@@ -1,20 +1,17 @@
 -- The next open action in C: what is given as a number, and what is answered as a number and seven bytes.
-use Rattle.std.specs.Prelude.{ℕ, zero, suc, ◌≤◌, ◌<◌, ◌≡◌, List, ◌∷◌, ℤ, pos, negsuc, length}
+use Rattle.std.specs.Prelude.{ℕ, zero, suc, ◌≤◌, ◌<◌, ◌≡◌, List, ◌∷◌, ℤ, pos, negsuc, length, Option as Optional, Some, None, Ok, Err}
 use Rattle.std.proofs.Math.Option.{Option, none, some}
 use Rattle.laws.specs.Lists.{padded}
 use Rattle.model.specs.Answer.{Answer, refused, accepted}
 use Rattle.model.specs.Strips.{Action}
-use Rattle.card.specs.Represents.{refusal_number}
-use Rattle.open_actions.specs.declared.Given.{Given}
-use Rattle.open_actions.specs.declared.Given.TheVariants.{Nothing, Action as After}
-use Rattle.open_actions.specs.declared.Found.{Found}
-use Rattle.open_actions.specs.declared.Found.TheVariants.{Action as Open, End, CardRefused, StateMalformed, SchemaUnknown, ObjectsWrong, ObjectsRepeated}
+use Rattle.open_actions.specs.Answers.{NextOpen, number_said}
+use Rattle.open_actions.specs.declared.OpenAction.{OpenAction}
 
 -- 0 for none, any other number for an action of the schema
-unfoldable pub given_as : ℤ → ℕ → Given
-given_as (pos zero) schema = Nothing
-given_as (pos (suc n)) schema = After schema
-given_as (negsuc n) schema = After schema
+unfoldable pub given_as : ℤ → ℕ → Optional ℕ
+given_as (pos zero) schema = None
+given_as (pos (suc n)) schema = Some schema
+given_as (negsuc n) schema = Some schema
 
 -- the number of the objects of the action that is answered, and 0 at the end
 unfoldable pub object_count : Answer (Option Action) → Answer ℕ
@@ -29,24 +26,16 @@ shown_in (accepted none) bytes = bytes
 shown_in (refused n) bytes = bytes
 
 -- the same of the answer as the code has it
-unfoldable pub count_said : Found → Answer ℕ
-count_said (Open schema count) = accepted count
-count_said End = accepted 0
-count_said (CardRefused r) = refused (refusal_number r)
-count_said StateMalformed = refused 15
-count_said SchemaUnknown = refused 16
-count_said ObjectsWrong = refused 17
-count_said ObjectsRepeated = refused 18
+unfoldable pub count_said : NextOpen → Answer ℕ
+count_said (Ok (Some a)) = accepted a.object_count
+count_said (Ok None) = accepted 0
+count_said (Err e) = refused (number_said e)
 
-unfoldable pub bytes_said : Found → List ℕ → List ℕ → List ℕ
-bytes_said (Open schema count) objects bytes = schema ∷ objects
-bytes_said End objects bytes = bytes
-bytes_said (CardRefused r) objects bytes = bytes
-bytes_said StateMalformed objects bytes = bytes
-bytes_said SchemaUnknown objects bytes = bytes
-bytes_said ObjectsWrong objects bytes = bytes
-bytes_said ObjectsRepeated objects bytes = bytes
+unfoldable pub bytes_said : NextOpen → List ℕ → List ℕ
+bytes_said (Ok (Some a)) bytes = a.schema ∷ a.objects
+bytes_said (Ok None) bytes = bytes
+bytes_said (Err e) bytes = bytes
 
 -- The numbers of an action that is found fit a byte.
-pub record SmallAction (found : Found) : Type 0 where
-  pub small : (schema count : ℕ) → found ≡ Open schema count → (schema < 256) × (count ≤ 6)
+pub record SmallAction (r : NextOpen) : Type 0 where
+  pub small : (a : OpenAction) → r ≡ Ok (Some a) → (a.schema < 256) × (a.object_count ≤ 6)

@@ -19,7 +19,7 @@ ghost use Rattle.capi.specs.Previewing.{rows_shown, rows_held, changes_held, cha
 
 use card::{OUTPUT_BYTES, Refusal, Verdict, refusal_number};
 use listing::{Listed, section};
-use open_actions::{Found, Given, NextOpen, next_open};
+use open_actions::{OpenAction, OpenRefusal, next_open};
 use previews::{Changes, CommitRefusal, Foreseen, Rows, commit, preview};
 use reader::decode;
 use strips::{PressRefusal, apply, initial};
@@ -90,13 +90,13 @@ fn listed_code(listed: Listed) -> i32
 }
 
 // The given action, or none if the number is 0.
-fn given_action(given: i32, schema: usize) -> Given
+fn given_action(given: i32, schema: usize) -> Option<usize>
     ensures { result ≡ given_as given schema }
 {
     if given == 0 {
-        return Given::Nothing;
+        return None;
     }
-    Given::Action(schema)
+    Some(schema)
 }
 
 // An action in seven bytes: the schema, then the objects.
@@ -116,24 +116,22 @@ fn action_bytes(schema: usize, objects: [u8; 6]) -> [u8; 7]
 }
 
 // The bytes of an action that is found are written; nothing is where none is.
-fn next_open_code(next: NextOpen, found: &mut [u8; 7]) -> i32
-    requires { SmallAction next.found }
-    ensures value { result ≡ signed (count_said next.found) }
-    ensures found_after { found.new ≡ bytes_said next.found next.objects found.old }
+fn next_open_code(next: Result<Option<OpenAction>, OpenRefusal>, found: &mut [u8; 7]) -> i32
+    requires { SmallAction next }
+    ensures value { result ≡ signed (count_said next) }
+    ensures found_after { found.new ≡ bytes_said next found.old }
 {
-    let answer = next.found;
-    match answer {
-        Found::Action(schema, count) => {
-            let objects = next.objects;
-            *found = action_bytes(schema, objects);
-            count as i32
+    match next {
+        Ok(Some(action)) => {
+            *found = action_bytes(action.schema, action.objects);
+            action.object_count as i32
         }
-        Found::End => 0,
-        Found::CardRefused(refusal) => refusal_code(refusal),
-        Found::StateMalformed => -15,
-        Found::SchemaUnknown => -16,
-        Found::ObjectsWrong => -17,
-        Found::ObjectsRepeated => -18,
+        Ok(None) => 0,
+        Err(OpenRefusal::Card(refusal)) => refusal_code(refusal),
+        Err(OpenRefusal::StateMalformed) => -15,
+        Err(OpenRefusal::SchemaUnknown) => -16,
+        Err(OpenRefusal::ObjectsWrong) => -17,
+        Err(OpenRefusal::ObjectsRepeated) => -18,
     }
 }
 

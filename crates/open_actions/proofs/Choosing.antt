@@ -1,12 +1,12 @@
 -- What the atoms of a list leave to a parameter together: the candidates, and too little room.
 use Prim.Native.Nat.{ℕ, zero, suc, ◌+◌, ◌-◌, ◌≤◌, ◌<◌}
 use native.Mathlib.Omega.{arith}
-use mathlib.Core.Path.{◌≡◌, refl, sym, ap, ◌∙◌, subst}
+use mathlib.Core.Path.{◌≡◌, sym, ap, ◌∙◌, subst}
 use mathlib.Core.Bool.{Bool, true, false, cond, ◌||◌}
 use mathlib.Core.Logic.{⊎_elim}
 use mathlib.Core.List.{List, [], ◌∷◌}
-use lib.ListN.{length, get_or, set, replicate, length-set}
-use lib.Seq.{get_or-set_same, get_or-set_other}
+use lib.ListN.{length, get_or, set, take, length-set}
+use lib.Seq.{get_or-set_same, get_or-set_other, get_or-take}
 use borrow.Author.Tests.{lt-ltb, eq-eqb}
 use Rattle.laws.specs.Lists.{up_to, count}
 use Rattle.laws.proofs.Lists.{count_append}
@@ -21,7 +21,6 @@ use Rattle.open_actions.specs.Masked.{Agree, Inside}
 use Rattle.open_actions.specs.Supports.{AtomReady, AtomSupported, ListReady, atom_at, no_support, support_at}
 use Rattle.open_actions.specs.Supports.{LeavesCandidates, LeavesSupports, Crowds, LeavesRoom}
 use Rattle.open_actions.specs.declared.support.Support.{Support}
-use Rattle.open_actions.specs.declared.room.Crowding.{Crowding}
 
 -- ---- masks of parameters
 
@@ -88,21 +87,16 @@ module _ {arities : List ℕ} {l : AtomList} {known : ℕ} {buffer : List ℕ} {
 
 -- the first atoms of a list have what they leave in an array of eight
 pub record Filled (arities : List ℕ) (l : AtomList) (buffer : List ℕ) (rows parameter bound : ℕ) (x : List ℕ) (items : List Support) (i : ℕ) : Type 0 where
-  pub within : i ≤ l.count
   pub size : length items ≡ 8
   pub each : (j : ℕ) → j < i → AtomSupported arities buffer rows (get_or l.atoms j blank_atom) parameter bound x (support_at items j)
 
 module _ {arities : List ℕ} {l : AtomList} {buffer : List ℕ} {rows parameter bound : ℕ} {x : List ℕ} where
-  pub none_filled : Filled arities l buffer rows parameter bound x (replicate 8 no_support) 0
-  none_filled = record { within = omega arith; size = refl; each = λ j h. absurd (omega arith) }
-
   pub fill_next :
-      {items : List Support} {i : ℕ} {one : Support} → Filled arities l buffer rows parameter bound x items i → i < l.count → i < 8
+      {items : List Support} {i : ℕ} {one : Support} → Filled arities l buffer rows parameter bound x items i → i < 8
       → AtomSupported arities buffer rows (get_or l.atoms i blank_atom) parameter bound x one
       → Filled arities l buffer rows parameter bound x (set items i one) (i + 1)
   unfolding support_at
-  fill_next {items} {i} {one} so_far h few atom = record {
-    within = omega arith;
+  fill_next {items} {i} {one} so_far few atom = record {
     size = length-set items i one ∙ so_far.size;
     each = λ j k.
         ⊎_elim
@@ -118,10 +112,15 @@ module _ {arities : List ℕ} {l : AtomList} {buffer : List ℕ} {rows parameter
         (compared j i);
   }
 
-  pub supports_filled :
-      {items : List Support} {i : ℕ} → Filled arities l buffer rows parameter bound x items i → l.count ≤ i
-      → LeavesSupports arities l buffer rows parameter bound x items
-  supports_filled so_far h = record { each = λ j k. so_far.each j (omega arith) }
+-- those of the list are at the front of an array
+pub supports_front : {arities : List ℕ} {l : AtomList} {buffer : List ℕ} {rows parameter bound n : ℕ} {x : List ℕ} (items : List Support) → l.count ≤ n
+    → LeavesSupports arities l buffer rows parameter bound x items → LeavesSupports arities l buffer rows parameter bound x (take n items)
+unfolding support_at
+supports_front {arities} {l} {buffer} {rows} {parameter} {bound} {n} {x} items h supports = record {
+  each = λ i k.
+      subst (AtomSupported arities buffer rows (get_or l.atoms i blank_atom) parameter bound x) (sym (get_or-take n items i no_support (omega arith)))
+      (supports.each i k);
+}
 
 -- ---- too little room
 
@@ -150,20 +149,20 @@ count_up test n (suc m) h =
     (compared n (suc m))
 
 -- The first atoms of a list, with the room that they leave: each that is no fact with the object takes some.
-pub record Crowded (s : List Support) (adds room o left culprits i : ℕ) : Type 0 where
-  pub within : i ≤ adds
-  pub inside : (bound : ℕ) → ((j : ℕ) → j < adds → Inside (support_at s j).linked bound) → Inside culprits bound
+pub record Crowded (s : List Support) (room o left culprits i : ℕ) : Type 0 where
+  pub within : i ≤ length s
+  pub inside : (bound : ℕ) → ((j : ℕ) → j < length s → Inside (support_at s j).linked bound) → Inside culprits bound
   pub many :
       (test : ℕ → Bool) → ((j : ℕ) → j < i → Inside (support_at s j).linked culprits → is_member (support_at s j).mask o ≡ false → test j ≡ true)
       → room ≤ left + count test (up_to i)
 
-module _ {s : List Support} {adds room o : ℕ} where
-  pub crowd_start : Crowded s adds room o room 0 0
+module _ {s : List Support} {room o : ℕ} where
+  pub crowd_start : Crowded s room o room 0 0
   crowd_start = record { within = omega arith; inside = λ bound each. none_inside; many = λ test passes. omega arith }
 
-  module _ {left culprits i : ℕ} (so_far : Crowded s adds room o left culprits i) (more : i < adds) where
+  module _ {left culprits i : ℕ} (so_far : Crowded s room o left culprits i) (more : i < length s) where
     -- an atom that is a fact with the object
-    pub crowd_skip : Crowded s adds room o left culprits (i + 1)
+    pub crowd_skip : Crowded s room o left culprits (i + 1)
     crowd_skip = record {
       within = omega arith;
       inside = so_far.inside;
@@ -171,7 +170,7 @@ module _ {s : List Support} {adds room o : ℕ} where
     }
 
     module _ {c : ℕ} (missing : is_member (support_at s i).mask o ≡ false) (joined : c ≡ union_of culprits (support_at s i).linked) where
-      inside_joined : (bound : ℕ) → ((j : ℕ) → j < adds → Inside (support_at s j).linked bound) → Inside c bound
+      inside_joined : (bound : ℕ) → ((j : ℕ) → j < length s → Inside (support_at s j).linked bound) → Inside c bound
       inside_joined bound each = subst (λ (k : ℕ). Inside k bound) (sym joined) (both_inside (so_far.inside bound each) (each i more))
 
       -- one more is no fact
@@ -185,34 +184,28 @@ module _ {s : List Support} {adds room o : ℕ} where
           let next = count_passed test i (passes i (omega arith) own missing) in
           omega arith
 
-      pub crowd_one : (left ≡ 0 → ⊥) → Crowded s adds room o (left - 1) c (i + 1)
+      pub crowd_one : (left ≡ 0 → ⊥) → Crowded s room o (left - 1) c (i + 1)
       crowd_one some_left = record {
         within = omega arith;
         inside = inside_joined;
         many = λ test passes. let some = one_more test passes in omega arith;
       }
 
-      pub crowd_full : left ≡ 0 → Crowds s adds room o (record { crowded = true; culprits = c })
+      pub crowd_full : left ≡ 0 → Crowds s room o c
       crowd_full none_left = record {
         inside = inside_joined;
-        many = λ yes test passes.
+        many = λ test passes.
             let some = one_more test (λ j h. passes j (omega arith)) in
-            let grows = count_up test (i + 1) adds (omega arith) in
+            let grows = count_up test (i + 1) (length s) (omega arith) in
             omega arith;
       }
 
-  pub crowd_end : {left culprits i : ℕ} → Crowded s adds room o left culprits i → Crowds s adds room o (record { crowded = false; culprits = culprits })
-  crowd_end so_far = record { inside = so_far.inside; many = λ yes. never (sym yes) }
-
 -- ---- the candidates that leave room, one object after the other
 
-module _ {mask culprits : ℕ} {s : List Support} {adds room : ℕ} where
-  pub room_start : LeavesRoom mask culprits s adds room 0 0 culprits
-  room_start = record { more = inside_refl; inside = λ bound own each. own; crowded = λ v h. absurd (omega arith) }
-
-  module _ {o m c : ℕ} (so_far : LeavesRoom mask culprits s adds room o m c) where
+module _ {mask culprits : ℕ} {s : List Support} {room : ℕ} where
+  module _ {o m c : ℕ} (so_far : LeavesRoom mask culprits s room o m c) where
     -- an object that is no candidate
-    pub room_skip : {b : Bool} → b ≡ is_member mask o → b ≡ false → LeavesRoom mask culprits s adds room (o + 1) m c
+    pub room_skip : {b : Bool} → b ≡ is_member mask o → b ≡ false → LeavesRoom mask culprits s room (o + 1) m c
     room_skip e out = record {
       more = so_far.more;
       inside = so_far.inside;
@@ -223,28 +216,27 @@ module _ {mask culprits : ℕ} {s : List Support} {adds room : ℕ} where
     }
 
     -- a candidate that leaves too little room
-    pub room_out : {r : Crowding} {d : ℕ} → Crowds s adds room o r → r.crowded ≡ true → d ≡ union_of c r.culprits
-        → LeavesRoom mask culprits s adds room (o + 1) m d
-    room_out {r} {d} crowds full_up e = record {
+    pub room_out : {crowd d : ℕ} → Crowds s room o crowd → d ≡ union_of c crowd → LeavesRoom mask culprits s room (o + 1) m d
+    room_out {crowd} {d} crowds e = record {
       more = inside_trans so_far.more grown;
       inside = λ bound own each. subst (λ (k : ℕ). Inside k bound) (sym e) (both_inside (so_far.inside bound own each) (crowds.inside bound each));
       crowded = λ v h in_it out test passes.
           ⊎_elim (λ (less : v < o). so_far.crowded v less in_it out test (λ i k inner. passes i k (inside_trans inner grown)))
           (⊎_elim
           (λ (same : v ≡ o).
-          crowds.many full_up test (λ i k inner gone. passes i k (inside_trans inner own_culprits) (ap (is_member (support_at s i).mask) same ∙ gone)))
+          crowds.many test (λ i k inner gone. passes i k (inside_trans inner own_culprits) (ap (is_member (support_at s i).mask) same ∙ gone)))
           (λ (over : o < v). absurd (omega arith)))
           (compared v o);
     }
       where
         grown : Inside c d
-        grown = subst (Inside c) (sym e) (inside_left c r.culprits)
+        grown = subst (Inside c) (sym e) (inside_left c crowd)
 
-        own_culprits : Inside r.culprits d
-        own_culprits = subst (Inside r.culprits) (sym e) (inside_right c r.culprits)
+        own_culprits : Inside crowd d
+        own_culprits = subst (Inside crowd) (sym e) (inside_right c crowd)
 
     -- one that leaves room
-    pub room_in : {n : ℕ} → n ≡ union_of m (single_of o) → LeavesRoom mask culprits s adds room (o + 1) n c
+    pub room_in : {n : ℕ} → n ≡ union_of m (single_of o) → LeavesRoom mask culprits s room (o + 1) n c
     room_in {n} e = record {
       more = so_far.more;
       inside = so_far.inside;
@@ -263,12 +255,3 @@ module _ {mask culprits : ℕ} {s : List Support} {adds room : ℕ} where
 
         here : (v : ℕ) → v ≡ o → is_member n v ≡ true
         here v same = joined v ∙ or_right (is_member m v) (is_member (single_of o) v) (single_member o v ∙ eq-eqb o v (sym same))
-
-    pub room_all : {known : ℕ} → known ≤ o → LeavesRoom mask culprits s adds room known m c
-    room_all h = record { more = so_far.more; inside = so_far.inside; crowded = λ v k. so_far.crowded v (omega arith) }
-
--- all atoms of a list
-pub left_at : {arities : List ℕ} {l : AtomList} {known : ℕ} {buffer : List ℕ} {rows parameter bound : ℕ} {x : List ℕ} {i atoms mask culprits : ℕ}
-    → LeavesCandidates arities l i known buffer rows parameter bound x mask culprits → i ≤ atoms
-    → LeavesCandidates arities l atoms known buffer rows parameter bound x mask culprits
-left_at so_far h = record { inside = so_far.inside; holds = λ y agrees there few. so_far.holds y agrees (λ j less. there j (omega arith)) few }

@@ -5,10 +5,11 @@ use mathlib.Core.Path.{◌≡◌, sym, ap, ◌∙◌, subst}
 use mathlib.Core.Bool.{Bool, true, false, not, ◌&&◌}
 use mathlib.Core.List.{List}
 use mathlib.Core.Logic.{◌⊎◌}
-use lib.Dec.{leb, eqb}
+use lib.Dec.{leb}
 use lib.ListN.{length, get_or, set, length-set}
 use lib.Seq.{get_or-set_other}
-use borrow.Author.Tests.{leb-true, eq-eqb}
+use borrow.Author.Tests.{leb-true}
+use Rattle.std.specs.Prelude.{Result, Ok, Err}
 use Rattle.laws.specs.Lists.{all, count, distinct, up_to}
 use Rattle.laws.proofs.Lists.{all_at, count_ext, up_to_at}
 use Rattle.laws.proofs.Mapped.{all_map}
@@ -34,7 +35,6 @@ use Rattle.open_actions.specs.Supports.{ListReady, LeavesCandidates, LeavesSuppo
 use Rattle.open_actions.specs.Bindings.{Query, query_of, open_binding, Full, SearchOutcome, Searchable, Leaves, Taken}
 use Rattle.open_actions.specs.Notes.{Recalled, Noted, KeepsNotes, Searches, Descends, Concludes}
 use Rattle.open_actions.specs.declared.support.Support.{Support}
-use Rattle.open_actions.specs.declared.search.Searched.{Searched}
 use Rattle.open_actions.proofs.Choosing.{inside_refl, inside_trans, inside_left, inside_right, agree_inside}
 use Rattle.open_actions.proofs.Searching.{same_length, full_set, full_below, more_below, more_bound, single_inside}
 use Rattle.open_actions.proofs.Searching.{ruled_out, taken_closes, stuck_anyway}
@@ -68,9 +68,6 @@ module _ {arities : List ℕ} {most : ℕ} {schema : Schema} {buffer : List ℕ}
   pub few_parameters : length x ≤ 6
   unfolding schema_of
   few_parameters = let n = full_length ready.full in let few = checked.few_parameters in omega arith
-
-  pub few_deletes : schema.deletes.count ≤ 8
-  few_deletes = ready.schema_kept.deletes.few
 
   pub few_adds : schema.adds.count ≤ 8
   few_adds = ready.schema_kept.adds.few
@@ -181,11 +178,11 @@ module _ {arities : List ℕ} {most : ℕ} {schema : Schema} {buffer : List ℕ}
       {mask culprits : ℕ} {items : List Support} {left why : ℕ}
       → LeavesCandidates arities schema.preconditions schema.preconditions.count most buffer rows level bound x mask culprits
       → LeavesSupports arities schema.adds buffer rows level bound x items
-      → LeavesRoom mask culprits items schema.adds.count (most_facts + schema.deletes.count - rows) most left why
+      → length items ≡ schema.adds.count → LeavesRoom mask culprits items (most_facts + schema.deletes.count - rows) most left why
       → Leaves q bound level x left why
   unfolding query_of atom_at
-  leaves_room {mask} {culprits} {items} {left} {why} leaves supports roomy = record {
-    inside = roomy.inside bound leaves.inside (λ i h. (supports.each i h).inside);
+  leaves_room {mask} {culprits} {items} {left} {why} leaves supports all_adds roomy = record {
+    inside = roomy.inside bound leaves.inside (λ i h. (supports.each i (omega arith)).inside);
     holds = λ y full long agrees opened.
         by_test (is_member left (get_or y level 0))
         (λ there. there)
@@ -193,7 +190,8 @@ module _ {arities : List ℕ} {most : ℕ} {schema : Schema} {buffer : List ℕ}
         let fits = adds_fit y full opened in
         let over = roomy.crowded (get_or y level 0) (full_below full level long)
         (leaves.holds y (agree_inside roomy.more agrees) (precondition_holds y full opened) (full_below full level long)) out
-        (missing y full opened) (lacks y full opened long agrees) in
+        (missing y full opened) (λ i h. lacks y full opened long agrees i (omega arith)) in
+        let all = ap (λ (n : ℕ). count (missing y full opened) (up_to n)) all_adds in
         absurd (omega arith));
   }
     where
@@ -246,7 +244,7 @@ module _ {arities : List ℕ} {most : ℕ} {schema : Schema} {buffer : List ℕ}
   set_full = full_set pre.ready.full pre.inside pre.object_known
 
   -- what the search of the next level says, with the mask that the code made, and with the notes
-  abbrev Next : List ℕ → List ℕ → Searched → Type 0
+  abbrev Next : List ℕ → List ℕ → Result (Unit {0}) ℕ → Type 0
   Next after new r = Concludes (q pre.ready) exact (union_of bound (single_of level)) (level + 1) 0 (set x level o) after notes new r
 
   module _ {s b : ℕ} (this : s ≡ single_of level) (joined : b ≡ union_of bound s) where
@@ -259,25 +257,24 @@ module _ {arities : List ℕ} {most : ℕ} {schema : Schema} {buffer : List ℕ}
     pub level_ready : {sure : Bool} → (sure ≡ true → exact ≡ true) → Searches arities most schema buffer rows sure b (level + 1) (set x level o) notes
     level_ready surely = record { ready = next_ready pre.ready pre.inside pre.object_known bound_is surely; true_notes = pre.true_notes }
 
-    says : {sure : Bool} {after : List ℕ} {r : Searched} → SearchOutcome (q pre.ready) sure b (level + 1) 0 (set x level o) after r
+    says : {sure : Bool} {after : List ℕ} {r : Result (Unit {0}) ℕ} → SearchOutcome (q pre.ready) sure b (level + 1) 0 (set x level o) after r
         → SearchOutcome (q pre.ready) sure (union_of bound (single_of level)) (level + 1) 0 (set x level o) after r
     says {sure} {after} {r} outcome =
         subst (λ (k : ℕ). SearchOutcome (q pre.ready) sure k (level + 1) 0 (set x level o) after r) bound_is outcome
 
     -- a note says that the search is stuck
-    pub level_recalls : {place r : ℕ} {empty : Bool} → Recalled notes place b (set x level o) r → empty ≡ eqb r 0 → empty ≡ false
-        → Next (set x level o) notes (record { found = false; culprits = r })
-    level_recalls {r = r} recalled e some = record {
+    pub level_recalls : {place r : ℕ} → Recalled notes place b (set x level o) r → Next (set x level o) notes (Err r)
+    level_recalls recalled = record {
       outcome = says (recalled_says pre.true_notes set_full
           (record { each = λ p m. let h = below.each p m in let n = length-set x level o in let inside = pre.inside in omega arith })
-          recalled (λ zero. never (sym (eq-eqb r 0 zero) ∙ sym e ∙ some)));
+          recalled);
       notes_kept = same_notes pre.true_notes;
     }
 
-    module _ {sure : Bool} {after new : List ℕ} {r : Searched}
+    module _ {sure : Bool} {after new : List ℕ} {r : Result (Unit {0}) ℕ}
         (later : Concludes (q pre.ready) sure b (level + 1) 0 (set x level o) after notes new r) where
       -- it is stuck, and noted
-      pub level_stuck : {place c : ℕ} {newer : List ℕ} → r.found ≡ false → c ≡ union_of r.culprits s → (newer ≡ new) ⊎ Noted new newer place c after
+      pub level_stuck : {place why c : ℕ} {newer : List ℕ} → r ≡ Err why → c ≡ union_of why s → (newer ≡ new) ⊎ Noted new newer place c after
           → Next after newer r
       level_stuck stops e noted = record {
         outcome = stuck_anyway (says later.outcome) stops;
@@ -297,14 +294,14 @@ module _ {arities : List ℕ} {most : ℕ} {schema : Schema} {buffer : List ℕ}
           own = subst (Inside s) (sym joined) (inside_right bound s)
 
       -- something is found, but an earlier parameter has the object
-      pub taken_already : {owner one m : ℕ} → Taken (set x level o) bound level o owner → owner < level → one ≡ single_of owner → m ≡ union_of one s
-          → Next after new (record { found = false; culprits = m })
-      taken_already {owner} {one} {m} taken less single joined_both = record {
+      pub taken_already : {owner one m : ℕ} → Taken (set x level o) bound level o owner → one ≡ single_of owner → m ≡ union_of one s
+          → Next after new (Err m)
+      taken_already {owner} {one} {m} taken single joined_both = record {
         outcome =
             ruled_out pre.ready.bound_below pre.ready.full pre.inside later.outcome.full later.outcome.begins
-            (single_inside owner (taken.is_bound less))
-            (taken_closes pre.ready.bound_below pre.ready.full pre.inside less
-            (sym (get_or-set_other x level owner o 0 (λ e. absurd (omega (arith, e)))) ∙ taken.has_object less))
+            (single_inside owner taken.is_bound)
+            (taken_closes pre.ready.bound_below pre.ready.full pre.inside taken.below
+            (sym (get_or-set_other x level owner o 0 (λ e. absurd (let h = taken.below in omega (arith, e)))) ∙ taken.has_object))
             (joined_both ∙ ap (λ (k : ℕ). union_of k s) single ∙ ap (union_of (single_of owner)) this);
         notes_kept = later.notes_kept;
       }
@@ -331,15 +328,15 @@ module _ {arities : List ℕ} {most : ℕ} {schema : Schema} {buffer : List ℕ}
   pub whole_ready : level ≡ length x → Searchable arities most schema buffer rows exact bound (length x) x
   whole_ready e = subst (λ (k : ℕ). Searchable arities most schema buffer rows exact bound k x) e pre.ready
 
-  pub whole_says : {from : ℕ} {r : Searched} → level ≡ length x
+  pub whole_says : {from : ℕ} {r : Result (Unit {0}) ℕ} → level ≡ length x
       → SearchOutcome (q pre.ready) exact bound (length x) 0 x x r → Concludes (q pre.ready) exact bound level from x x notes notes r
   whole_says {from} {r} e outcome = record {
     outcome = subst (λ (k : ℕ). SearchOutcome (q pre.ready) exact bound k from x x r) (sym e) (record {
       full = outcome.full;
       begins = outcome.begins;
-      stuck = λ fails. record {
-        inside = (outcome.stuck fails).inside;
-        none = λ y f agrees reaches. (outcome.stuck fails).none y f agrees (past y f);
+      stuck = λ c fails. record {
+        inside = (outcome.stuck c fails).inside;
+        none = λ y f agrees reaches. (outcome.stuck c fails).none y f agrees (past y f);
       };
       found = λ finds sure. record {
         open_now = (outcome.found finds sure).open_now;
@@ -393,31 +390,31 @@ module _ {arities : List ℕ} {most : ℕ} {schema : Schema} {buffer : List ℕ}
         pub stays_long : length now ≡ length x
         stays_long = same_length turning.trying.full pre.ready.full
 
-        module _ {after new : List ℕ} {r : Searched}
+        module _ {after new : List ℕ} {r : Result (Unit {0}) ℕ}
             (step : Concludes (q pre.ready) exact (union_of bound (single_of level)) (level + 1) 0 (set now level o) after kept new r) where
-          pub turn_found : r.found ≡ true → Concludes (q pre.ready) exact bound level from x after notes new r
+          pub turn_found : r ≡ Ok tt → Concludes (q pre.ready) exact bound level from x after notes new r
           turn_found finds = record {
             outcome = try_found pre.ready.full pre.ready.bound_below inner turning.trying step.outcome finds;
             notes_kept = kept_twice turning.notes_kept step.notes_kept;
           }
 
-          module _ (stops : r.found ≡ false) where
-            pub turn_back : {b : Bool} → b ≡ is_member r.culprits level → b ≡ false → Concludes (q pre.ready) exact bound level from x after notes new r
+          module _ {culprit : ℕ} (stops : r ≡ Err culprit) where
+            pub turn_back : {b : Bool} → b ≡ is_member culprit level → b ≡ false → Concludes (q pre.ready) exact bound level from x after notes new r
             turn_back e innocent = record {
               outcome = try_back pre.ready.full pre.ready.bound_below inner turning.trying step.outcome stops (sym e ∙ innocent);
               notes_kept = kept_twice turning.notes_kept step.notes_kept;
             }
 
-            pub turn_again : {c : ℕ} → c ≡ union_of culprits (common_of r.culprits bound)
+            pub turn_again : {c : ℕ} → c ≡ union_of culprits (common_of culprit bound)
                 → Turning (q pre.ready) bound level from x after c (o + 1) why notes new
             turn_again {c} e = record {
               trying = try_again pre.ready.full pre.ready.bound_below inner turning.trying step.outcome stops e;
-              blamed = inside_trans turning.blamed (subst (Inside culprits) (sym e) (inside_left culprits (common_of r.culprits bound)));
+              blamed = inside_trans turning.blamed (subst (Inside culprits) (sym e) (inside_left culprits (common_of culprit bound)));
               notes_kept = kept_twice turning.notes_kept step.notes_kept;
             }
 
         -- every object is tried
-        pub turn_end : most ≤ o → Concludes (q pre.ready) exact bound level from x now notes kept (record { found = false; culprits = culprits })
+        pub turn_end : most ≤ o → Concludes (q pre.ready) exact bound level from x now notes kept (Err culprits)
         unfolding query_of
         turn_end all_tried = record {
           outcome = try_end pre.ready.full pre.ready.bound_below inner turning.trying all_tried;

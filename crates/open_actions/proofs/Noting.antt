@@ -6,24 +6,24 @@ use mathlib.Core.Bool.{Bool, true, false}
 use mathlib.Core.Logic.{◌⊎◌, ⊎_elim}
 use mathlib.Core.List.{List}
 use lib.Bits.{and_le_r}
-use lib.ListN.{length, get_or, set, replicate, length-set}
-use lib.Seq.{get_or-set_same, get_or-set_other}
-use borrow.Author.Tests.{lt-ltb}
+use Rattle.std.specs.Prelude.{Result, Err}
+use lib.ListN.{length, get_or, set, take, drop, replicate, length-set}
+use lib.Seq.{get_or-set_same, get_or-set_other, length-take-le}
+use borrow.Rule.Slice.PartMut.{post_of, put_mid, same_len_mid}
+use Rattle.std.proofs.Common.{◌-◌, ◌++◌, eqb, length-drop}
+use Rattle.std.proofs.lemmas.List.{get_or_append_left, get_or-append_right, get_or-take, get_or-drop}
+use borrow.Author.Tests.{lt-ltb, eq-eqb}
 use Rattle.laws.proofs.Tests.{and_right, and_intro, never}
 use Rattle.laws.proofs.Orders.{compared}
 use Rattle.masks.specs.Sets.{is_member, common_of, union_of, all_below}
-use Rattle.masks.proofs.Operations.{common_member, none_member, all_member}
+use Rattle.masks.proofs.Operations.{common_member, all_member}
 use Rattle.open_actions.specs.Masked.{Agree, Inside, BoundBelow}
-use Rattle.open_actions.specs.Bindings.{Query, open_binding, Full, SearchOutcome}
+use Rattle.open_actions.specs.Bindings.{Query, open_binding, Full, Stuck, SearchOutcome}
 use Rattle.open_actions.specs.Notes.{culprits_at, object_at, Notes, Recalled, Noted, KeepsNotes}
-use Rattle.open_actions.specs.declared.search.Searched.{Searched}
-use Rattle.open_actions.proofs.Choosing.{none_inside, inside_left, both_inside}
-use Rattle.open_actions.proofs.Searching.{begins_refl}
+use Rattle.open_actions.proofs.Choosing.{inside_left, both_inside}
+use Rattle.open_actions.proofs.Searching.{same_err, no_err, begins_refl}
 
 -- ---- what is recalled
-
-pub recalls_none : {notes : List ℕ} {place bound : ℕ} {x : List ℕ} → Recalled notes place bound x 0
-recalls_none = record { noted = λ some. absurd (some refl); inside = none_inside; same = λ p h m. never (sym m ∙ none_member p) }
 
 -- a mask that has nothing but what is common with another
 common_inside : {a b c : ℕ} → c ≡ common_of a b → c ≡ a → Inside a b
@@ -39,9 +39,6 @@ pub record Comparing (notes : List ℕ) (place : ℕ) (x : List ℕ) (culprits p
   pub same : (r : ℕ) → r < p → is_member culprits r ≡ true → get_or x r 0 ≡ object_at notes place r
 
 module _ {notes : List ℕ} {place : ℕ} {x : List ℕ} {culprits : ℕ} where
-  pub compare_start : Comparing notes place x culprits 0
-  compare_start = record { within = omega arith; same = λ r h. absurd (omega arith) }
-
   module _ {p : ℕ} (so_far : Comparing notes place x culprits p) (more : p < length x) where
     compare_next : (is_member culprits p ≡ true → get_or x p 0 ≡ object_at notes place p) → Comparing notes place x culprits (p + 1)
     compare_next here = record {
@@ -63,43 +60,57 @@ module _ {notes : List ℕ} {place : ℕ} {x : List ℕ} {culprits : ℕ} where
     unfolding object_at
     compare_same e = compare_next (λ m. e)
 
-pub recalls_all : {notes : List ℕ} {place bound c : ℕ} {x : List ℕ} {p : ℕ} → c ≡ common_of (get_or notes (7 * place) 0) bound
-    → c ≡ get_or notes (7 * place) 0 → Comparing notes place x (get_or notes (7 * place) 0) p → length x ≤ p
-    → Recalled notes place bound x (get_or notes (7 * place) 0)
+pub recalls_all : {notes : List ℕ} {place bound both culprits : ℕ} {x : List ℕ} {p : ℕ} {empty : Bool} → culprits ≡ get_or notes (7 * place) 0
+    → empty ≡ eqb culprits 0 → empty ≡ false → both ≡ common_of culprits bound → both ≡ culprits → Comparing notes place x culprits p → length x ≤ p
+    → Recalled notes place bound x culprits
 unfolding culprits_at
-recalls_all e f so_far h = record { noted = λ some. refl; inside = common_inside e f; same = λ r k m. so_far.same r (omega arith) m }
+recalls_all {culprits = culprits} read e some joined same so_far all = record {
+  some = λ zero. never (sym (eq-eqb culprits 0 zero) ∙ sym e ∙ some);
+  noted = sym read;
+  inside = common_inside joined same;
+  same = λ r h m. so_far.same r (omega arith) m;
+}
 
 -- ---- what is noted
 
--- The objects of the parameters below one stand at a place.
-pub record Noting (old now : List ℕ) (place : ℕ) (x : List ℕ) (p : ℕ) : Type 0 where
-  pub within : p ≤ length x
+-- The objects of the parameters stand at a place.
+pub record Noting (old now : List ℕ) (place : ℕ) (x : List ℕ) : Type 0 where
   pub size : length now ≡ length old
-  pub objects_there : (r : ℕ) → r < p → get_or now (7 * place + 1 + r) 0 ≡ get_or x r 0
+  pub objects_there : (r : ℕ) → r < length x → get_or now (7 * place + 1 + r) 0 ≡ get_or x r 0
   pub earlier : (j : ℕ) → j < 7 * place → get_or now j 0 ≡ get_or old j 0
   pub later : (j : ℕ) → 7 * place + 7 ≤ j → get_or now j 0 ≡ get_or old j 0
 
-pub note_start : {old : List ℕ} {place : ℕ} {x : List ℕ} → Noting old old place x 0
-note_start = record { within = omega arith; size = refl; objects_there = λ r k. absurd (omega arith); earlier = λ j k. refl; later = λ j k. refl }
+-- a list put in the place of as many elements of another
+module _ (a k : ℕ) (old x : List ℕ) (all : k ≡ length x) (room : a + k ≤ length old) where
+  front : length (take a old) ≡ a
+  front = length-take-le a old (omega arith)
 
-pub note_next : {old now : List ℕ} {place : ℕ} {x : List ℕ} {p : ℕ} → Noting old now place x p → p < length x → length x ≤ 6
-    → 7 * place + 7 ≤ length old → Noting old (set now (7 * place + 1 + p) (get_or x p 0)) place x (p + 1)
-note_next {old} {now} {place} {x} {p} so_far more few room = record {
-  within = omega arith;
-  size = length-set now (7 * place + 1 + p) (get_or x p 0) ∙ so_far.size;
-  objects_there = λ r k.
-      ⊎_elim
-      (λ (less : r < p).
-      get_or-set_other now (7 * place + 1 + p) (7 * place + 1 + r) (get_or x p 0) 0 (λ e. absurd (omega (arith, e))) ∙ so_far.objects_there r less)
-      (⊎_elim
-      (λ (same : r ≡ p).
-      ap (λ (n : ℕ). get_or (set now (7 * place + 1 + p) (get_or x p 0)) (7 * place + 1 + n) 0) same
-      ∙ get_or-set_same now (7 * place + 1 + p) (get_or x p 0) 0 (let s = so_far.size in omega arith)
-      ∙ ap (λ (n : ℕ). get_or x n 0) (sym same))
-      (λ (over : p < r). absurd (omega arith)))
-      (compared r p);
-  earlier = λ j k. get_or-set_other now (7 * place + 1 + p) j (get_or x p 0) 0 (λ e. absurd (omega (arith, e))) ∙ so_far.earlier j k;
-  later = λ j k. get_or-set_other now (7 * place + 1 + p) j (get_or x p 0) 0 (λ e. absurd (omega (arith, e))) ∙ so_far.later j k;
+  put_size : length (put_mid a k old x) ≡ length old
+  put_size = same_len_mid a k old x (sym all ∙ sym (length-take-le k (drop a old) (omega (arith, length-drop a old))))
+
+  put_before : (j : ℕ) → j < a → get_or (put_mid a k old x) j 0 ≡ get_or old j 0
+  put_before j h = get_or_append_left (take a old) _ 0 j (omega (arith, front)) ∙ get_or-take a old j 0 h
+
+  put_there : (r : ℕ) → r < length x → get_or (put_mid a k old x) (a + r) 0 ≡ get_or x r 0
+  put_there r h =
+      get_or-append_right (take a old) _ a (a + r) 0 front (omega arith)
+      ∙ ap (λ (n : ℕ). get_or (x ++ post_of a k old) n 0) (let e : a + r - a ≡ r = omega arith in e)
+      ∙ get_or_append_left x (post_of a k old) 0 r h
+
+  put_after : (j : ℕ) → a + k ≤ j → get_or (put_mid a k old x) j 0 ≡ get_or old j 0
+  put_after j h =
+      get_or-append_right (take a old) _ a j 0 front (omega arith)
+      ∙ get_or-append_right x (post_of a k old) (length x) (j - a) 0 refl (omega arith)
+      ∙ get_or-drop k (drop a old) (j - a - length x) 0 ∙ get_or-drop a old (k + (j - a - length x)) 0
+      ∙ ap (λ (n : ℕ). get_or old n 0) (let e : a + (k + (j - a - length x)) ≡ j = omega arith in e)
+
+pub note_put : {old x : List ℕ} {place k : ℕ} → k ≡ length x → length x ≤ 6 → 7 * place + 7 ≤ length old
+    → Noting old (put_mid (7 * place + 1) k old x) place x
+note_put {old} {x} {place} {k} all few room = record {
+  size = put_size (7 * place + 1) k old x all (omega arith);
+  objects_there = put_there (7 * place + 1) k old x all (omega arith);
+  earlier = λ j h. put_before (7 * place + 1) k old x all (omega arith) j (omega arith);
+  later = λ j h. put_after (7 * place + 1) k old x all (omega arith) j (omega arith);
 }
 
 -- the culprits come last, those of them that are parameters
@@ -107,9 +118,9 @@ pub few_fit : (c : ℕ) {b few : ℕ} → b ≡ all_below 6 → few ≡ common_o
 unfolding common_of all_below
 few_fit c {b} six e = let small = and_le_r c b in omega (arith, six, e)
 
-pub note_end : {old now : List ℕ} {place culprits b few : ℕ} {x : List ℕ} {p : ℕ} → Noting old now place x p → length x ≤ p → 7 * place < length old
+pub note_end : {old now : List ℕ} {place culprits b few : ℕ} {x : List ℕ} → Noting old now place x → 7 * place < length old
     → b ≡ all_below 6 → few ≡ common_of culprits b → Noted old (set now (7 * place) few) place culprits x
-note_end {old} {now} {place} {culprits} {b} {few} so_far h room six e = record {
+note_end {old} {now} {place} {culprits} {b} {few} so_far room six e = record {
   size = length-set now (7 * place) few ∙ so_far.size;
   culprits_there = λ r k m.
       ap (λ (n : ℕ). is_member n r)
@@ -117,7 +128,7 @@ note_end {old} {now} {place} {culprits} {b} {few} so_far h room six e = record {
       ∙ common_member culprits (all_below 6) r
       ∙ and_intro (is_member culprits r) (is_member (all_below 6) r) m (all_member 6 r ∙ lt-ltb r 6 k);
   objects_there = λ r k.
-      get_or-set_other now (7 * place) (7 * place + 1 + r) few 0 (λ e. absurd (omega (arith, e))) ∙ so_far.objects_there r (omega arith);
+      get_or-set_other now (7 * place) (7 * place + 1 + r) few 0 (λ e. absurd (omega (arith, e))) ∙ so_far.objects_there r k;
   earlier = λ j k. get_or-set_other now (7 * place) j few 0 (λ e. absurd (omega (arith, e))) ∙ so_far.earlier j k;
   later = λ j k. get_or-set_other now (7 * place) j few 0 (λ e. absurd (omega (arith, e))) ∙ so_far.later j k;
 }
@@ -143,10 +154,10 @@ kept_twice first second = record { size = second.size ∙ first.size; true_notes
 
 -- a recalled note rules out every binding that has the bound objects at its culprits
 recalled_closes : {q : Query} {notes : List ℕ} {place bound : ℕ} {x : List ℕ} {r : ℕ} → Notes q notes
-    → Recalled notes place bound x r → (r ≡ 0 → ⊥) → BoundBelow bound (length x) → (y : List ℕ) → Full q y → Agree r x y → open_binding q y ≡ false
-recalled_closes {q} {notes} {place} {bound} {x} {r} true_notes recalled some below y f agrees =
-    let e : culprits_at notes place ≡ r = recalled.noted some in
-    true_notes.none place (λ zero. some (sym e ∙ zero)) y f
+    → Recalled notes place bound x r → BoundBelow bound (length x) → (y : List ℕ) → Full q y → Agree r x y → open_binding q y ≡ false
+recalled_closes {q} {notes} {place} {bound} {x} {r} true_notes recalled below y f agrees =
+    let e : culprits_at notes place ≡ r = recalled.noted in
+    true_notes.none place (λ zero. recalled.some (sym e ∙ zero)) y f
     (λ p k m.
     let in_it : is_member r p ≡ true = ap (λ (c : ℕ). is_member c p) (sym e) ∙ m in
     agrees.same p in_it ∙ recalled.same p (below.each p (recalled.inside.each p in_it)) in_it)
@@ -181,23 +192,23 @@ one_more {q} {old} {new} {place} {culprits} {x} true_notes noted few below close
 
 -- what is recalled answers for a search
 pub recalled_says : {q : Query} {exact : Bool} {notes : List ℕ} {place bound level : ℕ} {x : List ℕ} {r : ℕ} → Notes q notes → Full q x
-    → BoundBelow bound (length x) → Recalled notes place bound x r → (r ≡ 0 → ⊥)
-    → SearchOutcome q exact bound level 0 x x (record { found = false; culprits = r })
-recalled_says true_notes full below recalled some = record {
+    → BoundBelow bound (length x) → Recalled notes place bound x r → SearchOutcome q exact bound level 0 x x (Err r)
+recalled_says {q} {bound = bound} {level} {x} true_notes full below recalled = record {
   full = full;
   begins = begins_refl;
-  stuck = λ stops. record {
+  stuck = λ c e. subst (Stuck q bound level 0 x) (same_err e) (record {
     inside = recalled.inside;
-    none = λ y f agrees reaches. recalled_closes true_notes recalled some below y f agrees;
-  };
-  found = λ finds. never (sym finds);
+    none = λ y f agrees reaches. recalled_closes true_notes recalled below y f agrees;
+  });
+  found = λ finds. absurd (no_err finds);
 }
 
 -- a search that is stuck is noted, with the objects that it leaves and parameters more among the culprits
-pub stuck_noted : {q : Query} {exact : Bool} {bound level : ℕ} {x after : List ℕ} {r : Searched} {old new : List ℕ} {place s c : ℕ}
-    → SearchOutcome q exact bound level 0 x after r → r.found ≡ false → BoundBelow bound level → level ≤ length after → length after ≤ 6
-    → Inside s bound → c ≡ union_of r.culprits s → Notes q old → (new ≡ old) ⊎ Noted old new place c after → KeepsNotes q old new
-stuck_noted {q} {exact} {bound} {level} {x} {after} {r} {old} {new} {place} {s} {c} outcome stops below within few more joined true_notes =
+pub stuck_noted : {q : Query} {exact : Bool} {bound level : ℕ} {x after : List ℕ} {r : Result (Unit {0}) ℕ} {old new : List ℕ}
+    {place s culprits c : ℕ} → SearchOutcome q exact bound level 0 x after r → r ≡ Err culprits → BoundBelow bound level
+    → level ≤ length after → length after ≤ 6
+    → Inside s bound → c ≡ union_of culprits s → Notes q old → (new ≡ old) ⊎ Noted old new place c after → KeepsNotes q old new
+stuck_noted {q} {exact} {bound} {level} {x} {after} {r} {old} {new} {place} {s} {culprits} {c} outcome stops below within few more joined true_notes =
     ⊎_elim (λ same. record { size = ap length same; true_notes = subst (Notes q) (sym same) true_notes })
     (λ noted. record {
       size = noted.size;
@@ -205,16 +216,16 @@ stuck_noted {q} {exact} {bound} {level} {x} {after} {r} {old} {new} {place} {s} 
     })
   where
     in_bound : Inside c bound
-    in_bound = subst (λ (k : ℕ). Inside k bound) (sym joined) (both_inside (outcome.stuck stops).inside more)
+    in_bound = subst (λ (k : ℕ). Inside k bound) (sym joined) (both_inside (outcome.stuck culprits stops).inside more)
 
-    culprit : Inside r.culprits c
-    culprit = subst (Inside r.culprits) (sym joined) (inside_left r.culprits s)
+    culprit : Inside culprits c
+    culprit = subst (Inside culprits) (sym joined) (inside_left culprits s)
 
     closes : (y : List ℕ) → Full q y → Agree c after y → open_binding q y ≡ false
     closes y f agrees =
-        (outcome.stuck stops).none y f
+        (outcome.stuck culprits stops).none y f
         (record {
           same = λ p m.
-              agrees.same p (culprit.each p m) ∙ outcome.begins.same p (below.each p ((outcome.stuck stops).inside.each p m));
+              agrees.same p (culprit.each p m) ∙ outcome.begins.same p (below.each p ((outcome.stuck culprits stops).inside.each p m));
         })
         (record { from_on = λ h. omega arith })

@@ -5,12 +5,14 @@ use mathlib.Core.Path.{◌≡◌, refl, sym, ap, ◌∙◌, subst}
 use mathlib.Core.Bool.{Bool, true, false}
 use mathlib.Core.Logic.{◌⊎◌, ⊎_elim}
 use mathlib.Core.List.{List, []}
-use mathlib.Core.Option.{Option, some}
+use mathlib.Core.Option.{Option, none, some}
 use lib.Dec.{ltb}
 use lib.ListN.{length, get_or, take}
-use borrow.Author.Tests.{ltb-true, ltb-false, lt-ltb}
+use borrow.Author.Tests.{ltb-true, lt-ltb}
+use Rattle.std.specs.Prelude.{Option as Optional, Some, None, Ok, is_some}
+use Rattle.std.proofs.lemmas.Option.{none-some, same_Some}
 use Rattle.laws.specs.Lists.{padded}
-use Rattle.laws.proofs.Tests.{by_test}
+use Rattle.laws.proofs.Tests.{by_test, never}
 use Rattle.model.specs.Answer.{Answer, accepted, ◌>>◌}
 use Rattle.model.specs.Card as model
 use Rattle.model.specs.Strips.{Action, State, facts_in, well_formed, schema_at, check_objects, check_action}
@@ -21,20 +23,16 @@ use Rattle.model.proofs.OpenActions.{Named, action_of, checked_named}
 use Rattle.model.proofs.OpenBySchema.{admits, FullOf, open_from, from_next, from_found, from_end, after_found, after_past}
 use Rattle.card.specs.Represents.{schema_of, task_of, blank_schema, Represented}
 use Rattle.card.specs.declared.Schema.{Schema}
-use Rattle.card.specs.declared.SchemaList.{SchemaList}
 use Rattle.card.specs.declared.Task.{Task}
 use Rattle.card.proofs.Counts.{right, predicates_inside, schema_count}
 use Rattle.card.proofs.Entries.{arities_part}
 use Rattle.strips.proofs.Tasks.{get_d_default, few_schemas, schema_below, chosen_is}
 use Rattle.strips.proofs.Pressing.{state_kept, schema_kept}
 use Rattle.open_actions.specs.Bindings.{Query, query_of, open_binding}
-use Rattle.open_actions.specs.Answers.{found_says, next_open_says, number_in, objects_in, Says}
+use Rattle.open_actions.specs.Answers.{NextOpen, action_said, next_open_says, objects_in, Says}
 use Rattle.open_actions.specs.Schemas.{SchemaReady, NoneOpen, BindingPicked, unset, query_at, PassedOver, SchemasReady, FoundAmong, NoneAmong}
 use Rattle.open_actions.specs.Schemas.{FoundAfter, NoneAfter, check_listed, GivenAnswered}
-use Rattle.open_actions.specs.declared.Found.{Found}
-use Rattle.open_actions.specs.declared.Found.TheVariants.{Action as Open, End}
-use Rattle.open_actions.specs.declared.NextOpen.{NextOpen}
-use Rattle.open_actions.specs.declared.schemas.Binding.{Binding}
+use Rattle.open_actions.specs.declared.OpenAction.{OpenAction}
 use Rattle.open_actions.proofs.Searching.{binding_full}
 
 -- A task as the code keeps it, and a well-formed state.
@@ -47,39 +45,20 @@ abbrev pub state_in : Task → List ℕ → ℕ → State
 state_in task buffer count = facts_in (task_of task).arities count buffer
 
 -- The answer is the first open action of a schema or a later one.
-pub record SaysFrom (task : Task) (buffer : List ℕ) (count first : ℕ) (r : NextOpen) : Type 0 where
-  pub says : Says (accepted (open_from (task_of task) (state_in task buffer count) first)) r
+pub record SaysFrom (task : Task) (buffer : List ℕ) (count first : ℕ) (r : Optional OpenAction) : Type 0 where
+  pub says : Says (accepted (open_from (task_of task) (state_in task buffer count) first)) (Ok r)
+
+same_ok : {a b : Optional OpenAction} → ◌≡◌ {A = NextOpen} (Ok a) (Ok b) → a ≡ b
+same_ok e = cc
 
 -- an action is not the end
-open_not_end : {C : Type 0} {number parameters : ℕ} → Open number parameters ≡ End → C
-open_not_end e = let z : ◌≡◌ {A = ℕ} 0 1 = cc in absurd (omega arith)
+open_not_end : {C : Type 0} {a : OpenAction} → ◌≡◌ {A = Optional OpenAction} (Some a) None → C
+open_not_end {a = a} e = absurd (none-some a (sym e))
 
-pub pass_start : {arities : List ℕ} {known : ℕ} {schemas : SchemaList} {buffer : List ℕ} {count first : ℕ}
-    → PassedOver arities known schemas buffer count first first
-pass_start = record { started = omega arith; in_list = λ k h l. absurd (omega arith); none_open = λ k h l. absurd (omega arith) }
-
-pub pass_next : {arities : List ℕ} {known : ℕ} {schemas : SchemaList} {buffer : List ℕ} {count first number : ℕ}
-    → PassedOver arities known schemas buffer count first number → number < schemas.count
-    → NoneOpen (query_at arities known schemas buffer count number) (λ y. true)
-    → PassedOver arities known schemas buffer count first (number + 1)
-pass_next {arities} {known} {schemas} {buffer} {count} {first} {number} passed inside closed = record {
-  started = let h = passed.started in omega arith;
-  in_list = λ k h l. omega arith;
-  none_open = λ k h l.
-      by_test (ltb k number)
-      (λ e. passed.none_open k h (ltb-true k number e))
-      (λ e.
-      subst (λ (n : ℕ). NoneOpen (query_at arities known schemas buffer count n) (λ y. true))
-      (let past = ltb-false k number e in let same : number ≡ k = omega arith in same) closed);
-}
-
--- an answer that is no action
-pub no_action : {answer : Answer (Option Action)} {found : Found} {r : NextOpen} → r ≡ record { found = found; objects = padded 6 0 [] }
-    → found_says found (padded 6 0 []) ≡ answer → number_in found ≡ 0 → objects_in answer ≡ [] → Says answer r
+-- the end
+end_said : Says (accepted none) (Ok None)
 unfolding next_open_says
-no_action {answer} is says zero_told empty =
-    subst (Says answer) (sym is)
-    (record { answers = says; counted = zero_told ∙ sym (ap length empty); rest_zero = ap (padded 6 0) (sym empty) })
+end_said = record { answers = refl; counted = λ a is. absurd (none-some a (same_ok is)); rest_zero = λ a is. absurd (none-some a (same_ok is)) }
 
 module _ {task : Task} {buffer : List ℕ} {count : ℕ} (ready : TaskReady task buffer count) where
   abbrev kept : Represented task (task_of task)
@@ -149,34 +128,37 @@ module _ {task : Task} {buffer : List ℕ} {count : ℕ} (ready : TaskReady task
     pub passes_over : NoneOpen query (λ y. true) → open_from t state number ≡ open_from t state (number + 1)
     passes_over none_open = from_next t state number (λ y full. closed none_open y full refl)
 
-    module _ {among : List ℕ → Bool} {r : Binding} (chooses : BindingPicked query among r) where
+    module _ {among : List ℕ → Bool} {array : List ℕ} (chooses : BindingPicked query among (Some array)) where
       abbrev objects : List ℕ
-      objects = take (schema_at t number).parameters r.objects
+      objects = take (schema_at t number).parameters array
 
-      chooses_named : BindingPicked named among r
-      chooses_named = subst (λ (q : Query). BindingPicked q among r) query_is chooses
+      chooses_named : BindingPicked named among (Some array)
+      chooses_named = subst (λ (q : Query). BindingPicked q among (Some array)) query_is chooses
 
-      first_admitted : r.found ≡ true → FirstBinding t.objects (schema_at t number).parameters among (admits (schema_at t number) state) objects
+      first_admitted : FirstBinding t.objects (schema_at t number).parameters among (admits (schema_at t number) state) objects
       unfolding open_binding
-      first_admitted e = chooses_named.found e
+      first_admitted = chooses_named.found array refl
 
       -- the answer with the binding's objects
-      action_said : {result : Option Action} → r.found ≡ true → result ≡ some (action_of number objects)
-          → Says (accepted result) (record { found = Open number chosen.parameters; objects = r.objects })
-      unfolding next_open_says found_says number_in objects_in
-      action_said found e =
-          subst (λ (o : Option Action). Says (accepted o) (record { found = Open number chosen.parameters; objects = r.objects })) (sym e)
+      abbrev pub shown : OpenAction
+      shown = record { schema = number; object_count = chosen.parameters; objects = array }
+
+      binding_said : {result : Option Action} → result ≡ some (action_of number objects) → Says (accepted result) (Ok (Some shown))
+      unfolding next_open_says action_said objects_in
+      binding_said e =
+          subst (λ (o : Option Action). Says (accepted o) (Ok (Some shown))) (sym e)
           (record {
-            answers = ap (λ (n : ℕ). accepted (some (action_of number (take n r.objects)))) parameters_are;
-            counted = parameters_are ∙ sym (first_admitted found).full.one_for_each;
-            rest_zero = chooses_named.rest_zero;
+            answers = ap (λ (n : ℕ). accepted (some (action_of number (take n array)))) parameters_are;
+            counted = λ a is.
+                subst (λ (a : OpenAction). a.object_count ≡ length objects) (same_Some shown a (same_ok is))
+                (parameters_are ∙ sym first_admitted.full.one_for_each);
+            rest_zero = λ a is.
+                subst (λ (a : OpenAction). a.objects ≡ padded 6 0 objects) (same_Some shown a (same_ok is)) (chooses_named.rest_zero array refl);
           })
 
     -- the first open action of this schema
-    pub found_first : {r : Binding} → BindingPicked query (λ y. true) r → r.found ≡ true
-        → SaysFrom task buffer count number (record { found = Open number chosen.parameters; objects = r.objects })
-    found_first chooses e =
-        record { says = action_said chooses e (from_found t state number schema_known _ (first_admitted chooses e)) }
+    pub found_first : {array : List ℕ} (chooses : BindingPicked query (λ y. true) (Some array)) → SaysFrom task buffer count number (Some (shown chooses))
+    found_first chooses = record { says = binding_said chooses (from_found t state number schema_known _ (first_admitted chooses)) }
 
   -- schemas that are passed over
   module _ {first number : ℕ} (passed : PassedOver lent task.objects task.schemas buffer count first number) where
@@ -193,33 +175,31 @@ module _ {task : Task} {buffer : List ℕ} {count : ℕ} (ready : TaskReady task
             (passed.none_open (first + d) (omega arith) (omega arith))
             ∙ ap (open_from t state) (let e : first + d + 1 ≡ first + suc d = omega arith in e)
 
-    pub says_passed : {r : NextOpen} → SaysFrom task buffer count number r → SaysFrom task buffer count first r
+    pub says_passed : {r : Optional OpenAction} → SaysFrom task buffer count number r → SaysFrom task buffer count first r
     says_passed {r} from_number =
-        record { says = subst (λ (o : Option Action). Says (accepted o) r) (sym from_passed) from_number.says }
+        record { says = subst (λ (o : Option Action). Says (accepted o) (Ok r)) (sym from_passed) from_number.says }
 
   -- past the last schema
-  pub says_end : {number : ℕ} {r : NextOpen} → task.schemas.count ≤ number → r ≡ record { found = End; objects = padded 6 0 [] }
-      → SaysFrom task buffer count number r
-  unfolding found_says number_in objects_in
-  says_end {number} {r} past is = record {
+  pub says_end : {number : ℕ} → task.schemas.count ≤ number → SaysFrom task buffer count number None
+  says_end {number} past = record {
     says =
-        subst (λ (o : Option Action). Says (accepted o) r)
-        (sym (from_end t state number (omega (arith, past, schema_count task kept)))) (no_action is refl refl refl);
+        subst (λ (o : Option Action). Says (accepted o) (Ok None))
+        (sym (from_end t state number (omega (arith, past, schema_count task kept)))) end_said;
   }
 
   -- the schemas of the task, and what is found among them
   pub schemas_ready : SchemasReady lent task.objects task.schemas buffer count
   schemas_ready = record { few = schema_below task kept; each = schema_ready }
 
-  pub says_among : {first : ℕ} {r : NextOpen}
+  pub says_among : {first : ℕ} {r : Optional OpenAction}
       → FoundAmong lent task.objects task.schemas buffer count first r ⊎ NoneAmong lent task.objects task.schemas buffer count first r
       → SaysFrom task buffer count first r
   says_among {first} =
       ⊎_elim
       (λ at.
       subst (SaysFrom task buffer count first) (sym at.is)
-      (says_passed at.passed (found_first at.number at.within at.chooses at.found)))
-      (λ ends. says_passed ends.passed (says_end ends.past ends.is))
+      (says_passed at.passed (found_first at.number at.within at.chooses)))
+      (λ ends. subst (SaysFrom task buffer count first) (sym ends.is) (says_passed ends.passed (says_end ends.past)))
 
   -- ---- a given action
 
@@ -252,20 +232,21 @@ module _ {task : Task} {buffer : List ℕ} {count : ℕ} (ready : TaskReady task
       given_within = let h = is_named.schema_known in omega (arith, h, schema_count task kept)
 
       -- the next one of its schema
-      found_next : {r : NextOpen} → FoundAfter (query given.schema given_within) given r → Says (accepted (open_after t state (some given))) r
+      found_next : {r : Optional OpenAction} → FoundAfter (query given.schema given_within) given r
+          → Says (accepted (open_after t state (some given))) (Ok r)
       unfolding query_of schema_of
       found_next at =
-          subst (Says (accepted (open_after t state (some given)))) (sym at.is)
-          (action_said given.schema given_within at.chooses at.found
-          (after_found t state given is_named.schema_known _ (first_admitted given.schema given_within at.chooses at.found)))
+          subst (λ (r : Optional OpenAction). Says (accepted (open_after t state (some given))) (Ok r)) (sym at.is)
+          (binding_said given.schema given_within at.chooses
+          (after_found t state given is_named.schema_known _ (first_admitted given.schema given_within at.chooses)))
 
       -- or else the first of a later one
-      none_next : {r : NextOpen} → NoneAfter (query given.schema given_within) given r
+      none_next : {r : Optional OpenAction} → NoneAfter (query given.schema given_within) given r
           → open_after t state (some given) ≡ open_from t state (given.schema + 1)
       none_next ends = after_past t state given (λ y full after. closed given.schema given_within ends.none_open y full after)
 
     -- an answer that is not the end is the call's
-    pub answered_now : {r : NextOpen} → TaskAnswered r → (r.found ≡ End → ⊥) → Says after_given r
+    pub answered_now : {r : NextOpen} → TaskAnswered r → (r ≡ Ok None → ⊥) → Says after_given r
     answered_now {r} answered not_end =
         ⊎_elim
         (λ refusal.
@@ -273,31 +254,38 @@ module _ {task : Task} {buffer : List ℕ} {count : ℕ} (ready : TaskReady task
         (λ passed.
         let passes = sym checks_same ∙ passed.passes in
         ⊎_elim
-        (λ at. subst (λ (a : Answer (Option Action)). Says a r) (sym (both_accepted _ passes)) (found_next passes at))
-        (λ ends. absurd (not_end (ap (λ (n : NextOpen). n.found) ends.is)))
+        (λ at. subst (λ (a : Answer (Option Action)). Says a r) (sym (both_accepted _ passes)) (subst (Says _) (sym passed.is) (found_next passes at)))
+        (λ ends. absurd (not_end (passed.is ∙ ap Ok ends.is)))
         passed.rest)
         answered
 
+    -- an action is not the end, and what is no action is
+    pub action_now : {r : Optional OpenAction} → TaskAnswered (Ok r) → is_some r ≡ true → Says after_given (Ok r)
+    action_now answered found = answered_now answered (λ e. never (sym found ∙ ap is_some (same_ok e)))
+
+    pub end_now : {r : Optional OpenAction} → TaskAnswered (Ok r) → is_some r ≡ false → TaskAnswered (Ok None)
+    end_now {r = None} answered e = answered
+    end_now {r = Some a} answered e = never e
+
     -- after the end the later schemas are looked at
-    later_left : {r : NextOpen} → TaskAnswered r → r.found ≡ End
-        → (check_action t given ≡ accepted tt) × (open_after t state (some given) ≡ open_from t state (given.schema + 1))
-    unfolding next_open_says found_says
-    later_left {r} answered at_end =
+    later_left : TaskAnswered (Ok None) → (check_action t given ≡ accepted tt) × (open_after t state (some given) ≡ open_from t state (given.schema + 1))
+    unfolding next_open_says
+    later_left answered =
         ⊎_elim
-        (λ refusal. accepted_not_refused (sym (ap (λ (f : Found). found_says f r.objects) at_end) ∙ refusal.says.answers))
+        (λ refusal. accepted_not_refused refusal.says.answers)
         (λ passed.
         let passes = sym checks_same ∙ passed.passes in
         ⊎_elim
-        (λ at. open_not_end (sym (ap (λ (n : NextOpen). n.found) at.is) ∙ at_end))
+        (λ at. open_not_end (sym at.is ∙ sym (same_ok passed.is)))
         (λ ends. (passes, none_next passes ends))
         passed.rest)
         answered
 
-    pub answered_later : {r answer : NextOpen} → TaskAnswered r → r.found ≡ End → SaysFrom task buffer count (given.schema + 1) answer
-        → Says after_given answer
-    answered_later {r} {answer} answered at_end from_next_schema =
-        let (passes, later) = later_left answered at_end in
-        subst (λ (a : Answer (Option Action)). Says a answer) (sym (both_accepted _ passes ∙ ap accepted later)) from_next_schema.says
+    pub answered_later : {answer : Optional OpenAction} → TaskAnswered (Ok None) → SaysFrom task buffer count (given.schema + 1) answer
+        → Says after_given (Ok answer)
+    answered_later {answer} answered from_next_schema =
+        let (passes, later) = later_left answered in
+        subst (λ (a : Answer (Option Action)). Says a (Ok answer)) (sym (both_accepted _ passes ∙ ap accepted later)) from_next_schema.says
 
-    pub given_small : {r : NextOpen} → TaskAnswered r → r.found ≡ End → given.schema < 32
-    given_small answered at_end = schema_below task kept given.schema (given_within (later_left answered at_end).0)
+    pub given_small : TaskAnswered (Ok None) → given.schema < 32
+    given_small answered = schema_below task kept given.schema (given_within (later_left answered).0)

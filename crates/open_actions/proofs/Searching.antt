@@ -8,6 +8,7 @@ use mathlib.Core.List.{List}
 use lib.ListN.{length, get_or, set, length-set}
 use lib.Seq.{get_or-set_same, get_or-set_other, ext_get_or}
 use borrow.Author.Tests.{eq-eqb, eqb-true}
+use Rattle.std.specs.Prelude.{Result, Ok, Err}
 use Rattle.laws.specs.Lists.{distinct, before}
 use Rattle.laws.proofs.Tests.{and_right, and_intro, and_false_left, or_cases, never, by_test}
 use Rattle.laws.proofs.Orders.{compared, before_irreflexive, before_transitive}
@@ -17,8 +18,15 @@ use Rattle.masks.specs.Sets.{is_member, union_of, common_of, single_of}
 use Rattle.masks.proofs.Operations.{union_member, common_member, single_member}
 use Rattle.open_actions.specs.Masked.{Agree, Inside, Begins, StartsFrom, BoundBelow, Covers}
 use Rattle.open_actions.specs.Bindings.{Query, open_binding, Full, Stuck, SearchOutcome, Leaves}
-use Rattle.open_actions.specs.declared.search.Searched.{Searched}
 use Rattle.open_actions.proofs.Choosing.{inside_refl, inside_trans, inside_left, inside_right, both_inside, agree_inside}
+
+-- ---- the two answers of a search
+
+pub same_err : {c d : ℕ} → ◌≡◌ {A = Result (Unit {0}) ℕ} (Err c) (Err d) → c ≡ d
+same_err e = cc
+
+pub no_err : {c : ℕ} → ◌≡◌ {A = Result (Unit {0}) ℕ} (Err c) (Ok tt) → ⊥
+no_err e = cc
 
 -- ---- masks and levels
 
@@ -134,11 +142,11 @@ module _ {q : Query} {bound level o : ℕ} {x : List ℕ} (below : BoundBelow bo
   pub ruled_out :
       {exact : Bool} {c m : ℕ} {after : List ℕ} → Full q after → Begins (level + 1) (set x level o) after → Inside c bound
       → ((y : List ℕ) → Full q y → Agree c x y → get_or y level 0 ≡ o → open_binding q y ≡ false) → m ≡ union_of c (single_of level)
-      → SearchOutcome q exact (union_of bound (single_of level)) (level + 1) 0 (set x level o) after (record { found = false; culprits = m })
+      → SearchOutcome q exact (union_of bound (single_of level)) (level + 1) 0 (set x level o) after (Err m)
   ruled_out {exact} {c} {m} full_after begins in_bound closes joined = record {
     full = full_after;
     begins = begins;
-    stuck = λ finds. record {
+    stuck = λ k e. subst (Stuck q (union_of bound (single_of level)) (level + 1) 0 (set x level o)) (same_err e) (record {
       inside =
           subst (λ (k : ℕ). Inside k (union_of bound (single_of level))) (sym joined)
           (both_inside (inside_trans in_bound (inside_left bound (single_of level))) (inside_right bound (single_of level)));
@@ -146,8 +154,8 @@ module _ {q : Query} {bound level o : ℕ} {x : List ℕ} (below : BoundBelow bo
           let all_agree : Agree (union_of c (single_of level)) (set x level o) y = subst (λ (k : ℕ). Agree k (set x level o) y) joined agrees in
           closes y f (set_agree o below begins_refl in_bound (agree_inside (inside_left c (single_of level)) all_agree))
           (all_agree.same level ((inside_right c (single_of level)).each level (single_in level)) ∙ get_or-set_same x level o 0 inside);
-    };
-    found = λ fails. never (sym fails);
+    });
+    found = λ e. absurd (no_err e);
   }
 
   -- an earlier parameter has the object
@@ -157,9 +165,10 @@ module _ {q : Query} {bound level o : ℕ} {x : List ℕ} (below : BoundBelow bo
       repeated_closes q y less (subst (λ (n : ℕ). level < n) (same_length full f) inside) (agrees.same owner (single_in owner) ∙ has_it ∙ sym here)
 
 -- a search that is stuck says the same whether it is exact or not
-pub stuck_anyway : {q : Query} {sure exact : Bool} {bound level from : ℕ} {x after : List ℕ} {r : Searched} → SearchOutcome q sure bound level from x after r
-    → r.found ≡ false → SearchOutcome q exact bound level from x after r
-stuck_anyway outcome e = record { full = outcome.full; begins = outcome.begins; stuck = outcome.stuck; found = λ finds. never (sym finds ∙ e) }
+pub stuck_anyway : {q : Query} {sure exact : Bool} {bound level from : ℕ} {x after : List ℕ} {r : Result (Unit {0}) ℕ} {c : ℕ}
+    → SearchOutcome q sure bound level from x after r → r ≡ Err c → SearchOutcome q exact bound level from x after r
+stuck_anyway outcome e =
+    record { full = outcome.full; begins = outcome.begins; stuck = outcome.stuck; found = λ finds. absurd (no_err (sym e ∙ finds)) }
 
 -- ---- the objects of a level, one after the other
 
@@ -205,7 +214,7 @@ module _
         (compared (get_or y level 0) o);
   }
 
-  module _ {exact : Bool} {after : List ℕ} {r : Searched}
+  module _ {exact : Bool} {after : List ℕ} {r : Result (Unit {0}) ℕ}
       (outcome : SearchOutcome q exact (union_of bound (single_of level)) (level + 1) 0 (set now level o) after r) where
     reaches_all : {y : List ℕ} → StartsFrom (level + 1) 0 y
     reaches_all = record { from_on = λ h. omega arith }
@@ -217,11 +226,11 @@ module _
     front = begins_below o below trying.begins outcome.begins
 
     -- the first binding of the next level is the first of this one
-    pub try_found : r.found ≡ true → SearchOutcome q exact bound level from x after r
+    pub try_found : r ≡ Ok tt → SearchOutcome q exact bound level from x after r
     try_found finds = record {
       full = outcome.full;
       begins = front;
-      stuck = λ fails. never (sym finds ∙ fails);
+      stuck = λ c fails. absurd (no_err (sym fails ∙ finds));
       found = λ e sure. record {
         open_now = (outcome.found finds sure).open_now;
         reaches = record { from_on = λ h. let s = trying.started in let e = has_object in omega arith };
@@ -241,64 +250,64 @@ module _
       };
     }
 
-    module _ (stops : r.found ≡ false) where
-      stuck : Stuck q (union_of bound (single_of level)) (level + 1) 0 (set now level o) r.culprits
-      stuck = outcome.stuck stops
+    module _ {why : ℕ} (stops : r ≡ Err why) where
+      stuck : Stuck q (union_of bound (single_of level)) (level + 1) 0 (set now level o) why
+      stuck = outcome.stuck why stops
 
       -- a culprit is bound, or it is the level
-      either_way : (p : ℕ) → is_member r.culprits p ≡ true → (is_member bound p ≡ true) ⊎ (level ≡ p)
+      either_way : (p : ℕ) → is_member why p ≡ true → (is_member bound p ≡ true) ⊎ (level ≡ p)
       either_way p m =
           ⊎_elim (λ old. inl old) (λ new. inr (eqb-true level p (sym (single_member level p) ∙ new)))
           (or_cases (is_member bound p) (is_member (single_of level) p) (sym (union_member bound (single_of level) p) ∙ stuck.inside.each p m))
 
       -- the level is no culprit: no other object helps
-      pub try_back : is_member r.culprits level ≡ false → SearchOutcome q exact bound level from x after r
+      pub try_back : is_member why level ≡ false → SearchOutcome q exact bound level from x after r
       try_back innocent = record {
         full = outcome.full;
         begins = front;
-        stuck = λ fails. record {
+        stuck = λ c e. subst (Stuck q bound level from x) (same_err (sym stops ∙ e)) (record {
           inside = others;
           none = λ y f agrees reaches. stuck.none y f (agree_set o below trying.begins others agrees) reaches_all;
-        };
-        found = λ finds. never (sym finds ∙ stops);
+        });
+        found = λ finds. absurd (no_err (sym stops ∙ finds));
       }
         where
-          others : Inside r.culprits bound
+          others : Inside why bound
           others = record {
             each = λ p m.
-                ⊎_elim (λ old. old) (λ (same : level ≡ p). never (sym m ∙ ap (is_member r.culprits) (sym same) ∙ innocent)) (either_way p m);
+                ⊎_elim (λ old. old) (λ (same : level ≡ p). never (sym m ∙ ap (is_member why) (sym same) ∙ innocent)) (either_way p m);
           }
 
       -- the next object
-      pub try_again : {c : ℕ} → c ≡ union_of culprits (common_of r.culprits bound) → Trying q bound level from x after c (o + 1)
+      pub try_again : {c : ℕ} → c ≡ union_of culprits (common_of why bound) → Trying q bound level from x after c (o + 1)
       try_again {c} joined = record {
         full = outcome.full;
         begins = front;
         started = let s = trying.started in omega arith;
         inside = subst (λ (k : ℕ). Inside k bound) (sym joined) (both_inside trying.inside (shared_inside));
         none = λ y f agrees low high.
-            let all_agree : Agree (union_of culprits (common_of r.culprits bound)) x y = subst (λ (k : ℕ). Agree k x y) joined agrees in
+            let all_agree : Agree (union_of culprits (common_of why bound)) x y = subst (λ (k : ℕ). Agree k x y) joined agrees in
             ⊎_elim
-            (λ (less : get_or y level 0 < o). trying.none y f (agree_inside (inside_left culprits (common_of r.culprits bound)) all_agree) low less)
+            (λ (less : get_or y level 0 < o). trying.none y f (agree_inside (inside_left culprits (common_of why bound)) all_agree) low less)
             (⊎_elim
             (λ (here : get_or y level 0 ≡ o).
-            stuck.none y f (at_this y here (agree_inside (inside_right culprits (common_of r.culprits bound)) all_agree)) reaches_all)
+            stuck.none y f (at_this y here (agree_inside (inside_right culprits (common_of why bound)) all_agree)) reaches_all)
             (λ (more : o < get_or y level 0). absurd (omega arith)))
             (compared (get_or y level 0) o);
       }
         where
-          shared_inside : Inside (common_of r.culprits bound) bound
+          shared_inside : Inside (common_of why bound) bound
           shared_inside = record { each = λ p m. shared p m }
             where
-              shared : (p : ℕ) → is_member (common_of r.culprits bound) p ≡ true → is_member bound p ≡ true
-              shared p m = and_right (is_member r.culprits p) (is_member bound p) (sym (common_member r.culprits bound p) ∙ m)
+              shared : (p : ℕ) → is_member (common_of why bound) p ≡ true → is_member bound p ≡ true
+              shared p m = and_right (is_member why p) (is_member bound p) (sym (common_member why bound p) ∙ m)
 
-          at_this : (y : List ℕ) → get_or y level 0 ≡ o → Agree (common_of r.culprits bound) x y → Agree r.culprits (set now level o) y
+          at_this : (y : List ℕ) → get_or y level 0 ≡ o → Agree (common_of why bound) x y → Agree why (set now level o) y
           at_this y here agrees = record {
             same = λ p m.
                 ⊎_elim
                 (λ old.
-                agrees.same p (common_member r.culprits bound p ∙ and_intro (is_member r.culprits p) (is_member bound p) m old)
+                agrees.same p (common_member why bound p ∙ and_intro (is_member why p) (is_member bound p) m old)
                 ∙ sym (set_below o below trying.begins p (below.each p old)))
                 (λ (same : level ≡ p).
                 ap (λ (n : ℕ). get_or y n 0) (sym same) ∙ here ∙ sym (get_or-set_same now level o 0 (level_in trying.full))
@@ -307,42 +316,50 @@ module _
           }
 
   -- every object is tried
-  pub try_end : {exact : Bool} → q.known ≤ o → SearchOutcome q exact bound level from x now (record { found = false; culprits = culprits })
+  pub try_end : {exact : Bool} → q.known ≤ o → SearchOutcome q exact bound level from x now (Err culprits)
   try_end {exact} all_tried = record {
     full = trying.full;
     begins = trying.begins;
-    stuck = λ fails. record {
+    stuck = λ c e. subst (Stuck q bound level from x) (same_err e) (record {
       inside = trying.inside;
       none = λ y f agrees reaches.
           trying.none y f agrees (reaches.from_on (level_in f)) (let h = full_below f level (level_in f) in omega arith);
-    };
-    found = λ finds. never (sym finds);
+    });
+    found = λ finds. absurd (no_err finds);
   }
 
 -- ---- every parameter has its object
 
 module _ {q : Query} {bound : ℕ} {x : List ℕ} (full : Full q x) where
   -- a search that is not exact says nothing of what it finds
-  pub found_anyway : {exact : Bool} {m : ℕ} → exact ≡ false → SearchOutcome q exact bound (length x) 0 x x (record { found = true; culprits = m })
-  found_anyway e = record { full = full; begins = begins_refl; stuck = λ fails. never fails; found = λ finds sure. never (sym sure ∙ e) }
+  pub found_anyway : {exact : Bool} → exact ≡ false → SearchOutcome q exact bound (length x) 0 x x (Ok tt)
+  found_anyway e =
+      record { full = full; begins = begins_refl; stuck = λ c fails. absurd (no_err (sym fails)); found = λ finds sure. never (sym sure ∙ e) }
 
   -- in one that is, the binding decides
-  pub whole : {exact : Bool} {r : Bool} → Covers bound (length x) → r ≡ open_binding q x
-      → SearchOutcome q exact bound (length x) 0 x x (record { found = r; culprits = bound })
-  whole {exact} {r} all_bound decides = record {
+  pub whole_open : {exact : Bool} → open_binding q x ≡ true → SearchOutcome q exact bound (length x) 0 x x (Ok tt)
+  whole_open opened = record {
     full = full;
     begins = begins_refl;
-    stuck = λ fails. record {
-      inside = inside_refl;
-      none = λ y f agrees reaches.
-          ap (open_binding q) (same_binding full f (record { same = λ p h. agrees.same p (all_bound.each p h) })) ∙ sym decides ∙ fails;
-    };
+    stuck = λ c fails. absurd (no_err (sym fails));
     found = λ finds sure. record {
-      open_now = sym decides ∙ finds;
+      open_now = opened;
       reaches = record { from_on = λ h. absurd (omega arith) };
       none_before = λ y f begins reaches earlier.
           never (sym earlier ∙ ap (λ (l : List ℕ). before l x) (same_binding full f begins) ∙ before_irreflexive x);
     };
+  }
+
+  pub whole_closed : {exact : Bool} → Covers bound (length x) → open_binding q x ≡ false → SearchOutcome q exact bound (length x) 0 x x (Err bound)
+  whole_closed all_bound closed = record {
+    full = full;
+    begins = begins_refl;
+    stuck = λ c e. subst (Stuck q bound (length x) 0 x) (same_err e) (record {
+      inside = inside_refl;
+      none = λ y f agrees reaches.
+          ap (open_binding q) (same_binding full f (record { same = λ p h. agrees.same p (all_bound.each p h) })) ∙ closed;
+    });
+    found = λ finds. absurd (no_err finds);
   }
 
 -- ---- the search ends: fewer parameters are left at each call
@@ -354,8 +371,3 @@ deeper x level o e h = let n = length-set x level o in omega arith
 pub at_this_level : (x now : List ℕ) (level : ℕ) {t : ℕ} → 2 * (length x - level) ≡ t → length now ≡ length x → level < length x
     → 2 * (length now - level) - 1 < t
 at_this_level x now level e n h = omega arith
-
--- the binding stays as long
-pub kept_now : {q : Query} {bound level from : ℕ} {x now : List ℕ} {culprits o : ℕ} → Trying q bound level from x now culprits o → Full q x
-    → length now ≡ length x
-kept_now trying full = same_length trying.full full

@@ -49,21 +49,6 @@ module _ {arity : ℕ} (a : Kept) {one : ℕ} (first : one ≡ single_of a.first
         all ∙ ap₂ union_of (both ∙ ap₂ union_of first second) third ∙ sym (cond_false (ltb arity 3) _ _ (le-ltb arity 3 h))
         ∙ sym (cond_false (ltb arity 2) _ _ (le-ltb arity 2 (omega arith)))
 
--- ---- the place of a parameter
-
-module _ {arity parameter : ℕ} {a : Kept} where
-  pub nowhere : PlaceOf arity a parameter 0
-  nowhere = record { at_most = omega arith; has_object = λ shows some. absurd (some refl) }
-
-  pub at_first : 1 ≤ arity → a.first ≡ parameter → PlaceOf arity a parameter 1
-  at_first h e = record { at_most = omega arith; has_object = λ {buffer} {y} shows some. shows.first h ∙ ap (λ (p : ℕ). get_or y p 0) e }
-
-  pub at_second : 2 ≤ arity → a.second ≡ parameter → PlaceOf arity a parameter 2
-  at_second h e = record { at_most = omega arith; has_object = λ {buffer} {y} shows some. shows.second h ∙ ap (λ (p : ℕ). get_or y p 0) e }
-
-  pub at_third : 3 ≤ arity → a.third ≡ parameter → PlaceOf arity a parameter 3
-  at_third h e = record { at_most = omega arith; has_object = λ {buffer} {y} shows some. shows.third h ∙ ap (λ (p : ℕ). get_or y p 0) e }
-
 -- ---- the objects of the rows, one row after the other
 
 -- the number of a row that shows an atom
@@ -139,9 +124,9 @@ module _ {buffer : List ℕ} {i arity parameter bound : ℕ} {a : Kept} {x : Lis
         (compared j i);
   }
 
-  module _ {place : ℕ} (right : PlaceOf arity a parameter place) (some : place ≡ 0 → ⊥) where
+  module _ {place : ℕ} (right : PlaceOf arity a parameter place) where
     object_of : (y : List ℕ) (j : ℕ) → j ≡ i → RowShows buffer j arity a y → get_or buffer (4 * i + place) 0 ≡ get_or y parameter 0
-    object_of y j same shows = right.has_object (subst (λ (k : ℕ). RowShows buffer k arity a y) same shows) some
+    object_of y j same shows = right.has_object (subst (λ (k : ℕ). RowShows buffer k arity a y) same shows)
 
     -- a byte that is no object adds nothing
     pub no_object : 64 ≤ get_or buffer (4 * i + place) 0 → Supported buffer (i + 1) a arity parameter bound x mask

@@ -1,5 +1,5 @@
 -- The bindings of a schema's parameters by objects, and what a search among them says. A parameter is bound if the search has chosen an object for it.
-use Rattle.std.specs.Prelude.{ℕ, ◌≤◌, ◌<◌, ◌≡◌, Bool, true, false, ◌&&◌, List, ltb, length, get_or}
+use Rattle.std.specs.Prelude.{ℕ, ◌≤◌, ◌<◌, ◌≡◌, Bool, true, false, ◌&&◌, List, ltb, length, get_or, Result, Ok, Err}
 use Rattle.laws.specs.Lists.{all, distinct, before}
 use Rattle.model.specs.Card as model
 use Rattle.model.specs.Strips.{State, facts_in, progress}
@@ -9,7 +9,6 @@ use Rattle.card.specs.declared.Schema.{Schema}
 use Rattle.masks.specs.Sets.{is_member}
 use Rattle.strips.specs.Steps.{StateKept, SchemaKept}
 use Rattle.open_actions.specs.Masked.{Agree, Inside, Begins, StartsFrom, BoundBelow, Covers}
-use Rattle.open_actions.specs.declared.search.Searched.{Searched}
 
 -- What is searched: a schema's bindings by so many objects, on a state.
 pub record Query : Type 0 where
@@ -42,11 +41,12 @@ pub record Earliest (q : Query) (level from : ℕ) (x found : List ℕ) : Type 0
   pub none_before : (y : List ℕ) → Full q y → Begins level x y → StartsFrom level from y → before y found ≡ true → open_binding q y ≡ false
 
 -- What a search from a level on answers, and the binding that it leaves. What is found counts only in a search that is exact.
-pub record SearchOutcome (q : Query) (exact : Bool) (bound level from : ℕ) (x after : List ℕ) (r : Searched) : Type 0 where
+pub record SearchOutcome (q : Query) (exact : Bool) (bound level from : ℕ) (x after : List ℕ)
+    (r : Result (Unit {0}) ℕ) : Type 0 where
   pub full : Full q after
   pub begins : Begins level x after
-  pub stuck : r.found ≡ false → Stuck q bound level from x r.culprits
-  pub found : r.found ≡ true → exact ≡ true → Earliest q level from x after
+  pub stuck : (culprits : ℕ) → r ≡ Err culprits → Stuck q bound level from x culprits
+  pub found : r ≡ Ok tt → exact ≡ true → Earliest q level from x after
 
 -- A schema of a checked task, a well-formed state, and a full binding of which the parameters of a mask, all below a level, are bound.
 -- In a search that is exact every parameter below the level is.
@@ -64,8 +64,8 @@ pub record Leaves (q : Query) (bound level : ℕ) (x : List ℕ) (mask culprits 
   pub inside : Inside culprits bound
   pub holds : (y : List ℕ) → Full q y → level < length y → Agree culprits x y → open_binding q y ≡ true → is_member mask (get_or y level 0) ≡ true
 
--- A parameter below a level that is bound to the object, or the level.
-pub record Taken (x : List ℕ) (bound level o r : ℕ) : Type 0 where
-  pub at_most : r ≤ level
-  pub is_bound : r < level → is_member bound r ≡ true
-  pub has_object : r < level → get_or x r 0 ≡ o
+-- A parameter below a level that is bound to the object.
+pub record Taken (x : List ℕ) (bound level o p : ℕ) : Type 0 where
+  pub below : p < level
+  pub is_bound : is_member bound p ≡ true
+  pub has_object : get_or x p 0 ≡ o

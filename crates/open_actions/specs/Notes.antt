@@ -1,11 +1,10 @@
 -- What is noted of the search, so that it is not searched again: at each place seven bytes, a mask of culprits and then the objects of the
 -- parameters. And the search with notes.
-use Rattle.std.specs.Prelude.{ℕ, ◌+◌, ◌*◌, ◌≤◌, ◌<◌, ◌≡◌, Bool, true, false, List, length, get_or}
+use Rattle.std.specs.Prelude.{ℕ, ◌+◌, ◌*◌, ◌≤◌, ◌<◌, ◌≡◌, Bool, true, false, List, length, get_or, Result}
 use Rattle.card.specs.declared.Schema.{Schema}
 use Rattle.masks.specs.Sets.{is_member}
 use Rattle.open_actions.specs.Masked.{Inside}
 use Rattle.open_actions.specs.Bindings.{Query, query_of, open_binding, Full, Searchable, SearchOutcome}
-use Rattle.open_actions.specs.declared.search.Searched.{Searched}
 
 -- the culprits that are noted at a place, and the object of a parameter; past the end of the table there are none
 unfoldable pub culprits_at : List ℕ → ℕ → ℕ
@@ -20,11 +19,12 @@ pub record Notes (q : Query) (notes : List ℕ) : Type 0 where
       (place : ℕ) → (culprits_at notes place ≡ 0 → ⊥) → (y : List ℕ) → Full q y
       → ((p : ℕ) → p < 6 → is_member (culprits_at notes place) p ≡ true → get_or y p 0 ≡ object_at notes place p) → open_binding q y ≡ false
 
--- The culprits of a note that speaks of the binding: they are bound, and the binding has the noted objects at them. None say nothing.
-pub record Recalled (notes : List ℕ) (place bound : ℕ) (x : List ℕ) (r : ℕ) : Type 0 where
-  pub noted : (r ≡ 0 → ⊥) → culprits_at notes place ≡ r
-  pub inside : Inside r bound
-  pub same : (p : ℕ) → p < length x → is_member r p ≡ true → get_or x p 0 ≡ object_at notes place p
+-- The culprits of a note that speaks of the binding: there are some, they are bound, and the binding has the noted objects at them.
+pub record Recalled (notes : List ℕ) (place bound : ℕ) (x : List ℕ) (culprits : ℕ) : Type 0 where
+  pub some : culprits ≡ 0 → ⊥
+  pub noted : culprits_at notes place ≡ culprits
+  pub inside : Inside culprits bound
+  pub same : (p : ℕ) → p < length x → is_member culprits p ≡ true → get_or x p 0 ≡ object_at notes place p
 
 -- Culprits, which are parameters, are noted at a place with a binding's objects; the other notes are as before.
 pub record Noted (old new : List ℕ) (place culprits : ℕ) (x : List ℕ) : Type 0 where
@@ -53,6 +53,6 @@ pub record Descends (arities : List ℕ) (known : ℕ) (schema : Schema) (buffer
   pub true_notes : Notes (query_of arities known schema buffer count) notes
 
 -- What either answers.
-pub record Concludes (q : Query) (exact : Bool) (bound level from : ℕ) (x after old new : List ℕ) (r : Searched) : Type 0 where
+pub record Concludes (q : Query) (exact : Bool) (bound level from : ℕ) (x after old new : List ℕ) (r : Result (Unit {0}) ℕ) : Type 0 where
   pub outcome : SearchOutcome q exact bound level from x after r
   pub notes_kept : KeepsNotes q old new

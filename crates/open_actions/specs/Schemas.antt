@@ -1,5 +1,5 @@
 -- What is relied on and what is answered by the search among the bindings of a schema and over the schemas of a task.
-use Rattle.std.specs.Prelude.{ℕ, ◌≤◌, ◌<◌, ◌≡◌, Bool, true, false, ◌⊎◌, List, [], ltb, get_or, take}
+use Rattle.std.specs.Prelude.{ℕ, ◌≤◌, ◌<◌, ◌≡◌, Bool, true, false, ◌⊎◌, List, [], ltb, get_or, take, Option as Optional, Some, None, Ok}
 use Rattle.laws.specs.Lists.{padded, before}
 use Rattle.model.specs.Answer.{Answer, refused, accepted, ◌>>◌, need}
 use Rattle.model.specs.Strips.{Action, check_objects}
@@ -10,10 +10,8 @@ use Rattle.card.specs.declared.SchemaList.{SchemaList}
 use Rattle.strips.specs.Steps.{StateKept, SchemaKept}
 use Rattle.open_actions.specs.Bindings.{Query, query_of, open_binding, Full}
 use Rattle.open_actions.specs.Notes.{Notes}
-use Rattle.open_actions.specs.Answers.{Says}
-use Rattle.open_actions.specs.declared.Found.TheVariants.{Action as Open, End}
-use Rattle.open_actions.specs.declared.NextOpen.{NextOpen}
-use Rattle.open_actions.specs.declared.schemas.Binding.{Binding}
+use Rattle.open_actions.specs.Answers.{NextOpen, Says}
+use Rattle.open_actions.specs.declared.OpenAction.{OpenAction}
 
 -- A schema of a checked task, which has an object, and a well-formed state.
 pub record SchemaReady (arities : List ℕ) (known : ℕ) (schema : Schema) (buffer : List ℕ) (count : ℕ) : Type 0 where
@@ -55,10 +53,10 @@ pub record Picks (q : Query) (among : List ℕ → Bool) (after : List ℕ) (r :
   pub none : r ≡ false → NoneOpen q among
 
 -- The same with the binding in an array, whose places past the parameters are 0.
-pub record BindingPicked (q : Query) (among : List ℕ → Bool) (r : Binding) : Type 0 where
-  pub rest_zero : r.objects ≡ padded 6 0 (take q.schema.parameters r.objects)
-  pub found : r.found ≡ true → FirstOpen q among (take q.schema.parameters r.objects)
-  pub none : r.found ≡ false → NoneOpen q among
+pub record BindingPicked (q : Query) (among : List ℕ → Bool) (r : Optional (List ℕ)) : Type 0 where
+  pub rest_zero : (objects : List ℕ) → r ≡ Some objects → objects ≡ padded 6 0 (take q.schema.parameters objects)
+  pub found : (objects : List ℕ) → r ≡ Some objects → FirstOpen q among (take q.schema.parameters objects)
+  pub none : r ≡ None → NoneOpen q among
 
 -- what a read past an array of schemas would give
 abbrev pub unset : Schema
@@ -85,33 +83,31 @@ pub record SchemasReady (arities : List ℕ) (known : ℕ) (schemas : SchemaList
   pub each : (k : ℕ) → k < schemas.count → SchemaReady arities known (get_or schemas.schemas k unset) buffer count
 
 -- Its answer: the first open binding of the first schema that has one, or the end.
-pub record FoundAmong (arities : List ℕ) (known : ℕ) (schemas : SchemaList) (buffer : List ℕ) (count first : ℕ) (r : NextOpen) : Type 0 where
+pub record FoundAmong (arities : List ℕ) (known : ℕ) (schemas : SchemaList) (buffer : List ℕ) (count first : ℕ) (r : Optional OpenAction) : Type 0 where
   pub number : ℕ
   pub passed : PassedOver arities known schemas buffer count first number
   pub within : number < schemas.count
-  pub binding : Binding
-  pub chooses : BindingPicked (query_at arities known schemas buffer count number) (λ y. true) binding
-  pub found : binding.found ≡ true
-  pub is : r ≡ record { found = Open number (get_or schemas.schemas number unset).parameters; objects = binding.objects }
+  pub objects : List ℕ
+  pub chooses : BindingPicked (query_at arities known schemas buffer count number) (λ y. true) (Some objects)
+  pub is : r ≡ Some (record { schema = number; object_count = (get_or schemas.schemas number unset).parameters; objects = objects })
 
-pub record NoneAmong (arities : List ℕ) (known : ℕ) (schemas : SchemaList) (buffer : List ℕ) (count first : ℕ) (r : NextOpen) : Type 0 where
+pub record NoneAmong (arities : List ℕ) (known : ℕ) (schemas : SchemaList) (buffer : List ℕ) (count first : ℕ) (r : Optional OpenAction) : Type 0 where
   pub number : ℕ
   pub passed : PassedOver arities known schemas buffer count first number
   pub past : schemas.count ≤ number
-  pub is : r ≡ record { found = End; objects = padded 6 0 [] }
+  pub is : r ≡ None
 
 -- The answer within the schema of a given action: its first open binding after the given one, or the end where it has none.
-pub record FoundAfter (q : Query) (given : Action) (r : NextOpen) : Type 0 where
-  pub binding : Binding
-  pub chooses : BindingPicked q (before given.objects) binding
-  pub found : binding.found ≡ true
-  pub is : r ≡ record { found = Open given.schema q.schema.parameters; objects = binding.objects }
+pub record FoundAfter (q : Query) (given : Action) (r : Optional OpenAction) : Type 0 where
+  pub objects : List ℕ
+  pub chooses : BindingPicked q (before given.objects) (Some objects)
+  pub is : r ≡ Some (record { schema = given.schema; object_count = q.schema.parameters; objects = objects })
 
-pub record NoneAfter (q : Query) (given : Action) (r : NextOpen) : Type 0 where
+pub record NoneAfter (q : Query) (given : Action) (r : Optional OpenAction) : Type 0 where
   pub none_open : NoneOpen q (before given.objects)
-  pub is : r ≡ record { found = End; objects = padded 6 0 [] }
+  pub is : r ≡ None
 
-abbrev pub RestOfSchema : Query → Action → NextOpen → Type 0
+abbrev pub RestOfSchema : Query → Action → Optional OpenAction → Type 0
 RestOfSchema q given r = FoundAfter q given r ⊎ NoneAfter q given r
 
 -- 16 to 18 of an action, by the schemas of a list
@@ -128,7 +124,9 @@ pub record GivenRefused (arities : List ℕ) (known : ℕ) (schemas : SchemaList
 
 pub record GivenPassed (arities : List ℕ) (known : ℕ) (schemas : SchemaList) (buffer : List ℕ) (count : ℕ) (given : Action) (r : NextOpen) : Type 0 where
   pub passes : check_listed arities known schemas given ≡ accepted tt
-  pub rest : RestOfSchema (query_at arities known schemas buffer count given.schema) given r
+  pub answer : Optional OpenAction
+  pub rest : RestOfSchema (query_at arities known schemas buffer count given.schema) given answer
+  pub is : r ≡ Ok answer
 
 abbrev pub GivenAnswered : List ℕ → ℕ → SchemaList → List ℕ → ℕ → Action → NextOpen → Type 0
 GivenAnswered arities known schemas buffer count given r =

@@ -13,7 +13,6 @@ use Rattle.masks.specs.Sets.{is_member, union_of, single_of}
 use Rattle.state.specs.Rows.{row_number, row_at, RowsAscend}
 use Rattle.open_actions.specs.Masked.{Agree, Inside}
 use Rattle.open_actions.specs.declared.support.Support.{Support}
-use Rattle.open_actions.specs.declared.room.Crowding.{Crowding}
 
 -- Row i of a buffer holds the fact that an atom becomes with a binding's objects.
 pub record RowShows (buffer : List ℕ) (i arity : ℕ) (a : Atom) (y : List ℕ) : Type 0 where
@@ -38,10 +37,10 @@ parameters_of arity a =
     let two = union_of one (single_of a.second) in
     cond (ltb arity 2) one (cond (ltb arity 3) two (union_of two (single_of a.third)))
 
--- The place of a parameter in an atom, 1 to 3: a row that shows the atom has the parameter's object there. 0 says nothing.
-pub record PlaceOf (arity : ℕ) (a : Atom) (parameter r : ℕ) : Type 0 where
-  pub at_most : r ≤ 3
-  pub has_object : {buffer y : List ℕ} {i : ℕ} → RowShows buffer i arity a y → (r ≡ 0 → ⊥) → get_or buffer (4 * i + r) 0 ≡ get_or y parameter 0
+-- The place of a parameter in an atom, 1 to 3: a row that shows the atom has the parameter's object there.
+pub record PlaceOf (arity : ℕ) (a : Atom) (parameter k : ℕ) : Type 0 where
+  pub at_most : k ≤ 3
+  pub has_object : {buffer y : List ℕ} {i : ℕ} → RowShows buffer i arity a y → get_or buffer (4 * i + k) 0 ≡ get_or y parameter 0
 
 -- A row that shows the atom with a binding that has the bound objects has a number from the least one on and below the other one.
 pub record Ranges (arity : ℕ) (a : Atom) (bound : ℕ) (x : List ℕ) (least past : ℕ) : Type 0 where
@@ -108,18 +107,18 @@ pub record LeavesSupports (arities : List ℕ) (l : AtomList) (buffer : List ℕ
 
 -- The object leaves too little room: whatever is true of each atom without the object, if its linked parameters are among the culprits,
 -- is true of more than `room` atoms.
-pub record Crowds (s : List Support) (adds room o : ℕ) (r : Crowding) : Type 0 where
-  pub inside : (bound : ℕ) → ((i : ℕ) → i < adds → Inside (support_at s i).linked bound) → Inside r.culprits bound
+pub record Crowds (s : List Support) (room o culprits : ℕ) : Type 0 where
+  pub inside : (bound : ℕ) → ((i : ℕ) → i < length s → Inside (support_at s i).linked bound) → Inside culprits bound
   pub many :
-      r.crowded ≡ true → (test : ℕ → Bool)
-      → ((i : ℕ) → i < adds → Inside (support_at s i).linked r.culprits → is_member (support_at s i).mask o ≡ false → test i ≡ true)
-      → room < counted test (up_to adds)
+      (test : ℕ → Bool)
+      → ((i : ℕ) → i < length s → Inside (support_at s i).linked culprits → is_member (support_at s i).mask o ≡ false → test i ≡ true)
+      → room < counted test (up_to (length s))
 
 -- Of some candidates, those that leave room: a candidate that is missing leaves too little, because of the culprits.
-pub record LeavesRoom (mask culprits : ℕ) (s : List Support) (adds room known left why : ℕ) : Type 0 where
+pub record LeavesRoom (mask culprits : ℕ) (s : List Support) (room known left why : ℕ) : Type 0 where
   pub more : Inside culprits why
-  pub inside : (bound : ℕ) → Inside culprits bound → ((i : ℕ) → i < adds → Inside (support_at s i).linked bound) → Inside why bound
+  pub inside : (bound : ℕ) → Inside culprits bound → ((i : ℕ) → i < length s → Inside (support_at s i).linked bound) → Inside why bound
   pub crowded :
       (o : ℕ) → o < known → is_member mask o ≡ true → is_member left o ≡ false → (test : ℕ → Bool)
-      → ((i : ℕ) → i < adds → Inside (support_at s i).linked why → is_member (support_at s i).mask o ≡ false → test i ≡ true)
-      → room < counted test (up_to adds)
+      → ((i : ℕ) → i < length s → Inside (support_at s i).linked why → is_member (support_at s i).mask o ≡ false → test i ≡ true)
+      → room < counted test (up_to (length s))

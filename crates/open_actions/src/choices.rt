@@ -40,5 +40,5 @@ pub(crate) fn choices_for(
         return left;
     }
     let supports = supports_for(new, arities, state, count, level, bound, objects);
-    with_room(left, supports, adds, room, known)
+    with_room(left, &supports[..adds], room, known)
 }

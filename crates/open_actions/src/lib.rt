@@ -9,12 +9,12 @@ mod schemas;
 mod search;
 mod support;
 
-ghost use Rattle.std.specs.Prelude.{[], ◌≡◌};
-ghost use Rattle.laws.specs.Lists.{padded};
+ghost use Rattle.std.specs.Prelude.{◌≡◌};
 ghost use Rattle.model.specs.Open.{next_open_of, next_open};
 ghost use Rattle.card.specs.Represents.{task_of, Represented};
 ghost use Rattle.open_actions.specs.Answers.{given_of, Says};
 ghost use Rattle.open_actions.specs.Schemas.{SchemasReady, GivenAnswered};
+ghost use Rattle.open_actions.specs.declared.OpenRefusal.TheVariants.{Card};
 
 use crate::schemas::{open_among, rest_of_schema};
 use actions::{MOST_PARAMETERS, all_different, all_known};
@@ -22,40 +22,29 @@ use card::{Refusal, SchemaList, Task, Verdict};
 use reader::decode;
 use state::well_formed;
 
-// The action after which the next one is asked for: its schema, the objects being lent beside it. With none given they are not looked at.
+// An open action: its schema, and as many objects as the schema has parameters. The places past them are 0.
 #[derive(Clone, Copy)]
-pub enum Given {
-    Nothing,
-    Action(usize),
+pub struct OpenAction {
+    pub schema: usize,
+    pub object_count: usize,
+    pub objects: [u8; MOST_PARAMETERS],
 }
 
-// What the call answers: the schema and the number of objects of the next open action, the end, or why not. A refusal of the card is
-// handed through.
+// Why there is no answer. A refusal of the card is handed through.
 #[derive(Clone, Copy)]
-pub enum Found {
-    Action(usize, usize),
-    End,
-    CardRefused(Refusal),
+pub enum OpenRefusal {
+    Card(Refusal),
     StateMalformed,
     SchemaUnknown,
     ObjectsWrong,
     ObjectsRepeated,
 }
 
-// The objects of the action stand beside the answer, since an enum holds no array. Those past their number are 0.
-#[derive(Clone, Copy)]
-pub struct NextOpen {
-    pub found: Found,
-    pub objects: [u8; MOST_PARAMETERS],
-}
+impl From<Refusal> for OpenRefusal {
+    ghost from_gives = { λ refusal e. e ≡ Card refusal };
 
-// An answer that is no action.
-pub(crate) fn without_action(found: Found) -> NextOpen
-    ensures { result ≡ record { found = found; objects = padded 6 0 [] } }
-{
-    NextOpen {
-        found,
-        objects: [0; MOST_PARAMETERS],
+    fn from(refusal: Refusal) -> OpenRefusal {
+        OpenRefusal::Card(refusal)
     }
 }
 
@@ -68,78 +57,71 @@ fn after_given(
     count: usize,
     number: usize,
     objects: &[u8],
-) -> NextOpen
+) -> Result<Option<OpenAction>, OpenRefusal>
     requires { SchemasReady arities.now known schemas state.now count }
     ensures { GivenAnswered arities.now known schemas state.now count (record { schema = number; objects = objects.now }) result }
 {
-    let schema_count = schemas.count;
-    if schema_count <= number {
-        return without_action(Found::SchemaUnknown);
+    if schemas.count <= number {
+        return Err(OpenRefusal::SchemaUnknown);
     }
     let schema = schemas.schemas[number];
-    let parameters = schema.parameters;
-    if objects.len() != parameters {
-        return without_action(Found::ObjectsWrong);
-    }
-    if !all_known(objects, known) {
-        return without_action(Found::ObjectsWrong);
+    if objects.len() != schema.parameters || !all_known(objects, known) {
+        return Err(OpenRefusal::ObjectsWrong);
     }
     if !all_different(objects) {
-        return without_action(Found::ObjectsRepeated);
+        return Err(OpenRefusal::ObjectsRepeated);
     }
-    rest_of_schema(schema, arities, known, state, count, number, objects)
+    let rest = rest_of_schema(schema, arities, known, state, count, number, objects);
+    Ok(rest)
 }
 
 // 15 to 18, for a task: the state first, then the given action and the rest of its schema, then the later schemas; with none given all
 // schemas.
-fn next_open_of(task: Task, state: &[u8], count: usize, given: Given, objects: &[u8]) -> NextOpen
+fn next_open_of(
+    task: Task,
+    state: &[u8],
+    count: usize,
+    given: Option<usize>,
+    objects: &[u8],
+) -> Result<Option<OpenAction>, OpenRefusal>
     requires { Represented task (task_of task) }
     ensures { Says (next_open_of (task_of task) state.now count (given_of given objects.now)) result }
 {
     let predicates = task.predicates;
-    let predicate_count = predicates.count;
-    let arities = predicates.arities;
+    let arities = &predicates.arities[0..predicates.count];
     let known = task.objects;
-    if !well_formed(state, count, &arities[0..predicate_count], known) {
-        return without_action(Found::StateMalformed);
+    if !well_formed(state, count, arities, known) {
+        return Err(OpenRefusal::StateMalformed);
     }
     let schemas = task.schemas;
     let mut first = 0;
-    if let Given::Action(number) = given {
-        let next = after_given(
-            schemas,
-            &arities[0..predicate_count],
-            known,
-            state,
-            count,
-            number,
-            objects,
-        );
-        let found = next.found;
-        let Found::End = found else {
-            return next;
-        };
+    if let Some(number) = given {
+        let next = after_given(schemas, arities, known, state, count, number, objects)?;
+        if next.is_some() {
+            return Ok(next);
+        }
         first = number + 1;
     }
-    open_among(
-        schemas,
-        &arities[0..predicate_count],
-        known,
-        state,
-        count,
-        first,
-    )
+    let later = open_among(schemas, arities, known, state, count, first);
+    Ok(later)
 }
 
-// The next open action of a card's task in a state, after the given one or, with none given, the first of all. What is lent is only read.
-pub fn next_open(card: &[u8], state: &[u8], count: usize, given: Given, objects: &[u8]) -> NextOpen
+// The next open action of a card's task in a state, after the one given by its schema and the objects lent beside it or, with none given,
+// the first of all; none at the end. What is lent is only read, and the objects are not looked at with none given.
+pub fn next_open(
+    card: &[u8],
+    state: &[u8],
+    count: usize,
+    given: Option<usize>,
+    objects: &[u8],
+) -> Result<Option<OpenAction>, OpenRefusal>
     ensures { Says (next_open card.now state.now count (given_of given objects.now)) result }
 {
     let decoded = decode(card);
     let verdict = decoded.verdict;
     let task = decoded.task;
     match verdict {
-        Verdict::Refused(refusal) => without_action(Found::CardRefused(refusal)),
+        Verdict::Refused(refusal) => Err(OpenRefusal::from(refusal)),
         Verdict::Accepted => next_open_of(task, state, count, given, objects),
     }
 }

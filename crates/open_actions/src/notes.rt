@@ -1,41 +1,40 @@
 // What the search has found to be stuck, noted so that it is not searched again. Each object of each level has a place of seven bytes: a
 // mask of culprits, then the objects of the parameters at the time. No culprits mean that nothing is noted, and so does a place past the
 // end of the table, which may have any length.
-ghost use Rattle.std.specs.Prelude.{◌⊎◌, ◌≡◌, ◌≤◌, length};
+ghost use Rattle.std.specs.Prelude.{◌⊎◌, ◌≡◌, ◌≤◌, length, IfSome};
 ghost use Rattle.open_actions.specs.Notes.{Recalled, Noted};
 
-use masks::{all_below, common, is_member};
+use masks::{all_below, common, is_empty, is_member};
 
 // The bytes of a place; those of all places, for 6 parameters and 64 objects.
 const NOTE: usize = 7;
 
 pub(crate) const NOTES: usize = 2688;
 
-// The culprits that are noted at a place, if they are among the bound parameters and these have the objects of the note; or else none.
-pub(crate) fn recall(notes: &[u8], place: usize, bound: u64, objects: &[u8]) -> u64
+// The culprits that are noted at a place, if they are among the bound parameters and these have the objects of the note; or else nothing.
+pub(crate) fn recall(notes: &[u8], place: usize, bound: u64, objects: &[u8]) -> Option<u64>
     requires { (place ≤ 383) × (length objects.now ≤ 6) }
-    ensures { Recalled notes.now place bound objects.now result }
+    ensures { IfSome result (λ c. Recalled notes.now place bound objects.now c) }
 {
     let first = NOTE * place;
     if notes.len() < first + NOTE {
-        return 0;
+        return None;
     }
-    let culprits = notes[first] as u64;
+    let culprits = u64::from(notes[first]);
+    if is_empty(culprits) {
+        return None;
+    }
     if common(culprits, bound) != culprits {
-        return 0;
+        return None;
     }
-    let mut p = 0;
-    while p < objects.len() {
-        if !is_member(culprits, p) {
-            p = p + 1;
-            continue;
+    for (p, o) in objects.iter().enumerate() {
+        if is_member(culprits, p) {
+            if *o != notes[first + 1 + p] {
+                return None;
+            }
         }
-        if objects[p] != notes[first + 1 + p] {
-            return 0;
-        }
-        p = p + 1;
     }
-    culprits
+    Some(culprits)
 }
 
 // The culprits are noted at a place, with the objects, if the table reaches so far.
@@ -47,11 +46,8 @@ pub(crate) fn note(notes: &mut [u8], place: usize, culprits: u64, objects: &[u8]
     if notes.len() < first + NOTE {
         return;
     }
-    let mut p = 0;
-    while p < objects.len() {
-        notes[first + 1 + p] = objects[p];
-        p = p + 1;
-    }
+    let from = first + 1;
+    notes[from..from + objects.len()].copy_from_slice(objects);
     let few = common(culprits, all_below(6));
     notes[first] = few as u8;
 }

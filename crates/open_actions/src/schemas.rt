@@ -6,9 +6,9 @@ ghost use Rattle.open_actions.specs.Notes.{Notes, KeepsNotes};
 ghost use Rattle.open_actions.specs.Schemas.{SchemaReady, BindingReady, NotesReady, SchemasReady};
 ghost use Rattle.open_actions.specs.Schemas.{FitTested, MayFit, Picks, BindingPicked, FoundAmong, NoneAmong, RestOfSchema};
 
+use crate::OpenAction;
 use crate::notes::NOTES;
 use crate::search::search;
-use crate::{Found, NextOpen, without_action};
 use actions::{MOST_PARAMETERS, in_front};
 use card::{Schema, SchemaList};
 use masks::all_below;
@@ -16,13 +16,6 @@ use masks::all_below;
 // Where parameters times objects are no more than these the bindings are few: nothing is noted, and the last parameters are not tested
 // before the search.
 const FEW: usize = 24;
-
-// A binding, or none; the places past the parameters are 0.
-#[derive(Clone, Copy)]
-struct Binding {
-    found: bool,
-    objects: [u8; MOST_PARAMETERS],
-}
 
 // The last parameters alone: false if no objects for the parameters from some level on fit together, whatever the earlier ones are.
 // Then no binding is open. Levels 0 and 1 are left to the search itself.
@@ -39,17 +32,16 @@ fn last_parameters_fit(
     ensures { FitTested (query_of arities.now known schema state.now count) objects.new result
         × KeepsNotes (query_of arities.now known schema state.now count) notes.old notes.new }
 {
-    let mut first = objects.len();
-    if first * known <= FEW {
+    let parameters = objects.len();
+    if parameters * known <= FEW {
         return true;
     }
-    while 2 < first {
-        first = first - 1;
+    for first in (2..parameters).rev() {
         let bound = 0u64;
         let searched = search(
             schema, arities, known, state, count, false, bound, first, 0, objects, notes,
         );
-        if !searched.found {
+        if searched.is_err() {
             return false;
         }
     }
@@ -77,7 +69,7 @@ fn may_fit(
         known,
         state,
         count,
-        &mut trial[0..parameters],
+        &mut trial[..parameters],
         notes,
     )
 }
@@ -103,7 +95,7 @@ fn first_binding(
     let searched = search(
         schema, arities, known, state, count, true, 0, 0, from, objects, notes,
     );
-    searched.found
+    searched.is_ok()
 }
 
 // The first open binding after the one in the lent objects, left there. Where the last parameters fit, it is looked for by the last
@@ -125,52 +117,40 @@ fn next_binding(
     if !may_fit(schema, arities, known, state, count, notes) {
         return false;
     }
-    let mut level = objects.len();
-    while 0 < level {
-        level = level - 1;
-        let from = objects[level] as usize + 1;
+    for level in (0..objects.len()).rev() {
+        let from = usize::from(objects[level]) + 1;
         let bound = all_below(level);
         let searched = search(
             schema, arities, known, state, count, true, bound, level, from, objects, notes,
         );
-        if searched.found {
+        if searched.is_ok() {
             return true;
         }
     }
     false
 }
 
-// The first open binding of a schema.
-fn first_of(schema: Schema, arities: &[u8], known: usize, state: &[u8], count: usize) -> Binding
+// The first open binding of a schema. The places past the parameters are 0.
+fn first_of(
+    schema: Schema,
+    arities: &[u8],
+    known: usize,
+    state: &[u8],
+    count: usize,
+) -> Option<[u8; MOST_PARAMETERS]>
     requires { SchemaReady arities.now known schema state.now count }
     ensures { BindingPicked (query_of arities.now known schema state.now count) (λ y. true) result }
 {
     let parameters = schema.parameters;
     let mut objects = [0; MOST_PARAMETERS];
-    if parameters * known <= FEW {
-        let mut none = [0u8; 1];
-        let found = first_binding(
-            schema,
-            arities,
-            known,
-            state,
-            count,
-            &mut objects[0..parameters],
-            &mut none,
-        );
-        return Binding { found, objects };
-    }
-    let mut notes = [0u8; NOTES];
-    let found = first_binding(
-        schema,
-        arities,
-        known,
-        state,
-        count,
-        &mut objects[0..parameters],
-        &mut notes,
-    );
-    Binding { found, objects }
+    let bound = &mut objects[..parameters];
+    let found = if parameters * known <= FEW {
+        first_binding(schema, arities, known, state, count, bound, &mut [])
+    } else {
+        let mut notes = [0u8; NOTES];
+        first_binding(schema, arities, known, state, count, bound, &mut notes)
+    };
+    if found { Some(objects) } else { None }
 }
 
 // The first open binding of a schema after a given one.
@@ -181,39 +161,23 @@ fn next_of(
     state: &[u8],
     count: usize,
     given: &[u8],
-) -> Binding
+) -> Option<[u8; MOST_PARAMETERS]>
     requires { BindingReady arities.now known schema state.now count given.now }
     ensures { BindingPicked (query_of arities.now known schema state.now count) (before given.now) result }
 {
     let parameters = schema.parameters;
     let mut objects = in_front(given);
-    if parameters * known <= FEW {
-        let mut none = [0u8; 1];
-        let found = next_binding(
-            schema,
-            arities,
-            known,
-            state,
-            count,
-            &mut objects[0..parameters],
-            &mut none,
-        );
-        return Binding { found, objects };
-    }
-    let mut notes = [0u8; NOTES];
-    let found = next_binding(
-        schema,
-        arities,
-        known,
-        state,
-        count,
-        &mut objects[0..parameters],
-        &mut notes,
-    );
-    Binding { found, objects }
+    let bound = &mut objects[..parameters];
+    let found = if parameters * known <= FEW {
+        next_binding(schema, arities, known, state, count, bound, &mut [])
+    } else {
+        let mut notes = [0u8; NOTES];
+        next_binding(schema, arities, known, state, count, bound, &mut notes)
+    };
+    if found { Some(objects) } else { None }
 }
 
-// The first open action of a schema of a list or of a later one.
+// The first open action of a schema of a list or of a later one, if there is one.
 pub(crate) fn open_among(
     schemas: SchemaList,
     arities: &[u8],
@@ -221,30 +185,26 @@ pub(crate) fn open_among(
     state: &[u8],
     count: usize,
     first: usize,
-) -> NextOpen
+) -> Option<OpenAction>
     requires { SchemasReady arities.now known schemas state.now count }
     ensures { FoundAmong arities.now known schemas state.now count first result
         ⊎ NoneAmong arities.now known schemas state.now count first result }
 {
-    let schema_count = schemas.count;
-    let mut number = first;
-    while number < schema_count {
+    for number in first..schemas.count {
         let schema = schemas.schemas[number];
-        let binding = first_of(schema, arities, known, state, count);
-        if binding.found {
-            let parameters = schema.parameters;
-            let objects = binding.objects;
-            return NextOpen {
-                found: Found::Action(number, parameters),
+        if let Some(objects) = first_of(schema, arities, known, state, count) {
+            let object_count = schema.parameters;
+            return Some(OpenAction {
+                schema: number,
+                object_count,
                 objects,
-            };
+            });
         }
-        number = number + 1;
     }
-    without_action(Found::End)
+    None
 }
 
-// The next open action of a schema after a given binding of it, or the end where the schema has none.
+// The next open action of a schema after a given binding of it, if the schema has one.
 pub(crate) fn rest_of_schema(
     schema: Schema,
     arities: &[u8],
@@ -253,16 +213,14 @@ pub(crate) fn rest_of_schema(
     count: usize,
     number: usize,
     given: &[u8],
-) -> NextOpen
+) -> Option<OpenAction>
     requires { BindingReady arities.now known schema state.now count given.now }
     ensures { RestOfSchema (query_of arities.now known schema state.now count) (record { schema = number; objects = given.now }) result }
 {
-    let binding = next_of(schema, arities, known, state, count, given);
-    if !binding.found {
-        return without_action(Found::End);
-    }
-    let parameters = schema.parameters;
-    let objects = binding.objects;
-    let found = Found::Action(number, parameters);
-    NextOpen { found, objects }
+    let objects = next_of(schema, arities, known, state, count, given)?;
+    Some(OpenAction {
+        schema: number,
+        object_count: schema.parameters,
+        objects,
+    })
 }

@@ -1,5 +1,5 @@
 // The search for the first open binding of a schema: parameter by parameter, each by the objects in their order.
-ghost use Rattle.std.specs.Prelude.{◌≡◌, ◌+◌, ◌≤◌, ◌<◌, length, set};
+ghost use Rattle.std.specs.Prelude.{◌≡◌, ◌+◌, ◌≤◌, ◌<◌, length, set, IfSome};
 ghost use Rattle.masks.specs.Sets.{union_of, single_of};
 ghost use Rattle.open_actions.specs.Bindings.{query_of, Taken, Searchable, SearchOutcome};
 ghost use Rattle.open_actions.specs.Notes.{Descends, Searches, Concludes};
@@ -8,33 +8,25 @@ use crate::choices::choices_for;
 use crate::notes::{note, recall};
 use actions::all_different;
 use card::Schema;
-use masks::{common, is_empty, is_member, single, union};
+use masks::{common, is_member, single, union};
 use strips::allows;
 
 // A binding is found, or there is none: the objects of the culprits, which are bound parameters, rule out every binding.
-#[derive(Clone, Copy)]
-pub(crate) struct Searched {
-    pub found: bool,
-    pub culprits: u64,
-}
+type Searched = Result<(), u64>;
 
-// The parameter below a level that is bound to the object, or the level.
-fn taken_by(objects: &[u8], bound: u64, level: usize, o: usize) -> usize
+// The parameter below a level that is bound to the object.
+fn taken_by(objects: &[u8], bound: u64, level: usize, o: usize) -> Option<usize>
     requires { (level ≤ length objects.now) × (length objects.now ≤ 64) }
-    ensures { Taken objects.now bound level o result }
+    ensures { IfSome result (λ j. Taken objects.now bound level o j) }
 {
-    let mut j = 0;
-    while j < level {
-        if !is_member(bound, j) {
-            j = j + 1;
-            continue;
+    for j in 0..level {
+        if is_member(bound, j) {
+            if usize::from(objects[j]) == o {
+                return Some(j);
+            }
         }
-        if objects[j] as usize == o {
-            return j;
-        }
-        j = j + 1;
     }
-    level
+    None
 }
 
 // Every parameter has its object: what an exact search finds is open.
@@ -53,21 +45,15 @@ fn complete(
         objects.now objects.now result }
 {
     if !exact {
-        return Searched {
-            found: true,
-            culprits: 0,
-        };
+        return Ok(());
     }
     if !all_different(objects) {
-        return Searched {
-            found: false,
-            culprits: bound,
-        };
+        return Err(bound);
     }
-    let found = allows(schema, arities, state, count, objects);
-    Searched {
-        found,
-        culprits: bound,
+    if allows(schema, arities, state, count, objects) {
+        Ok(())
+    } else {
+        Err(bound)
     }
 }
 
@@ -96,15 +82,11 @@ fn descend(
     let this = single(level);
     let here = union(bound, this);
     let place = 64 * level + o;
-    let recalled = recall(notes, place, here, objects);
-    if !is_empty(recalled) {
-        return Searched {
-            found: false,
-            culprits: recalled,
-        };
+    if let Some(culprits) = recall(notes, place, here, objects) {
+        return Err(culprits);
     }
     let owner = taken_by(objects, bound, level, o);
-    let free = if owner < level { false } else { exact };
+    let free = exact && owner.is_none();
     let later = search(
         schema,
         arities,
@@ -118,17 +100,14 @@ fn descend(
         objects,
         notes,
     );
-    if !later.found {
-        note(notes, place, union(later.culprits, this), objects);
+    if let Err(culprits) = later {
+        note(notes, place, union(culprits, this), objects);
         return later;
     }
-    if owner < level {
-        return Searched {
-            found: false,
-            culprits: union(single(owner), this),
-        };
+    match owner {
+        Some(earlier) => Err(union(single(earlier), this)),
+        None => later,
     }
-    later
 }
 
 // The first open binding that begins with the objects below a level and has, at the level, an object from the given one on.
@@ -155,26 +134,19 @@ pub(crate) fn search(
     }
     let left = choices_for(schema, arities, known, state, count, bound, level, objects);
     let mut culprits = left.culprits;
-    let mut o = from;
-    while o < known {
-        if !is_member(left.mask, o) {
-            o = o + 1;
-            continue;
+    for o in from..known {
+        if is_member(left.mask, o) {
+            let tried = descend(
+                schema, arities, known, state, count, exact, bound, level, o, objects, notes,
+            );
+            let Err(why) = tried else {
+                return tried;
+            };
+            if !is_member(why, level) {
+                return tried;
+            }
+            culprits = union(culprits, common(why, bound));
         }
-        let tried = descend(
-            schema, arities, known, state, count, exact, bound, level, o, objects, notes,
-        );
-        if tried.found {
-            return tried;
-        }
-        if !is_member(tried.culprits, level) {
-            return tried;
-        }
-        culprits = union(culprits, common(tried.culprits, bound));
-        o = o + 1;
     }
-    Searched {
-        found: false,
-        culprits,
-    }
+    Err(culprits)
 }

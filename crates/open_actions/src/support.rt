@@ -1,5 +1,5 @@
 // Which objects the state leaves to a parameter: those that some fact has where an atom of the schema has the parameter.
-ghost use Rattle.std.specs.Prelude.{◌≡◌, ◌≤◌};
+ghost use Rattle.std.specs.Prelude.{◌≡◌, ◌≤◌, IfSome};
 ghost use Rattle.state.specs.Rows.{RowsAscend};
 ghost use Rattle.open_actions.specs.Supports.{ParametersWithin, parameters_of, PlaceOf, Supported, AtomReady, AtomSupported};
 ghost use Rattle.open_actions.specs.Supports.{ListReady, LeavesCandidates, LeavesSupports};
@@ -16,12 +16,6 @@ pub(crate) struct Support {
     pub linked: u64,
 }
 
-// The same for each atom of a list.
-#[derive(Clone, Copy)]
-pub(crate) struct Supports {
-    pub items: [Support; 8],
-}
-
 // The objects that are left to a parameter, and the bound parameters that took the others away.
 #[derive(Clone, Copy)]
 pub(crate) struct Candidates {
@@ -29,29 +23,29 @@ pub(crate) struct Candidates {
     pub culprits: u64,
 }
 
-// The first place of a parameter in an atom, 1 to 3, or 0.
-fn place_of(a: Atom, arity: u8, parameter: usize) -> usize
-    ensures { PlaceOf arity a parameter result }
+// The first place of a parameter in an atom, 1 to 3.
+fn place_of(a: Atom, arity: u8, parameter: usize) -> Option<usize>
+    ensures { IfSome result (λ k. PlaceOf arity a parameter k) }
 {
     if arity < 1 {
-        return 0;
+        return None;
     }
-    if a.first as usize == parameter {
-        return 1;
+    if usize::from(a.first) == parameter {
+        return Some(1);
     }
     if arity < 2 {
-        return 0;
+        return None;
     }
-    if a.second as usize == parameter {
-        return 2;
+    if usize::from(a.second) == parameter {
+        return Some(2);
     }
     if arity < 3 {
-        return 0;
+        return None;
     }
-    if a.third as usize == parameter {
-        return 3;
+    if usize::from(a.third) == parameter {
+        return Some(3);
     }
-    0
+    None
 }
 
 // The parameters of an atom.
@@ -59,15 +53,15 @@ fn parameters_of(a: Atom, arity: u8, objects: &[u8]) -> u64
     requires { ParametersWithin arity a objects.now }
     ensures { result ≡ parameters_of arity a }
 {
-    let one = single(a.first as usize);
+    let one = single(usize::from(a.first));
     if arity < 2 {
         return one;
     }
-    let two = union(one, single(a.second as usize));
+    let two = union(one, single(usize::from(a.second)));
     if arity < 3 {
         return two;
     }
-    union(two, single(a.third as usize))
+    union(two, single(usize::from(a.third)))
 }
 
 // The objects with which a parameter can be bound so that the atom becomes a fact of the state; all where the atom does not have it.
@@ -85,24 +79,19 @@ fn rows_support(
 {
     let place = place_of(a, arity, parameter);
     let range = range_of(a, arity, bound, objects);
+    let start = rows_below(state, count, range.least);
     let end = rows_below(state, count, range.past);
     let mut mask = 0u64;
-    let mut i = rows_below(state, count, range.least);
-    while i < end {
-        if !row_agrees(state, i, a, arity, bound, objects) {
-            i = i + 1;
-            continue;
+    for i in start..end {
+        if row_agrees(state, i, a, arity, bound, objects) {
+            let Some(k) = place else {
+                return all_below(64);
+            };
+            let o = usize::from(state[4 * i + k]);
+            if o < 64 {
+                mask = union(mask, single(o));
+            }
         }
-        if place == 0 {
-            return all_below(64);
-        }
-        let o = state[4 * i + place] as usize;
-        if 64 <= o {
-            i = i + 1;
-            continue;
-        }
-        mask = union(mask, single(o));
-        i = i + 1;
     }
     mask
 }
@@ -120,7 +109,7 @@ fn atom_support(
     requires { AtomReady arities.now a state.now count objects.now }
     ensures { AtomSupported arities.now state.now count a parameter bound objects.now result }
 {
-    let arity = arities[a.predicate as usize];
+    let arity = arities[usize::from(a.predicate)];
     let linked = common(bound, parameters_of(a, arity, objects));
     let mask = rows_support(state, count, a, arity, parameter, linked, objects);
     Support { mask, linked }
@@ -141,21 +130,16 @@ pub(crate) fn candidates_for(
     ensures { LeavesCandidates arities.now list list.count known state.now count parameter bound objects.now
         result.mask result.culprits }
 {
-    let atoms = list.count;
     let mut mask = all_below(known);
     let mut culprits = 0u64;
-    let mut i = 0;
-    while i < atoms {
+    for i in 0..list.count {
         let a = list.atoms[i];
         let one = atom_support(a, arities, state, count, parameter, bound, objects);
         let left = common(mask, one.mask);
-        if left == mask {
-            i = i + 1;
-            continue;
+        if left != mask {
+            mask = left;
+            culprits = union(culprits, one.linked);
         }
-        mask = left;
-        culprits = union(culprits, one.linked);
-        i = i + 1;
     }
     Candidates { mask, culprits }
 }
@@ -169,18 +153,15 @@ pub(crate) fn supports_for(
     parameter: usize,
     bound: u64,
     objects: &[u8],
-) -> Supports
+) -> [Support; 8]
     requires { ListReady arities.now list state.now count objects.now }
-    ensures { LeavesSupports arities.now list state.now count parameter bound objects.now result.items }
+    ensures { LeavesSupports arities.now list state.now count parameter bound objects.now result }
 {
     let blank = Support { mask: 0, linked: 0 };
     let mut items = [blank; 8];
-    let atoms = list.count;
-    let mut i = 0;
-    while i < atoms {
+    for i in 0..list.count {
         let a = list.atoms[i];
         items[i] = atom_support(a, arities, state, count, parameter, bound, objects);
-        i = i + 1;
     }
-    Supports { items }
+    items
 }

@@ -15,8 +15,7 @@ use Rattle.model.specs.Card as model
 use Rattle.model.specs.Strips.{Action, facts_in, well_formed}
 use Rattle.model.specs.Open.{open_actions, next_open, and_then, one_by_one}
 use Rattle.model.proofs.OpenCalls.{answered, calls_show_all}
-use Rattle.open_actions.specs.Answers.{next_open_says, Says}
-use Rattle.open_actions.specs.declared.NextOpen.{NextOpen}
+use Rattle.open_actions.specs.Answers.{NextOpen, next_open_says, Says}
 
 pub data Shows (card buffer : List ℕ) (count : ℕ) : Option Action → List Action → Type 0 where
   ends : {given : Option Action} (answer : NextOpen) → Says (next_open card buffer count given) answer → next_open_says answer ≡ accepted none

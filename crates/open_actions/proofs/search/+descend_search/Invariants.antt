@@ -15,6 +15,3 @@ abbrev pub invariant-search-loop-o : goal.invariant-search-loop-o
 invariant-search-loop-o l =
     Turning (query_of l.arities l.known l.schema l.state l.count) l.bound l.level l.from l.initial.objects l.objects l.culprits l.o
     l.left.culprits l.initial.notes l.notes
-
-abbrev pub decreases-search-loop-o : goal.decreases-search-loop-o
-decreases-search-loop-o l = l.known - l.o

@@ -1,0 +1,16 @@
+-- The atom's own parameters, as far as they are bound, and what the rows leave.
+use Rattle.actions.proofs.GroundRows.{atom_predicate}
+use Rattle.open_actions.proofs.Supporting.{atom_within, atom_supported}
+use Rattle.open_actions.proofs.support.atom_support.Goals as goal
+
+pub bounds-arities-from : goal.bounds-arities-from
+bounds-arities-from c = rw c.from.ensures (atom_predicate _ _ _ c.requires.atom_known)
+
+pub parameters_of-requires : goal.parameters_of-requires
+parameters_of-requires c = rw c.from.ensures (atom_within c.requires)
+
+pub rows_support-mask-requires : goal.rows_support-mask-requires
+rows_support-mask-requires c = (c.requires.rows, rw c.from.ensures (atom_within c.requires))
+
+pub returns : goal.returns
+returns c = atom_supported _ c.common-linked.ensures (rw c.from.ensures at c.rows_support-mask.ensures)
