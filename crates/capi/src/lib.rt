@@ -18,7 +18,7 @@ ghost use Rattle.capi.specs.Asking.{given_as, count_said, bytes_said, object_cou
 ghost use Rattle.capi.specs.Previewing.{rows_shown, rows_held, changes_held, changes_shown, asked_count, asked_shown, foreseen_count, shown_beside, SmallChanges};
 
 use card::{OUTPUT_BYTES, Refusal, Verdict, refusal_number};
-use listing::{Listed, section};
+use listing::{ListingRefusal, section};
 use open_actions::{OpenAction, OpenRefusal, next_open};
 use previews::{Changes, CommitRefusal, Foreseen, Rows, commit, preview};
 use reader::decode;
@@ -77,15 +77,15 @@ fn writing_code(writing: Result<usize, WriterRefusal>) -> i32
     }
 }
 
-fn listed_code(listed: Listed) -> i32
+fn listed_code(listed: Result<usize, ListingRefusal>) -> i32
     requires { Small (listed_says listed) }
     ensures { result ≡ signed (listed_says listed) }
 {
     match listed {
-        Listed::Length(length) => length as i32,
-        Listed::CardRefused(refusal) => refusal_code(refusal),
-        Listed::OutputShort => -21,
-        Listed::SectionUnknown => -22,
+        Ok(length) => length as i32,
+        Err(ListingRefusal::Card(refusal)) => refusal_code(refusal),
+        Err(ListingRefusal::OutputShort) => -21,
+        Err(ListingRefusal::SectionUnknown) => -22,
     }
 }
 

@@ -1,18 +1,21 @@
 -- What the answers of the listing call say: document 01's number or value for each case.
-use Rattle.std.specs.Prelude.{ℕ, ◌≡◌, List}
+use Rattle.std.specs.Prelude.{ℕ, ◌≡◌, List, Result, Ok, Err}
 use Rattle.model.specs.Answer.{Answer, refused, accepted}
 use Rattle.model.specs.Calls.{section}
 use Rattle.card.specs.Represents.{refusal_number}
-use Rattle.listing.specs.declared.Listed.{Listed}
-use Rattle.listing.specs.declared.Listed.TheVariants.{Length, CardRefused, OutputShort, SectionUnknown}
+use Rattle.listing.specs.declared.ListingRefusal.{ListingRefusal}
+use Rattle.listing.specs.declared.ListingRefusal.TheVariants.{Card, OutputShort, SectionUnknown}
 
-unfoldable pub listed_says : Listed → Answer ℕ
-listed_says (Length n) = accepted n
-listed_says (CardRefused r) = refused (refusal_number r)
-listed_says OutputShort = refused 21
-listed_says SectionUnknown = refused 22
+unfoldable pub listing_number : ListingRefusal → ℕ
+listing_number (Card r) = refusal_number r
+listing_number OutputShort = 21
+listing_number SectionUnknown = 22
+
+unfoldable pub listed_says : Result ℕ ListingRefusal → Answer ℕ
+listed_says (Ok n) = accepted n
+listed_says (Err r) = refused (listing_number r)
 
 -- the listing call: its answer, and the output buffer as it leaves it
-pub record Lists (card : List ℕ) (number : ℕ) (before after : List ℕ) (r : Listed) : Type 0 where
+pub record Lists (card : List ℕ) (number : ℕ) (before after : List ℕ) (r : Result ℕ ListingRefusal) : Type 0 where
   pub answer : listed_says r ≡ (section card number before).answer
   pub buffer : after ≡ (section card number before).buffer

@@ -1,11 +1,11 @@
 -- The listing call for the task of an accepted card.
-use Rattle.std.specs.Prelude.{ℕ, ◌≡◌, List, [], leb, ltb, length, get_or}
+use Rattle.std.specs.Prelude.{ℕ, ◌≡◌, List, [], leb, ltb, length, get_or, Result}
 use Rattle.model.specs.Answer.{accepted, ◌>>◌, need}
 use Rattle.model.specs.Card.{Task}
 use Rattle.model.specs.Lines.{sections}
 use Rattle.model.specs.Text.{text}
 use Rattle.model.specs.Calls.{Call, output_bytes, finish, output}
-use Rattle.listing.specs.declared.Listed.{Listed}
+use Rattle.listing.specs.declared.ListingRefusal.{ListingRefusal}
 use Rattle.listing.specs.Answers.{listed_says}
 
 -- 21, 22
@@ -17,6 +17,6 @@ section_of t number out =
       accepted (output (text (get_or (sections t) number [])) out))
 
 -- its answer, and the output buffer as it leaves it
-pub record TaskLists (t : Task) (number : ℕ) (before after : List ℕ) (r : Listed) : Type 0 where
+pub record TaskLists (t : Task) (number : ℕ) (before after : List ℕ) (r : Result ℕ ListingRefusal) : Type 0 where
   pub answer : listed_says r ≡ (section_of t number before).answer
   pub buffer : after ≡ (section_of t number before).buffer

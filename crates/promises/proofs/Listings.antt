@@ -22,7 +22,7 @@ use Rattle.model.proofs.SectionCalls.{written, section_calls, accepted_section}
 use Rattle.strips.specs.Answers.{applied_says, Matches}
 use Rattle.strips.specs.declared.PressRefusal.{PressRefusal}
 use Rattle.listing.specs.Answers.{listed_says, Lists}
-use Rattle.listing.specs.declared.Listed.{Listed}
+use Rattle.listing.specs.declared.ListingRefusal.{ListingRefusal}
 use Rattle.promises.proofs.Histories.{Calls, calls_keep_the_listing}
 
 -- What an accepted listing call, which answered n, wrote of a card.
@@ -39,7 +39,7 @@ pub record Wrote (card : List ℕ) (number n : ℕ) (before after : List ℕ) : 
   -- and no other lines have that text
   pub alone : (lines' : List Line) → take n after ≡ text lines' → lines' ≡ lines
 
-pub one_section : (card before after : List ℕ) (number n : ℕ) (r : Listed) → Lists card number before after r → listed_says r ≡ accepted n
+pub one_section : (card before after : List ℕ) (number n : ℕ) (r : Result ℕ ListingRefusal) → Lists card number before after r → listed_says r ≡ accepted n
     → Wrote card number n before after
 one_section card before after number n r lists e =
     let l = accepted_section card number before n (sym lists.answer ∙ e) in
@@ -58,7 +58,7 @@ one_section card before after number n r lists e =
     }
 
 -- whatever lines the bytes are the text of: they are a section of the card's listing, and what is listed is true of the state after any calls
-pub bytes_are_true : (card before after : List ℕ) (number n : ℕ) (r : Listed) → Lists card number before after r → listed_says r ≡ accepted n
+pub bytes_are_true : (card before after : List ℕ) (number n : ℕ) (r : Result ℕ ListingRefusal) → Lists card number before after r → listed_says r ≡ accepted n
     → (buffer opened : List ℕ) (count : ℕ) (o : Result ℕ PressRefusal) → Matches (initial card buffer) opened o → applied_says o ≡ accepted count
     → (events : List Event) (standing : Standing) → Calls card (record { buffer = opened; count = count }) events standing
     → (lines : List Line) → take n after ≡ text lines
@@ -72,7 +72,7 @@ bytes_are_true card before after number n r lists e buffer opened count o opens 
     )
 
 -- the calls for sections 0 to n of a card with n spaces, each with a buffer of its own, write what the program prints
-pub calls_print : (card : List ℕ) (t : model.Task) → model.decode card ≡ accepted t → (before after : ℕ → List ℕ) (r : ℕ → Listed)
+pub calls_print : (card : List ℕ) (t : model.Task) → model.decode card ≡ accepted t → (before after : ℕ → List ℕ) (r : ℕ → Result ℕ ListingRefusal)
     → ((i : ℕ) → output_bytes ≤ length (before i)) → ((i : ℕ) → Lists card i (before i) (after i) (r i))
     → flat_map (λ i. written (record { answer = listed_says (r i); buffer = after i })) (up_to (suc (length (spaces t)))) ≡ program card
 calls_print card t decoded before after r long lists =
