@@ -87,6 +87,7 @@ pub enum Refusal {
 }
 
 // Document 01's number of a refusal.
+#[tactic(auto, unfolding(crate::specs::Represents::refusal_number))]
 pub fn refusal_number(refusal: Refusal) -> u8
     ensures { result ≡ refusal_number refusal }
 {
@@ -122,6 +123,7 @@ pub struct Decoded {
 }
 
 // The blank atom, and blank lists: a count of 0, and every entry 0. They stand beside a refusal, where an answer is due whole.
+#[tactic(auto, unfolding(crate::specs::Represents::blank_atom))]
 fn no_atom() -> Atom
     ensures { result ≡ blank_atom }
 {
@@ -133,6 +135,7 @@ fn no_atom() -> Atom
     }
 }
 
+#[tactic(auto, unfolding(crate::specs::Represents::atoms_for, laws::specs::Lists::padded))]
 pub fn no_atoms() -> AtomList
     ensures { result ≡ atoms_for [] }
 {
@@ -143,6 +146,7 @@ pub fn no_atoms() -> AtomList
     }
 }
 
+#[tactic(auto, unfolding(crate::specs::Represents::arities_for, laws::specs::Lists::padded))]
 pub fn no_arities() -> ArityList
     ensures { result ≡ arities_for [] }
 {
@@ -152,6 +156,7 @@ pub fn no_arities() -> ArityList
     }
 }
 
+#[tactic(auto, unfolding(crate::specs::Represents::facts_for, laws::specs::Lists::padded))]
 pub fn no_facts() -> FactList
     ensures { result ≡ facts_for [] }
 {
@@ -163,6 +168,7 @@ pub fn no_facts() -> FactList
 }
 
 // The blank schema: no parameter, and blank lists.
+#[tactic(auto, unfolding(crate::specs::Represents::blank_schema))]
 pub fn blank_schema() -> Schema
     ensures { result ≡ blank_schema }
 {

@@ -15,7 +15,8 @@ use Rattle.card.specs.declared.Schema.{Schema}
 use Rattle.card.specs.declared.FactList.{FactList}
 use Rattle.card.specs.declared.SchemaList.{SchemaList}
 use Rattle.card.specs.declared.Verdict.TheVariants.{Accepted}
-use Rattle.card.specs.Represents.{refusal_number, arities_of, arities_for, schema_of, schema_for, blank_schema, schemas_of, schemas_for, facts_of, facts_for, task_of, Decodes}
+use Rattle.card.specs.Represents.{refusal_number, arities_of, arities_for, schema_of, schema_for, blank_schema, schemas_of}
+use Rattle.card.specs.Represents.{schemas_for, facts_of, facts_for, task_of, Decodes}
 use Rattle.reader_bytes.specs.declared.Cursor.{Cursor}
 use Rattle.reader_bytes.proofs.Answers.{goes, halts, between_held}
 use Rattle.reader_atoms.proofs.Filling.{filling_ends, filled, filled_count}

@@ -100,6 +100,7 @@ fn schema(card: &[u8], c: Cursor, arities: &[u8]) -> Read<Schema>
     lists(card, c, arities, map, usize::from(roles))
 }
 
+#[tactic(auto, unfolding(card::specs::Represents::schemas_for, laws::specs::Lists::padded))]
 fn no_schemas() -> SchemaList
     ensures { result ≡ schemas_for [] }
 {
@@ -132,6 +133,7 @@ fn facts(card: &[u8], c: Cursor, arities: &[u8], objects: usize) -> Read<FactLis
     reader_lists::facts(card, c, count, arities, objects)
 }
 
+#[tactic(auto, unfolding(card::specs::Represents::blank_task))]
 fn refused(refusal: Refusal) -> Decoded
     ensures { result ≡ decoded_refused refusal }
 {
@@ -147,8 +149,8 @@ fn refused(refusal: Refusal) -> Decoded
 }
 
 // The task that a card describes, or why it describes none: the predicates, the number of objects, the schemas, the facts, and nothing
-// after them. The schemas are listed here: a function that answered their list, of 4 KB, would copy it once more. So would a function
-// with `?` below this one, whose task is copied into this one's answer.
+// after them. The schemas are listed here: a function that answered their list, of 4 KB, would copy it once more.
+// Each read is matched: a function with `?` below this one would copy the task once more, slower by half on a small card.
 pub fn decode(card: &[u8]) -> Decoded
     ensures { Decodes card.now result }
 {

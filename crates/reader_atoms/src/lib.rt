@@ -56,7 +56,7 @@ fn has(list: AtomList, a: Atom) -> bool
     requires { (list.count ≤ 8) × (length list.atoms ≡ 8) }
     ensures { result ≡ has_bytes list a }
 {
-    // not `contains`, which takes twice the instructions here
+    // `contains` was tried: it makes reading a card slower by a tenth and more.
     for i in 0..list.count {
         if list.atoms[i] == a {
             return true;
