@@ -14,7 +14,7 @@ fn main(rt: HostRuntime) -> io::Result<()> {
         match File::open(&rt, &name) {
             Ok(mut card) => {
                 let _ = println!(rt; "{name}");
-                print_from(
+                let _ = print_from(
                     &mut card,
                     &mut rt.stdout(),
                     &mut rt.stderr(),

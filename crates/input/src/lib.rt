@@ -1,74 +1,61 @@
 // An open input read to its end, of which the first bytes are kept in a window.
 #![tactic(auto)]
 
-ghost use Rattle.input.specs.Reads.{FrontOf, FrontRead, Keeps};
+ghost use Rattle.input.specs.Reads.{FrontOf, FrontRead};
 
+use std::io;
 use std::io::Read;
 
-// What reading an input answers: how many bytes of the window were read, or that a read failed.
-#[derive(Clone, Copy)]
-pub enum Reading {
-    Front(usize),
-    Failed,
-}
-
-// Reads until the window is full, the input ends or a read fails. The end is met once, so that a terminal is asked for it once.
+// Reads until the window is full, the input ends or a read fails: how many bytes of the window were read. The end is met once, so that a
+// terminal is asked for it once.
 #[tactic(auto, using(crate::proofs::Keeping::kept_more))]
-fn fill<R: Read>(input: &mut R, window: &mut [u8]) -> Reading
+fn fill<R: Read>(input: &mut R, window: &mut [u8]) -> io::Result<usize>
     ensures within { FrontRead result window.new }
     ensures bytes { FrontOf result (R.remaining input.old) window.new }
 {
     let mut kept: usize = 0;
     while kept < window.len() {
-        let Ok(more) = input.read(&mut window[kept..]) else {
-            return Reading::Failed;
-        };
+        let more = input.read(&mut window[kept..])?;
         if more == 0 {
-            return Reading::Front(kept);
+            return Ok(kept);
         }
         kept += more;
     }
-    Reading::Front(kept)
+    Ok(kept)
 }
 
-// Reads an input on to its end, so that whoever writes to it is not cut off. The bytes kept stay as many, unless a read fails.
+// Reads an input on to its end, so that whoever writes to it is not cut off.
 // A proved loop has to end, and nothing says that the input does: the turns are counted down from a number that no run uses up.
-fn read_on<R: Read>(input: &mut R, kept: usize) -> Reading
-    ensures { Keeps kept result }
-{
+fn read_on<R: Read>(input: &mut R) -> io::Result<()> {
     let mut rest = [0u8; 65536];
     let mut turns = u64::MAX;
     while turns > 0 {
-        let Ok(got) = input.read(&mut rest) else {
-            return Reading::Failed;
-        };
+        let got = input.read(&mut rest)?;
         if got == 0 {
             break;
         }
         turns -= 1;
     }
-    Reading::Front(kept)
+    Ok(())
 }
 
-// Reads an input to its end and keeps as many bytes as the window holds. What is behind them is read only where the window is full.
-pub fn read_front<R: Read>(input: &mut R, window: &mut [u8]) -> Reading
+// Reads an input to its end and keeps as many bytes as the window holds: how many. What is behind them is read only where the window is
+// full. A read that fails is no end: it is answered as the error that it is.
+pub fn read_front<R: Read>(input: &mut R, window: &mut [u8]) -> io::Result<usize>
     ensures within { FrontRead result window.new }
     ensures bytes { FrontOf result (R.remaining input.old) window.new }
 {
-    let reading = fill(input, window);
-    let Reading::Front(kept) = reading else {
-        return reading;
-    };
-    if kept < window.len() {
-        return reading;
+    let n = fill(input, window)?;
+    if n < window.len() {
+        return Ok(n);
     }
-    read_on(input, kept)
+    read_on(input)?;
+    Ok(n)
 }
 
 #[cfg(test)]
 mod tests {
     use super::*;
-    use std::io;
     use std::io::ErrorKind;
 
     // Three bytes, and then a read that fails.
@@ -91,17 +78,10 @@ mod tests {
         }
     }
 
-    fn kept(reading: Reading) -> usize {
-        match reading {
-            Reading::Front(n) => n,
-            Reading::Failed => 99,
-        }
-    }
-
     #[test]
     fn keeps_the_front(rt: HostRuntime) {
         let mut window = [0u8; 3];
-        let n = kept(read_front(&mut b"abcde".as_slice(), &mut window));
+        let n = read_front(&mut b"abcde".as_slice(), &mut window).unwrap_or(99);
         assert_eq!(rt; n, 3);
         assert_eq!(rt; window, [b'a', b'b', b'c']);
     }
@@ -109,7 +89,7 @@ mod tests {
     #[test]
     fn keeps_a_short_input(rt: HostRuntime) {
         let mut window = [0u8; 3];
-        let n = kept(read_front(&mut b"ab".as_slice(), &mut window));
+        let n = read_front(&mut b"ab".as_slice(), &mut window).unwrap_or(99);
         assert_eq!(rt; n, 2);
         assert_eq!(rt; window, [b'a', b'b', 0]);
     }
@@ -118,8 +98,14 @@ mod tests {
     #[test]
     fn tells_a_read_that_fails(rt: HostRuntime) {
         let mut long = [0u8; 8];
-        assert_eq!(rt; kept(read_front(&mut Breaking { left: 3 }, &mut long)), 99);
+        assert_eq!(rt;
+            read_front(&mut Breaking { left: 3 }, &mut long).unwrap_or(99),
+            99
+        );
         let mut short = [0u8; 2];
-        assert_eq!(rt; kept(read_front(&mut Breaking { left: 3 }, &mut short)), 99);
+        assert_eq!(rt;
+            read_front(&mut Breaking { left: 3 }, &mut short).unwrap_or(99),
+            99
+        );
     }
 }

@@ -11,8 +11,7 @@ use Rattle.model.specs.Lines.{Line, sections}
 use Rattle.model.specs.Text.{text}
 use Rattle.model.specs.Calls.{printed, program}
 use Rattle.model.proofs.Window.{decode_window}
-use Rattle.input.specs.Reads.{FrontOf}
-use Rattle.input.specs.declared.Reading.TheVariants.{Front}
+use Rattle.printer.specs.declared.printing.Stopped.{Stopped}
 
 -- what holds of a call that ended well
 pub if_ok : {A E P : Type 0} (r : Result A E) → OnOk r P → is_ok r ≡ true → P
@@ -24,9 +23,15 @@ pub given_printed : (before after : Option (List ℕ)) (card : List ℕ) {bytes 
     → Appends before after bytes → Appends before after (printed (decode card))
 given_printed before after card shows is given = subst (Appends before after) (shows ∙ ap printed (sym is)) given
 
+-- and so if printing ended well
+pub ended_printed : (r : Result (Unit {0}) Stopped) (before after : Option (List ℕ)) (card : List ℕ) {answer : Answer Task} → decode card ≡ answer
+    → OnOk r (Appends before after (printed answer)) → OnOk r (Appends before after (printed (decode card)))
+ended_printed r before after card is given =
+    subst (λ (bytes : List ℕ). OnOk r (Appends before after bytes)) (ap printed (sym is)) given
+
 -- what is printed of the front of an input is what the program prints of all of it
 pub of_the_whole : (known : Option (List ℕ)) (window : List ℕ) (n size : ℕ) (before after : Option (List ℕ)) → size ≡ n → length window ≡ 5306
-    → FrontOf (Front n) known window → Appends before after (printed (decode (take size window)))
+    → IfSome known (λ bytes. take n window ≡ take (length window) bytes) → Appends before after (printed (decode (take size window)))
     → IfSome known (λ bytes. Appends before after (program bytes))
 unfolding program
 of_the_whole None window n size before after same long front given = tt

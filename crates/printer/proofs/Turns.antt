@@ -3,13 +3,12 @@ use Prim.Native.Nat.{ℕ, ◌+◌, ◌≤◌, ◌<◌}
 use native.Mathlib.Numerals.{add-one}
 use native.Mathlib.Omega.{arith}
 use mathlib.Core.Path.{◌≡◌, refl, sym, ap, ap₂, ◌∙◌, subst}
-use mathlib.Core.Bool.{Bool, true, false}
+use mathlib.Core.Bool.{Bool, true}
 use mathlib.Core.List.{List, [], ◌∷◌, foldl-append, flat_map}
 use lib.ListN.{length, get_or, take, drop, replicate}
 use lib.Seq.{take-suc, take-append_seam}
 use Rattle.std.proofs.Common.{Option}
 use Rattle.std.specs.Io.KnownBytes.{Appends}
-use Rattle.laws.proofs.Tests.{never}
 use Rattle.model.specs.Card.{Task}
 use Rattle.model.specs.Answer.{accepted}
 use Rattle.model.specs.Calls.{output, printed}
@@ -29,8 +28,7 @@ use Rattle.prepared.proofs.Analysing.{found_in}
 use Rattle.prepared.proofs.SectionsOf.{section_count, section_of_space, section_closing}
 use Rattle.prepared.proofs.Totalling.{totals_none, totals_with}
 use Rattle.printer.proofs.Delivered.{next_given, all_given}
-use Rattle.printer.specs.declared.printing.Printing.{Printing}
-use Rattle.printer.specs.Leaves.{over, in_turn, SpacePrinted, SpaceDelivered, Reaches}
+use Rattle.printer.specs.Leaves.{over, in_turn, SpacePrinted, SpaceDelivered}
 
 -- a section that is written
 pub one_turn : (section : List Line) {out out' : List ℕ} {n : ℕ} → Writes (text section) out out' n → out' ≡ in_turn (section ∷ []) out
@@ -131,11 +129,12 @@ module _ {t : Task} {p : Prepared} {preconditions deletes adds counts : List ℕ
 
   -- the closing one, behind those of all spaces
   pub closing_next : {out' : List ℕ} → number ≡ p.spaces.count → out' ≡ in_turn (closing_lines t (analysis t) ∷ []) out
-      → out' ≡ in_turn (take (number + 1) (sections t)) out₀
+      → out' ≡ in_turn (take (p.spaces.count + 1) (sections t)) out₀
   closing_next e written =
       let last = e ∙ given.prepared.spaces_are.count in
       next_turn before (omega (arith, last, section_count t))
       (written ∙ ap (λ (section : List Line). in_turn (section ∷ []) out) (sym (section_closing t number last)))
+      ∙ ap (λ (n : ℕ). in_turn (take (n + 1) (sections t)) out₀) e
 
 -- each space has a section
 pub space_there : {t : Task} {p : Prepared} {preconditions deletes adds counts : List ℕ} → Given t p preconditions deletes adds counts → {number : ℕ}
@@ -153,11 +152,7 @@ closing_given {t} given {number} first before after e earlier last =
     (next_given first before after (sections t) number (omega (arith, here, section_count t)) earlier
     (subst (Appends before after) (ap text (sym (section_closing t number here))) last))
 
--- a listing of which the closing section was made
-pub to_the_end : {t : Task} {p : Prepared} {preconditions deletes adds counts : List ℕ} → Given t p preconditions deletes adds counts → {r : Printing}
-    → r.sections ≡ p.spaces.count + 1 → Reaches (sections t) r
-to_the_end {t} given e = record { whole = λ w. omega (arith, e, given.prepared.spaces_are.count, section_count t) }
-
--- a listing that a write cut off
-pub cut_off : {sections : List (List Line)} {r : Printing} → r.written ≡ false → Reaches sections r
-cut_off e = record { whole = λ w. never (sym w ∙ e) }
+-- the closing section is the last
+pub made_to_the_end : {t : Task} {p : Prepared} {preconditions deletes adds counts : List ℕ} → Given t p preconditions deletes adds counts
+    → p.spaces.count + 1 ≡ length (sections t)
+made_to_the_end {t} given = omega (arith, given.prepared.spaces_are.count, section_count t)

@@ -1,13 +1,14 @@
 // An accepted card's listing, section after section, from tables that are filled once. Each space is analysed once: its section is written
 // and its totals are entered for the closing one. Printing ends at the first write that fails, so that a listing with a hole in it is never
 // printed.
-ghost use Rattle.std.specs.Prelude.{◌≡◌, [], ◌∷◌, ◌≤◌, length, take, true};
+ghost use Rattle.std.specs.Prelude.{◌≡◌, [], ◌∷◌, ◌*◌, ◌≤◌, length, take, true};
 ghost use Rattle.std.specs.Io.KnownBytes.{Appends};
 ghost use Rattle.model.specs.Calls.{output_bytes};
 ghost use Rattle.model.specs.Analysis.{analysis};
 ghost use Rattle.model.specs.Lines.{closing_lines, sections};
 ghost use Rattle.model.specs.Text.{text};
 ghost use Rattle.card.specs.Represents.{task_of, Represented};
+ghost use Rattle.properties.specs.Tables.{stride};
 ghost use Rattle.properties.specs.Parameters.{parameters_in, RoomForBags};
 ghost use Rattle.spaces.specs.SpaceTable.{SpacesOf};
 ghost use Rattle.closing.specs.Fixed.{fixed_table};
@@ -15,7 +16,7 @@ ghost use Rattle.closing.specs.Typing.{PreconditionRows};
 ghost use Rattle.prepared.specs.Prepared.{rows_at_most, RoomForMoves};
 ghost use Rattle.prepared.specs.Found.{SpaceReady};
 ghost use Rattle.printer.specs.Ready.{Ready};
-ghost use Rattle.printer.specs.Leaves.{in_turn, SpacePrinted, SpaceDelivered, ListingDelivered, Reaches, Filled};
+ghost use Rattle.printer.specs.Leaves.{in_turn, SpacePrinted, SpaceDelivered, ListingDelivered, Reaches, Filled, sections_made};
 
 use card::{OUTPUT_BYTES, Task};
 use closing::write_closing;
@@ -23,11 +24,10 @@ use prepared::{Prepared, analyse_space, enter_space, prepare, rows_at_most, writ
 use spaces::Spaces;
 use std::io::Write;
 
-// How far a listing was printed: how many of its sections were made, and whether all of it was written.
+// A listing that stopped at a write that failed: how many of its sections were made.
 #[derive(Clone, Copy)]
-pub struct Printing {
+pub struct Stopped {
     pub sections: usize,
-    pub written: bool,
 }
 
 // Analyses a space, enters its totals, writes its section from byte 0 of `out`, prints it from there, and answers whether it was written
@@ -115,36 +115,33 @@ fn print_sections<W: Write>(
     conditions: &mut [u16],
     out: &mut [u8],
     listing: &mut W,
-) -> Printing
+) -> Result<(), Stopped>
     requires ready { Ready task prepared preconditions.now deletes.now adds.now counts.now }
     requires room_for_moves { RoomForMoves (rows_at_most (task_of task)) starts.old finishes.old conditions.old }
     requires output_bytes_in_bounds { output_bytes ≤ length out.old }
     ensures reaches { Reaches (sections (task_of task)) result }
-    ensures out_after { out.new ≡ in_turn (take result.sections (sections (task_of task))) out.old }
+    ensures out_after { out.new ≡ in_turn (take (sections_made (sections (task_of task)) result) (sections (task_of task))) out.old }
     ensures delivered { ListingDelivered (task_of task) result (W.contents listing.old) (W.contents listing.new) }
 {
     let spaces = prepared.spaces;
     let last = spaces.count;
     let mut fixed = [0u32; 60];
-    let mut number = 0;
-    while number < last {
+    for number in 0..last {
         let written = print_space(
             number, prepared, deletes, adds, counts, starts, finishes, conditions, &mut fixed, out,
             listing,
         );
-        number = number + 1;
         if !written {
-            return Printing {
-                sections: number,
-                written: false,
-            };
+            return Err(Stopped {
+                sections: number + 1,
+            });
         }
     }
     let written = print_closing(task, spaces, preconditions, &fixed, out, listing);
-    Printing {
-        sections: number + 1,
-        written,
+    if !written {
+        return Err(Stopped { sections: last + 1 });
     }
+    Ok(())
 }
 
 // The listing of a task, with tables lent to it.
@@ -159,7 +156,7 @@ fn print_with<W: Write>(
     conditions: &mut [u16],
     out: &mut [u8],
     listing: &mut W,
-) -> Printing
+) -> Result<(), Stopped>
     requires represented { Represented task (task_of task) }
     requires output_bytes_in_bounds { output_bytes ≤ length out.old }
     requires room_for_bags { RoomForBags (parameters_in (task_of task).schemas) preconditions.old deletes.old adds.old }
@@ -176,7 +173,7 @@ fn print_with<W: Write>(
         adds.new
         counts.new }
     ensures reaches { Reaches (sections (task_of task)) result }
-    ensures out_after { out.new ≡ in_turn (take result.sections (sections (task_of task))) out.old }
+    ensures out_after { out.new ≡ in_turn (take (sections_made (sections (task_of task)) result) (sections (task_of task))) out.old }
     ensures delivered { ListingDelivered (task_of task) result (W.contents listing.old) (W.contents listing.new) }
 {
     let prepared = prepare(task, preconditions, deletes, adds, counts);
@@ -195,49 +192,26 @@ fn print_with<W: Write>(
     )
 }
 
-// The listing of a task whose parameters and properties are at most 32 together.
-fn print_small<W: Write>(task: Task, out: &mut [u8], listing: &mut W) -> Printing
-    requires represented { Represented task (task_of task) }
-    requires task_bound { (rows_at_most (task_of task) ≤ 32) × (output_bytes ≤ length out.old) }
-    ensures reaches { Reaches (sections (task_of task)) result }
-    ensures out_after { out.new ≡ in_turn (take result.sections (sections (task_of task))) out.old }
-    ensures delivered { ListingDelivered (task_of task) result (W.contents listing.old) (W.contents listing.new) }
-{
-    let mut preconditions = [0u8; 1920];
-    let mut deletes = [0u8; 1920];
-    let mut adds = [0u8; 1920];
-    let mut counts = [0u16; 3840];
-    let mut starts = [0u8; 1920];
-    let mut finishes = [0u8; 1920];
-    let mut conditions = [0u16; 3840];
-    print_with(
-        task,
-        &mut preconditions,
-        &mut deletes,
-        &mut adds,
-        &mut counts,
-        &mut starts,
-        &mut finishes,
-        &mut conditions,
-        out,
-        listing,
-    )
-}
-
-// The listing of any task: at most 192 parameters, and 60 properties.
-fn print_large<W: Write>(task: Task, out: &mut [u8], listing: &mut W) -> Printing
+// The listing of a task, with tables of these sizes: BAGS counts for the bags of its parameters, MOVES counts for the moves of a space.
+fn print_in<const BAGS: usize, const MOVES: usize, W: Write>(
+    task: Task,
+    out: &mut [u8],
+    listing: &mut W,
+) -> Result<(), Stopped>
     requires represented { Represented task (task_of task) }
     requires output_bytes_in_bounds { output_bytes ≤ length out.old }
+    requires bags_fit { (stride * parameters_in (task_of task).schemas ≤ BAGS) × (BAGS ≤ 11520) }
+    requires moves_fit { (stride * rows_at_most (task_of task) ≤ MOVES) × (MOVES ≤ 15120) }
     ensures reaches { Reaches (sections (task_of task)) result }
-    ensures out_after { out.new ≡ in_turn (take result.sections (sections (task_of task))) out.old }
+    ensures out_after { out.new ≡ in_turn (take (sections_made (sections (task_of task)) result) (sections (task_of task))) out.old }
     ensures delivered { ListingDelivered (task_of task) result (W.contents listing.old) (W.contents listing.new) }
 {
-    let mut preconditions = [0u8; 11520];
-    let mut deletes = [0u8; 11520];
-    let mut adds = [0u8; 11520];
+    let mut preconditions = [0u8; BAGS];
+    let mut deletes = [0u8; BAGS];
+    let mut adds = [0u8; BAGS];
     let mut counts = [0u16; 3840];
-    let mut starts = [0u8; 15120];
-    let mut finishes = [0u8; 15120];
+    let mut starts = [0u8; MOVES];
+    let mut finishes = [0u8; MOVES];
     let mut conditions = [0u16; 3840];
     print_with(
         task,
@@ -253,19 +227,20 @@ fn print_large<W: Write>(task: Task, out: &mut [u8], listing: &mut W) -> Printin
     )
 }
 
-// Each section is written to `out` from byte 0 on and printed from there. A small task does not pay for clearing the tables of the largest.
+// Each section is written to `out` from byte 0 on and printed from there. A task whose parameters and properties are at most 32 together does
+// not pay for clearing the tables of the largest: 192 parameters, and 252 moves.
 pub fn print_listing<W: Write>(
     task: Task,
     out: &mut [u8; OUTPUT_BYTES],
     listing: &mut W,
-) -> Printing
+) -> Result<(), Stopped>
     requires { Represented task (task_of task) }
     ensures reaches { Reaches (sections (task_of task)) result }
-    ensures out_after { out.new ≡ in_turn (take result.sections (sections (task_of task))) out.old }
+    ensures out_after { out.new ≡ in_turn (take (sections_made (sections (task_of task)) result) (sections (task_of task))) out.old }
     ensures delivered { ListingDelivered (task_of task) result (W.contents listing.old) (W.contents listing.new) }
 {
     if rows_at_most(task.predicates, task.schemas) <= 32 {
-        return print_small(task, out, listing);
+        return print_in::<1920, 1920, W>(task, out, listing);
     }
-    print_large(task, out, listing)
+    print_in::<11520, 15120, W>(task, out, listing)
 }

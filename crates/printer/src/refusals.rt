@@ -1,4 +1,5 @@
 // The line that the program prints for a refused card: `refused` and the number.
+ghost use Rattle.std.specs.Prelude.{◌≡◌, ◌≤◌, take};
 ghost use Rattle.card.specs.Represents.{refusal_number};
 ghost use Rattle.printer.specs.Shown.{Shows};
 
@@ -6,8 +7,18 @@ use card::{Refusal, refusal_number};
 
 #[derive(Clone, Copy)]
 pub struct Line {
-    pub bytes: [u8; 11],
-    pub length: usize,
+    bytes: [u8; 11],
+    length: usize,
+}
+
+impl Line {
+    // The bytes of the line, which are the first ones.
+    pub fn text(&self) -> &[u8]
+        requires { self.now.length ≤ 11 }
+        ensures { result.now ≡ take self.now.length self.now.bytes }
+    {
+        &self.bytes[..self.length]
+    }
 }
 
 // The line, with one digit or two.
@@ -17,37 +28,12 @@ pub fn refused_line(refusal: Refusal) -> Line
     let n = refusal_number(refusal);
     let has_one_digit = n < 10;
     if has_one_digit {
-        return Line {
-            bytes: [
-                b'r',
-                b'e',
-                b'f',
-                b'u',
-                b's',
-                b'e',
-                b'd',
-                b' ',
-                b'0' + n,
-                b'\n',
-                0,
-            ],
-            length: 10,
-        };
+        let mut bytes = *b"refused 0\n\0";
+        bytes[8] += n;
+        return Line { bytes, length: 10 };
     }
-    Line {
-        bytes: [
-            b'r',
-            b'e',
-            b'f',
-            b'u',
-            b's',
-            b'e',
-            b'd',
-            b' ',
-            b'0' + n / 10,
-            b'0' + n % 10,
-            b'\n',
-        ],
-        length: 11,
-    }
+    let mut bytes = *b"refused 00\n";
+    bytes[8] += n / 10;
+    bytes[9] += n % 10;
+    Line { bytes, length: 11 }
 }

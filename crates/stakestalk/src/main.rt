@@ -6,7 +6,7 @@ use printer::print_from;
 fn main(rt: HostRuntime) {
     let mut window = [0u8; 5306];
     let mut out = [0u8; 65536];
-    print_from(
+    let _ = print_from(
         &mut rt.stdin(),
         &mut rt.stdout(),
         &mut rt.stderr(),

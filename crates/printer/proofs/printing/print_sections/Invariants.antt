@@ -1,5 +1,5 @@
 -- Before each section: what the sections so far leave, their totals, and what of them the writer was given.
-use Rattle.std.proofs.Common.{◌-◌, ◌≤◌, take}
+use Rattle.std.proofs.Common.{take}
 use Rattle.std.specs.Io.KnownBytes.{Appends}
 use mathlib.Core.List.{flat_map}
 use Rattle.model.specs.Lines.{sections}
@@ -10,11 +10,7 @@ use Rattle.printer.proofs.printing.print_sections.Given as goal
 
 abbrev pub invariant-loop-number : goal.invariant-loop-number
 invariant-loop-number g l = record {
-  number_within : l.number ≤ l.last;
   earlier : Before (task_of l.task) l.number l.fixed l.initial.out l.out;
   kept : Kept l.initial.starts l.starts l.initial.finishes l.finishes l.initial.conditions l.conditions l.initial.out l.out;
   given : Appends (g.W.Write.contents l.initial.listing) (g.W.Write.contents l.listing) (flat_map text (take l.number (sections (task_of l.task))));
 }
-
-abbrev pub decreases-loop-number : goal.decreases-loop-number
-decreases-loop-number g l = l.last - l.number
