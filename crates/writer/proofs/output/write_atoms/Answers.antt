@@ -1,5 +1,4 @@
 -- Each turn writes one atom.
-use Rattle.std.proofs.Common.{arith}
 use Rattle.model.specs.Writer.{atom_bytes}
 use Rattle.card.specs.Represents.{blank_atom, atom_of}
 use Rattle.writer.specs.Bytes.{atom_room}
@@ -8,9 +7,6 @@ use Rattle.writer.proofs.output.write_atoms.Goals as goal
 
 pub loop-a-init : goal.loop-a-init
 loop-a-init c = none_written atom_bytes (atom_of c.args.arities.now) c.args.atoms.now atom_room _ _
-
-pub write_atom-next-requires : goal.write_atom-next-requires
-write_atom-next-requires c = omega arith
 
 pub loop-a-preserved : goal.loop-a-preserved
 unfolding blank_atom
