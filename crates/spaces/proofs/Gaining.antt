@@ -58,12 +58,6 @@ module _ (r : Rounds) where
   rounds_fixed (suc n) masks e = ap (rounds n) e ∙ rounds_fixed n masks e
 
   module _ {answer : List ℕ} (n : ℕ) where
-    pub rounds_start : (masks : List ℕ) → rounds n masks ≡ answer → rounds (n - 0) masks ≡ answer
-    rounds_start masks e = ap (λ (k : ℕ). rounds k masks) (whole n) ∙ e
-      where
-        whole : (k : ℕ) → k - 0 ≡ k
-        whole k = omega arith
-
     pub rounds_next : (i : ℕ) (masks next : List ℕ) → i < n → next ≡ round masks → rounds (n - i) masks ≡ answer → rounds (n - (i + 1)) next ≡ answer
     unfolding rounds_in
     rounds_next i masks next h e now = ap (rounds (n - (i + 1))) e ∙ ap (λ (k : ℕ). rounds k masks) (sym (one_less h)) ∙ now

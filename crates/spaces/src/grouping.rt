@@ -77,6 +77,7 @@ fn unite_changed(groups: [u8; 60], deletes: &[u8], adds: &[u8], row: usize, size
     let mut united = groups;
     for c in 0..size {
         if deletes[at + c] != adds[at + c] {
+            // Through `next`, as in `grouping`: the prover covers no call whose answer is put into the array that it is given.
             let next = unite(united, first, c);
             united = next;
         }
@@ -131,6 +132,7 @@ pub struct Labels {
 }
 
 // A property is the lowest of its space where it is its own label.
+// `own::own_properties` keeps by another test, into an array of another type: one function for both would copy one of the two over.
 pub fn labels_of(groups: &[u8], size: usize) -> Labels
     requires size_bound { size ≤ 60 }
     requires size_in_bounds { size ≤ length groups.now }
