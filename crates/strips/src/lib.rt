@@ -188,16 +188,16 @@ fn open_task(task: Task, state: &mut [u8]) -> Result<usize, PressRefusal>
     if state.len() < STATE_BYTES {
         return Err(PressRefusal::StateMalformed);
     }
-    let facts = task.facts;
+    let count = task.facts.count;
     let predicates = task.predicates;
     let mut numbers = [0u32; 512];
     fact_numbers(
-        facts,
+        task.facts,
         &predicates.arities[0..predicates.count],
         &mut numbers,
     );
-    store(state, &numbers[0..facts.count]);
-    Ok(facts.count)
+    store(state, &numbers[0..count]);
+    Ok(count)
 }
 
 // The opening call: the initial state of a card's task is written to the buffer, and its count is answered.
