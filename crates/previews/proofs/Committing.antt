@@ -43,7 +43,9 @@ unfolding ◌>>=◌
 fits_said next f e =
     by_test (leb (length next) most_facts)
     (λ few. limited_fits next (leb-true (length next) most_facts few))
-    (λ many. accepted_not_refused (sym e ∙ ap (λ (x : Answer State). x >>= (λ s. accepted (f s))) (limited_full next (leb-false (length next) most_facts many))))
+    (λ many.
+    accepted_not_refused
+    (sym e ∙ ap (λ (x : Answer State). x >>= (λ s. accepted (f s))) (limited_full next (leb-false (length next) most_facts many))))
 
 -- 23, and what is stored where it passes.
 module _ (buffer : List ℕ) (agreed : Bool) (answer : Answer State) where

@@ -241,16 +241,15 @@ pub fn commit(
 ) -> Result<usize, CommitRefusal>
     ensures { Commits (commit card.now state.old count (preview_of changes)) state.new result }
 {
-    let kept = changes.objects;
-    let lent = lent_count(changes.object_count);
-    let admitted = admit(card, state, count, changes.schema, &kept[0..lent])?;
+    let objects = &changes.objects[0..lent_count(changes.object_count)];
+    let admitted = admit(card, state, count, changes.schema, objects)?;
     let predicates = admitted.predicates;
     commit_admitted(
         admitted.schema,
         &predicates.arities[0..predicates.count],
         state,
         count,
-        &kept[0..lent],
+        objects,
         changes,
     )
 }
