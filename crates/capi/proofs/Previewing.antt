@@ -4,11 +4,11 @@ use native.Mathlib.Numerals.{add-one}
 use native.Mathlib.Omega.{arith}
 use mathlib.Core.Path.{◌≡◌, refl, sym, ap, ◌∙◌, subst}
 use mathlib.Core.List.{List, [], ◌∷◌, ◌++◌, append_assoc, append-nil}
-use lib.ListN.{length, get_or, set, take, drop, length-append, length-drop, length-set, length-map}
+use lib.ListN.{length, get_or, set, take, drop, length-append, length-drop, length-map}
 use lib.ListN.{drop_of_length-le}
 use Rattle.std.specs.Prelude.{Result, Ok, Err, IfOk}
 use borrow.Rule.Slice.PartMut.{put_mid, Post-is}
-use lib.Seq.{length-take-le, take_all, take_at, drop_at, get_or_at, append_snoc, take-suc-set, drop-set-lt}
+use lib.Seq.{take_all, take_at, drop_at, get_or_at, append_snoc, take-suc-set, drop-set-lt}
 use Rattle.model.specs.Answer.{Answer, refused, accepted, ◌>>=◌}
 use Rattle.model.specs.Card.{Schema, decode}
 use Rattle.model.specs.Strips.{State, Action, fact_bytes, facts_in, well_formed}
@@ -25,7 +25,6 @@ use Rattle.strips.specs.Answers.{applied_says}
 use Rattle.strips.specs.declared.PressRefusal.{PressRefusal}
 use Rattle.previews.specs.Represents.{rows_for, preview_of, changes_for}
 use Rattle.previews.specs.Answers.{previewed_says, committed_says, Asks, Commits}
-use Rattle.previews.specs.declared.Rows.{Rows}
 use Rattle.previews.specs.declared.Changes.{Changes}
 use Rattle.previews.specs.declared.Foreseen.{Foreseen}
 use Rattle.previews.specs.declared.CommitRefusal.{CommitRefusal}
@@ -43,12 +42,6 @@ run_put bytes run a e h is =
 
 -- a number and a run behind it, in the place of as many bytes
 module _ (bytes run : List ℕ) (at n : ℕ) (room : at + 33 ≤ length bytes) (size : length run ≡ 32) where
-  pub part_long : length (take (at + 33 - (at + 1)) (drop (at + 1) (set bytes at n))) ≡ length run
-  part_long =
-      let dropped = length-drop (at + 1) (set bytes at n) in
-      let same = length-set bytes at n in
-      length-take-le (at + 33 - (at + 1)) (drop (at + 1) (set bytes at n)) (omega arith) ∙ (let e : at + 33 - (at + 1) ≡ length run = omega arith in e)
-
   pub rows_put : {part : List ℕ} → part ≡ run
       → put_mid (at + 1) (at + 33 - (at + 1)) (set bytes at n) part ≡ take at bytes ++ (n ∷ run) ++ drop (at + 33) bytes
   rows_put is =
@@ -57,19 +50,6 @@ module _ (bytes run : List ℕ) (at n : ℕ) (room : at + 33 ≤ length bytes) (
       (ap (λ (k : ℕ). take k (set bytes at n)) (add-one at) ∙ take-suc-set bytes at n (omega arith))
       ∙ ap (λ (l : List ℕ). take at bytes ++ (n ∷ []) ++ run ++ l) (drop-set-lt (at + 33) bytes at n (omega arith))
       ∙ ap (λ (l : List ℕ). l ++ drop (at + 33) bytes) (append_assoc (take at bytes) (n ∷ []) run)
-
-  pub put_long : length (take at bytes ++ (n ∷ run) ++ drop (at + 33) bytes) ≡ length bytes
-  put_long =
-      let a = length-append (take at bytes ++ (n ∷ run)) (drop (at + 33) bytes) in
-      let b = length-append (take at bytes) (n ∷ run) in
-      let c = length-take-le at bytes (omega arith) in
-      let d = length-drop (at + 33) bytes in
-      omega arith
-
-pub rows_long : (bytes : List ℕ) (rows : Rows) (at : ℕ) {next : List ℕ} → at + 33 ≤ length bytes → length rows.rows ≡ 32
-    → next ≡ take at bytes ++ rows_shown rows ++ drop (at + 33) bytes → length next ≡ length bytes
-unfolding rows_shown
-rows_long bytes rows at room size is = ap length is ∙ put_long bytes rows.rows at rows.count room size
 
 -- the parts of changes, written one after the other, take the place of all bytes
 module _ (rest objects gone come : List ℕ) (s n : ℕ) (whole : length rest ≡ 72) (six : length objects ≡ 6) (p : length gone ≡ 33) where
@@ -103,29 +83,6 @@ module _ (rest objects gone come : List ℕ) (s n : ℕ) (whole : length rest �
       ∙ ap (λ (l : List ℕ). l ++ come ++ drop 74 third) (take_at (front ++ gone) (drop 41 second) 41 front_gone)
       ∙ ap (λ (l : List ℕ). front ++ gone ++ come ++ l) none_left
       ∙ append-nil (front ++ gone ++ come)
-
--- the lengths on the way
-module _ (bytes : List ℕ) (c : Changes) (whole : length bytes ≡ 74) (six : length c.objects ≡ 6) where
-  abbrev headed : List ℕ
-  headed = set (set bytes 0 c.schema) 1 c.object_count
-
-  pub headed_long : length headed ≡ 74
-  headed_long = length-set (set bytes 0 c.schema) 1 c.object_count ∙ length-set bytes 0 c.schema ∙ whole
-
-  pub objects_long : length (take 6 (drop 2 headed)) ≡ length c.objects
-  objects_long =
-      let long = headed_long in
-      let dropped = length-drop 2 headed in
-      length-take-le 6 (drop 2 headed) (omega arith) ∙ sym six
-
-  pub second_long : {part : List ℕ} → part ≡ c.objects → length (put_mid 2 6 headed part) ≡ 74
-  second_long is =
-      let long = headed_long in
-      let a = length-append (take 2 headed ++ c.objects) (drop 8 headed) in
-      let b = length-append (take 2 headed) c.objects in
-      let d = length-take-le 2 headed (omega arith) in
-      let e = length-drop 8 headed in
-      ap length (run_put headed c.objects 2 8 (omega arith) is) ∙ (let n : length (take 2 headed ++ c.objects ++ drop 8 headed) ≡ 74 = omega arith in n)
 
 pub changes_put : (bytes : List ℕ) (c : Changes) {part second third last : List ℕ} → length bytes ≡ 74 → length c.objects ≡ 6
     → length c.gone.rows ≡ 32 → part ≡ c.objects → second ≡ put_mid 2 6 (set (set bytes 0 c.schema) 1 c.object_count) part
@@ -239,8 +196,8 @@ commit_small card buffer count p = record {
       (press_small card buffer count p.action).within n (sym (ap (λ (c : Call). c.answer) (commit_pressed card buffer count p current)) ∙ e);
 }
 
-pub commits_small : (card buffer : List ℕ) (count : ℕ) (p : Preview) {after : List ℕ} {r : Result ℕ CommitRefusal} → Commits (commit card buffer count p) after r
-    → Small (committed_says r)
+pub commits_small : (card buffer : List ℕ) (count : ℕ) (p : Preview) {after : List ℕ} {r : Result ℕ CommitRefusal}
+    → Commits (commit card buffer count p) after r → Small (committed_says r)
 commits_small card buffer count p commits = subst Small (sym commits.answer) (commit_small card buffer count p)
 
 -- and so is what asking answers

@@ -15,7 +15,8 @@ ghost use Rattle.previews.specs.Represents.{preview_of};
 ghost use Rattle.previews.specs.Answers.{committed_says};
 ghost use Rattle.capi.specs.Numbers.{signed, checks, rewrites, Small, version_number};
 ghost use Rattle.capi.specs.Asking.{given_as, count_said, bytes_said, object_count, shown_in, SmallAction};
-ghost use Rattle.capi.specs.Previewing.{rows_shown, rows_held, changes_held, changes_shown, asked_count, asked_shown, foreseen_count, shown_beside, SmallChanges};
+ghost use Rattle.capi.specs.Previewing.{rows_shown, rows_held, changes_held, changes_shown, SmallChanges};
+ghost use Rattle.capi.specs.Previewing.{asked_count, asked_shown, foreseen_count, shown_beside};
 
 use card::{OUTPUT_BYTES, Refusal, Verdict, refusal_number};
 use listing::{ListingRefusal, section};
