@@ -26,6 +26,7 @@ const MOST_ATOMS: usize = 8;
 const MOST_ROW_BYTES: usize = 32;
 
 // Facts as rows of four bytes each, as a state has them: their number, and the rows one after the other. The places past them are 0.
+// There is no heap, and the C interface has eight places for them: so they stand in an array, with their number beside it.
 #[derive(Clone, Copy)]
 pub struct Rows {
     pub count: usize,
@@ -33,7 +34,7 @@ pub struct Rows {
 }
 
 // What an action does to a state: the action, which is its schema and its objects with their number, the facts that go, and those that
-// newly come. What is handed in to be committed may hold anything.
+// newly come. What is handed in to be committed may hold anything. The number of objects stands beside their places as in the C interface.
 #[derive(Clone, Copy)]
 pub struct Changes {
     pub schema: usize,
