@@ -6,7 +6,7 @@ use mathlib.Core.Bool.{Bool, true, false, cond, ◌||◌}
 use mathlib.Core.Logic.{⊎_elim}
 use mathlib.Core.List.{List, [], ◌∷◌}
 use lib.ListN.{length, get_or, set, take, length-set}
-use lib.Seq.{get_or-set_same, get_or-set_other, get_or-take}
+use lib.Seq.{get_or-set_same, get_or-set_other, get_or-take, length-take-le}
 use borrow.Author.Tests.{lt-ltb, eq-eqb}
 use Rattle.laws.specs.Lists.{up_to, count}
 use Rattle.laws.proofs.Lists.{count_append}
@@ -53,6 +53,14 @@ pub list_atom : {arities : List ℕ} {l : AtomList} {buffer : List ℕ} {count :
 unfolding atom_at
 list_atom i ready h =
     record { right = ready.right; atom_known = ready.atoms_known i h; few_predicates = ready.few_predicates; rows = ready.rows; few = ready.few }
+
+-- the atoms of a list are at the front of its array
+module _ {arities : List ℕ} {l : AtomList} {buffer : List ℕ} {count : ℕ} {x : List ℕ} (ready : ListReady arities l buffer count x) where
+  pub all_atoms : length (take l.count l.atoms) ≡ l.count
+  all_atoms = length-take-le l.count l.atoms (let few = ready.few_atoms in let size = ready.size in omega arith)
+
+  pub front_atom : {i : ℕ} → i < l.count → get_or (take l.count l.atoms) i blank_atom ≡ get_or l.atoms i blank_atom
+  front_atom {i} h = get_or-take l.count l.atoms i blank_atom h
 
 module _ {arities : List ℕ} {l : AtomList} {known : ℕ} {buffer : List ℕ} {rows parameter bound : ℕ} {x : List ℕ} where
   pub all_left : {m : ℕ} → m ≡ all_below known → LeavesCandidates arities l 0 known buffer rows parameter bound x m 0

@@ -28,10 +28,8 @@ pub(crate) fn recall(notes: &[u8], place: usize, bound: u64, objects: &[u8]) -> 
         return None;
     }
     for (p, o) in objects.iter().enumerate() {
-        if is_member(culprits, p) {
-            if *o != notes[first + 1 + p] {
-                return None;
-            }
+        if is_member(culprits, p) && *o != notes[first + 1 + p] {
+            return None;
         }
     }
     Some(culprits)

@@ -131,6 +131,7 @@ fn next_binding(
 }
 
 // The first open binding of a schema. The places past the parameters are 0.
+// Kept beside `next_of`: one function of both would take the search as a closure of two lent slices, whose contract is longer than the two.
 fn first_of(
     schema: Schema,
     arities: &[u8],

@@ -20,10 +20,8 @@ fn taken_by(objects: &[u8], bound: u64, level: usize, o: usize) -> Option<usize>
     ensures { IfSome result (λ j. Taken objects.now bound level o j) }
 {
     for j in 0..level {
-        if is_member(bound, j) {
-            if usize::from(objects[j]) == o {
-                return Some(j);
-            }
+        if is_member(bound, j) && usize::from(objects[j]) == o {
+            return Some(j);
         }
     }
     None

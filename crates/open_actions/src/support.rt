@@ -132,9 +132,8 @@ pub(crate) fn candidates_for(
 {
     let mut mask = all_below(known);
     let mut culprits = 0u64;
-    for i in 0..list.count {
-        let a = list.atoms[i];
-        let one = atom_support(a, arities, state, count, parameter, bound, objects);
+    for a in &list.atoms[..list.count] {
+        let one = atom_support(*a, arities, state, count, parameter, bound, objects);
         let left = common(mask, one.mask);
         if left != mask {
             mask = left;

@@ -1,23 +1,32 @@
 -- Each atom leaves some of the candidates, or all.
-use Rattle.std.proofs.Common.{◌∙◌}
+use Rattle.std.proofs.Common.{◌≡◌, ◌<◌, ◌∙◌, arith}
 use Rattle.card.specs.Represents.{blank_atom}
-use Rattle.open_actions.proofs.Choosing.{list_atom, all_left, same_left, fewer_left}
+use Rattle.open_actions.proofs.Choosing.{list_atom, all_atoms, front_atom, all_left, same_left, fewer_left}
 use Rattle.open_actions.proofs.support.candidates_for.Goals as goal
 use Rattle.open_actions.proofs.support.candidates_for.Goals.{then-left-mask, else-left-mask}
 
-pub loop-i-init : goal.loop-i-init
-loop-i-init c = all_left c.all_below-mask.ensures
+pub loop-a-init : goal.loop-a-init
+loop-a-init c = all_left c.all_below-mask.ensures
 
 pub atom_support-one-requires : goal.atom_support-one-requires
 unfolding blank_atom
-atom_support-one-requires c = list_atom _ c.requires.1 c.loop-i-test.true
+atom_support-one-requires c =
+    let inside : c.loop-a.a-index < c.args.list.count = omega (arith, c.loop-a-test.true, all_atoms c.requires.1) in
+    rw (front_atom c.requires.1 inside) (list_atom _ c.requires.1 inside)
 
-pub loop-i-preserved : goal.loop-i-preserved
+pub loop-a-preserved : goal.loop-a-preserved
 unfolding blank_atom
-loop-i-preserved c =
+loop-a-preserved c =
+    let inside : c.loop-a.a-index < c.args.list.count = omega (arith, c.loop-a-test.true, all_atoms c.requires.1) in
     elim c.if-left-mask.branch [
       | then-left-mask w ↦
-          fewer_left c.loop-i.invariant c.requires.0 c.atom_support-one.ensures (w.mask-is ∙ c.common-left.ensures)
-          (w.culprits-is ∙ w.union-culprits.ensures)
-      | else-left-mask w ↦ rw (w.mask-is, w.culprits-is) (same_left c.loop-i.invariant)
+          fewer_left c.loop-a.invariant c.requires.0 (rw (front_atom c.requires.1 inside) at c.atom_support-one.ensures)
+          (w.mask-is ∙ c.common-left.ensures) (w.culprits-is ∙ w.union-culprits.ensures)
+      | else-left-mask w ↦ rw (w.mask-is, w.culprits-is) (same_left c.loop-a.invariant)
     ]
+
+pub returns : goal.returns
+returns c =
+    let all : c.loop-a.a-index ≡ c.args.list.count =
+    omega (arith, c.loop-a-test.false, c.loop-a.auto.a-index-end, all_atoms c.requires.1) in
+    rw all at c.loop-a.invariant
