@@ -75,7 +75,8 @@ module _ (card : List ℕ) (d : Decoded) (decodes : Decodes card d) where
   -- an accepted card
   module _ (verdict : d.verdict ≡ Accepted) where
     -- and listed
-    pub card_listed : (number : ℕ) (out after : List ℕ) (r : Result ℕ ListingRefusal) → TaskLists (task_of d.task) number out after r → Lists card number out after r
+    pub card_listed : (number : ℕ) (out after : List ℕ) (r : Result ℕ ListingRefusal)
+        → TaskLists (task_of d.task) number out after r → Lists card number out after r
     unfolding section ◌>>=◌ section_of
     card_listed number out after r l = record {
       answer = l.answer ∙ sym (ap (λ (a : Answer model.Task). (lists_with number out a).answer) (accepts card d decodes verdict));

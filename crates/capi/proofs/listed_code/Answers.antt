@@ -23,9 +23,13 @@ returns-in-Err-Card c =
 pub returns-in-Err-OutputShort : goal.returns-in-Err-OutputShort
 unfolding signed listed_says listing_number
 returns-in-Err-OutputShort c =
-    refusal_code _ 21 (ap listed_says (c.in-Err-OutputShort.is ∙ ap (λ (r : ListingRefusal). Err r) (rw c.in-Err-OutputShort.is at c.in-Err-OutputShort.field-0-is)))
+    refusal_code _ 21
+    (ap listed_says
+    (c.in-Err-OutputShort.is ∙ ap (λ (r : ListingRefusal). Err r) (rw c.in-Err-OutputShort.is at c.in-Err-OutputShort.field-0-is)))
 
 pub returns-in-Err-SectionUnknown : goal.returns-in-Err-SectionUnknown
 unfolding signed listed_says listing_number
 returns-in-Err-SectionUnknown c =
-    refusal_code _ 22 (ap listed_says (c.in-Err-SectionUnknown.is ∙ ap (λ (r : ListingRefusal). Err r) (rw c.in-Err-SectionUnknown.is at c.in-Err-SectionUnknown.field-0-is)))
+    refusal_code _ 22
+    (ap listed_says
+    (c.in-Err-SectionUnknown.is ∙ ap (λ (r : ListingRefusal). Err r) (rw c.in-Err-SectionUnknown.is at c.in-Err-SectionUnknown.field-0-is)))

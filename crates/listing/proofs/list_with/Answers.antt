@@ -16,7 +16,8 @@ analyse_space-found-requires c =
     let pre = c.requires in
     let kept = c.prepare-prepared.auto in
     let given =
-    given_filled pre.represented.checked pre.room_for_bags pre.in_bounds c.prepare-prepared.ensures (kept.preconditions, (kept.deletes, (kept.adds, kept.counts))) in
+    given_filled pre.represented.checked pre.room_for_bags pre.in_bounds c.prepare-prepared.ensures
+    (kept.preconditions, (kept.deletes, (kept.adds, kept.counts))) in
     analysable_given given pre.room_for_moves c.if-number-spaces.true
 
 pub write_space_section-length-requires : goal.write_space_section-length-requires
@@ -24,7 +25,8 @@ write_space_section-length-requires c =
     let pre = c.requires in
     let kept = c.prepare-prepared.auto in
     let given =
-    given_filled pre.represented.checked pre.room_for_bags pre.in_bounds c.prepare-prepared.ensures (kept.preconditions, (kept.deletes, (kept.adds, kept.counts))) in
+    given_filled pre.represented.checked pre.room_for_bags pre.in_bounds c.prepare-prepared.ensures
+    (kept.preconditions, (kept.deletes, (kept.adds, kept.counts))) in
     let h = analysable_given given pre.room_for_moves c.if-number-spaces.true in
     let found = c.analyse_space-found in
     record {
@@ -37,7 +39,8 @@ returns-then-number-spaces c =
     let pre = c.requires in
     let kept = c.prepare-prepared.auto in
     let given =
-    given_filled pre.represented.checked pre.room_for_bags pre.in_bounds c.prepare-prepared.ensures (kept.preconditions, (kept.deletes, (kept.adds, kept.counts))) in
+    given_filled pre.represented.checked pre.room_for_bags pre.in_bounds c.prepare-prepared.ensures
+    (kept.preconditions, (kept.deletes, (kept.adds, kept.counts))) in
     let h = analysable_given given pre.room_for_moves c.if-number-spaces.true in
     let found = c.analyse_space-found in
     let here = found_in h found.ensures found.auto.conditions given in
@@ -49,7 +52,8 @@ fixed_totals-fixed-requires c =
     let pre = c.requires in
     let kept = c.prepare-prepared.auto in
     let given =
-    given_filled pre.represented.checked pre.room_for_bags pre.in_bounds c.prepare-prepared.ensures (kept.preconditions, (kept.deletes, (kept.adds, kept.counts))) in
+    given_filled pre.represented.checked pre.room_for_bags pre.in_bounds c.prepare-prepared.ensures
+    (kept.preconditions, (kept.deletes, (kept.adds, kept.counts))) in
     λ number here. analysable_given given pre.room_for_moves here
 
 pub write_closing-length-requires : goal.write_closing-length-requires
@@ -57,7 +61,8 @@ write_closing-length-requires c =
     let pre = c.requires in
     let kept = c.prepare-prepared.auto in
     let given =
-    given_filled pre.represented.checked pre.room_for_bags pre.in_bounds c.prepare-prepared.ensures (kept.preconditions, (kept.deletes, (kept.adds, kept.counts))) in
+    given_filled pre.represented.checked pre.room_for_bags pre.in_bounds c.prepare-prepared.ensures
+    (kept.preconditions, (kept.deletes, (kept.adds, kept.counts))) in
     record {
       represented = pre.represented;
       spaces_of = c.prepare-prepared.ensures.spaces_are;

@@ -39,7 +39,8 @@ pub write_space-requires-clause-room : goal.write_space-requires-clause-room
 write_space-requires-clause-room c =
     let ready = c.requires.section_ready in
     rw (sub-zero c.in-Some.rescued.own.count)
-    (room_rescue ready.found.of (c.in-Some.ensures _ _ (rescuable ready.found ready.room)) (λ i. omega (arith, c.slice_known-7-1.given i)) _ c.requires.space_bytes_in_bounds)
+    (room_rescue ready.found.of (c.in-Some.ensures _ _ (rescuable ready.found ready.room))
+    (λ i. omega (arith, c.slice_known-7-1.given i)) _ c.requires.space_bytes_in_bounds)
 
 pub returns : goal.returns
 returns c t h =
