@@ -19,12 +19,12 @@ pub(crate) fn range_of(a: Atom, arity: u8, bound: u64, objects: &[u8]) -> Range
     requires { ParametersWithin arity a objects.now }
     ensures { Ranges arity a bound objects.now result.least result.past }
 {
-    let least = (a.predicate as u32) * 16777216;
-    if !is_member(bound, a.first as usize) {
+    let least = u32::from(a.predicate) * 16777216;
+    if !is_member(bound, usize::from(a.first)) {
         let past = least + 16777216;
         return Range { least, past };
     }
-    let from = least + (objects[a.first as usize] as u32) * 65536;
+    let from = least + u32::from(objects[usize::from(a.first)]) * 65536;
     let past = from + 65536;
     Range { least: from, past }
 }
@@ -37,10 +37,10 @@ fn place_agrees(k: u8, arity: u8, byte: u8, parameter: u8, bound: u64, objects: 
     if arity < k {
         return true;
     }
-    if !is_member(bound, parameter as usize) {
+    if !is_member(bound, usize::from(parameter)) {
         return true;
     }
-    byte == objects[parameter as usize]
+    byte == objects[usize::from(parameter)]
 }
 
 // Where one parameter has two places, the row has one object at both. Places past the arity do not count.
