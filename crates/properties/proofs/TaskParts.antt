@@ -2,19 +2,21 @@
 use Prim.Native.Nat.{ℕ, ◌<◌}
 use native.Mathlib.Omega.{arith}
 use mathlib.Core.Path.{◌≡◌, ap, ◌∙◌, subst}
-use mathlib.Core.Bool.{Bool}
+use mathlib.Core.Bool.{Bool, true}
 use mathlib.Core.List.{List}
 use lib.ListN.{get_or, take, get_or-map}
 use lib.Seq.{get_or-take}
-use Rattle.laws.proofs.Lists.{mem_get_d}
+use Rattle.laws.proofs.Lists.{all_at, mem_get_d}
 use Rattle.model.specs.Card as model
+use Rattle.model.specs.Writer.{known}
 use Rattle.model.proofs.Checked.{CheckedSchema, CheckedList}
 use Rattle.card.specs.declared.Schema.{Schema}
 use Rattle.card.specs.declared.AtomList.{AtomList}
+use Rattle.card.specs.declared.FactList.{FactList}
 use Rattle.card.specs.declared.Task.{Task}
-use Rattle.card.specs.Represents.{Represented}
-use Rattle.card.specs.Represents.{task_of, arities_of, schema_of, atoms_of}
-use Rattle.card.proofs.Entries.{schemas_within, length_atoms}
+use Rattle.card.specs.Represents.{blank_atom, atom_of, Represented}
+use Rattle.card.specs.Represents.{task_of, arities_of, schema_of, atoms_of, facts_of}
+use Rattle.card.proofs.Entries.{schemas_within, item_in, length_atoms}
 use Rattle.card.proofs.Counts.{right, predicates_few, objects_few, schema_count, schemas_few, schemas_inside, facts_few}
 use Rattle.properties.specs.Represented.{AritiesRight, AtomsRight, SchemaRight, SchemasRight, FactsKnown}
 
@@ -69,3 +71,11 @@ module _ (task : Task) (r : Represented task (task_of task)) where
   pub facts_right : FactsKnown (arities_of task.predicates) task.objects task.facts
   unfolding task_of
   facts_right = record { few_objects = objects_few task r; few = facts_few task r; facts_known = (right task r).facts_right.facts_known }
+
+-- each fact is a known atom
+pub fact_known : {arities : List ℕ} {objects : ℕ} {l : FactList} → FactsKnown arities objects l → (i : ℕ) → i < l.count
+    → known arities objects (atom_of arities (get_or l.facts i blank_atom)) ≡ true
+unfolding facts_of
+fact_known {arities} {objects} {l} facts i h =
+    all_at (known arities objects) (facts_of arities l) facts.facts_known (atom_of arities (get_or l.facts i blank_atom))
+    (item_in (atom_of arities) l.count blank_atom l.facts i h)
