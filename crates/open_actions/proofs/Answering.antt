@@ -28,11 +28,13 @@ use Rattle.card.proofs.Counts.{predicates_inside}
 use Rattle.card.proofs.Deciding.{refuses, accepts}
 use Rattle.card.proofs.Entries.{arities_part}
 use Rattle.open_actions.specs.Answers.{NextOpen, given_of, number_said, next_open_says, Says}
-use Rattle.open_actions.specs.Bindings.{query_of}
-use Rattle.open_actions.specs.Schemas.{BindingReady, unset, query_at, SchemasReady, RestOfSchema, check_listed, GivenAnswered}
+use Rattle.open_actions.specs.Bindings.{Query, query_of, query_in, Full}
+use Rattle.open_actions.specs.Ready.{unset, SchemasReady}
+use Rattle.open_actions.specs.Schemas.{query_at, RestOfSchema, check_listed, GivenAnswered}
 use Rattle.open_actions.specs.declared.OpenAction.{OpenAction}
 use Rattle.open_actions.specs.declared.OpenRefusal.{OpenRefusal}
 use Rattle.open_actions.specs.declared.OpenRefusal.TheVariants.{Card, StateMalformed, SchemaUnknown, ObjectsWrong, ObjectsRepeated}
+use Rattle.open_actions.specs.declared.query.Query.{Query as Asked}
 use Rattle.open_actions.proofs.OverSchemas.{TaskReady, state_in, SaysFrom, after_given, TaskAnswered, answered_now, action_now, end_now, answered_later}
 
 -- a refusal
@@ -42,6 +44,12 @@ no_ok e = cc
 refused_says : {answer : Answer (Option Action)} {e : OpenRefusal} → answer ≡ refused (number_said e) → Says answer (Err e)
 unfolding next_open_says
 refused_says e = record { answers = sym e; counted = λ a is. absurd (no_ok is); rest_zero = λ a is. absurd (no_ok is) }
+
+-- the parameters of the schema that a query is of
+pub same_parameters : (asked : Asked) (arities : List ℕ) (known : ℕ) (schema : Schema) (buffer : List ℕ) (count : ℕ)
+    → query_in asked ≡ query_of arities known schema buffer count → asked.schema.parameters ≡ schema.parameters
+unfolding query_in query_of schema_of
+same_parameters asked arities known schema buffer count e = ap (λ (q : Query). q.schema.parameters) e
 
 -- ---- 16 to 18 of the given action
 
@@ -87,9 +95,9 @@ module _ {arities : List ℕ} {known : ℕ} {schemas : SchemaList} {buffer : Lis
       unfolding number_said
       repeat_refused e = stopped_by (repeats_left ∙ need_refused 18 e)
 
-      pub binding_ready : BindingReady arities known chosen buffer count given.objects
+      pub binding_ready : Full (query_at arities known schemas buffer count given.schema) given.objects
       unfolding query_of schema_of
-      binding_ready = record { ready = ready.each given.schema within; full = record { one_for_each = number; objects_known = all_are_known } }
+      binding_ready = record { one_for_each = number; objects_known = all_are_known }
 
       pub given_answered : {r : Optional OpenAction} → distinct given.objects ≡ true
           → RestOfSchema (query_at arities known schemas buffer count given.schema) given r → Answered (Ok r)

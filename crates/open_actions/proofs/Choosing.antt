@@ -20,6 +20,7 @@ use Rattle.masks.proofs.Operations.{union_member, common_member, single_member, 
 use Rattle.open_actions.specs.Masked.{Agree, Inside}
 use Rattle.open_actions.specs.Supports.{AtomReady, AtomSupported, ListReady, atom_at, no_support, support_at}
 use Rattle.open_actions.specs.Supports.{LeavesCandidates, LeavesSupports, Crowds, LeavesRoom}
+use Rattle.open_actions.specs.declared.query.Query.{Query as Asked}
 use Rattle.open_actions.specs.declared.support.Support.{Support}
 
 -- ---- masks of parameters
@@ -48,39 +49,38 @@ agree_inside f agrees = record { same = λ p h. agrees.same p (f.each p h) }
 -- ---- the candidates
 
 -- an atom of a list
-pub list_atom : {arities : List ℕ} {l : AtomList} {buffer : List ℕ} {count : ℕ} {x : List ℕ} (i : ℕ) → ListReady arities l buffer count x → i < l.count
-    → AtomReady arities (get_or l.atoms i blank_atom) buffer count x
+pub list_atom : {asked : Asked} {l : AtomList} {x : List ℕ} (i : ℕ) → ListReady asked l x → i < l.count
+    → AtomReady asked (get_or l.atoms i blank_atom) x
 unfolding atom_at
-list_atom i ready h =
-    record { right = ready.right; atom_known = ready.atoms_known i h; few_predicates = ready.few_predicates; rows = ready.rows; few = ready.few }
+list_atom i ready h = record { atom_known = ready.atoms_known i h; few = ready.few }
 
 -- the atoms of a list are at the front of its array
-module _ {arities : List ℕ} {l : AtomList} {buffer : List ℕ} {count : ℕ} {x : List ℕ} (ready : ListReady arities l buffer count x) where
+module _ {asked : Asked} {l : AtomList} {x : List ℕ} (ready : ListReady asked l x) where
   pub all_atoms : length (take l.count l.atoms) ≡ l.count
   all_atoms = length-take-le l.count l.atoms (let few = ready.few_atoms in let size = ready.size in omega arith)
 
   pub front_atom : {i : ℕ} → i < l.count → get_or (take l.count l.atoms) i blank_atom ≡ get_or l.atoms i blank_atom
   front_atom {i} h = get_or-take l.count l.atoms i blank_atom h
 
-module _ {arities : List ℕ} {l : AtomList} {known : ℕ} {buffer : List ℕ} {rows parameter bound : ℕ} {x : List ℕ} where
-  pub all_left : {m : ℕ} → m ≡ all_below known → LeavesCandidates arities l 0 known buffer rows parameter bound x m 0
+module _ {asked : Asked} {l : AtomList} {parameter bound : ℕ} {x : List ℕ} where
+  pub all_left : {m : ℕ} → m ≡ all_below asked.known → LeavesCandidates asked l 0 parameter bound x m 0
   all_left {m} e = record {
     inside = none_inside;
     holds = λ y agrees there few.
-        ap (λ (k : ℕ). is_member k (get_or y parameter 0)) e ∙ all_member known (get_or y parameter 0) ∙ lt-ltb (get_or y parameter 0) known few;
+        ap (λ (k : ℕ). is_member k (get_or y parameter 0)) e ∙ all_member asked.known (get_or y parameter 0) ∙ lt-ltb (get_or y parameter 0) asked.known few;
   }
 
-  module _ {i mask culprits : ℕ} (so_far : LeavesCandidates arities l i known buffer rows parameter bound x mask culprits) where
+  module _ {i mask culprits : ℕ} (so_far : LeavesCandidates asked l i parameter bound x mask culprits) where
     -- an atom that takes nothing away
-    pub same_left : LeavesCandidates arities l (i + 1) known buffer rows parameter bound x mask culprits
+    pub same_left : LeavesCandidates asked l (i + 1) parameter bound x mask culprits
     same_left = record { inside = so_far.inside; holds = λ y agrees there few. so_far.holds y agrees (λ j h. there j (omega arith)) few }
 
     -- an atom that takes something away
     pub fewer_left :
-        {one : Support} {m c : ℕ} → known ≤ 64 → AtomSupported arities buffer rows (get_or l.atoms i blank_atom) parameter bound x one
-        → m ≡ common_of mask one.mask → c ≡ union_of culprits one.linked → LeavesCandidates arities l (i + 1) known buffer rows parameter bound x m c
+        {one : Support} {m c : ℕ} → AtomSupported asked (get_or l.atoms i blank_atom) parameter bound x one
+        → m ≡ common_of mask one.mask → c ≡ union_of culprits one.linked → LeavesCandidates asked l (i + 1) parameter bound x m c
     unfolding atom_at
-    fewer_left {one} {m} {c} small atom e f = record {
+    fewer_left {one} {m} {c} atom e f = record {
       inside = subst (λ (k : ℕ). Inside k bound) (sym f) (both_inside so_far.inside atom.inside);
       holds = λ y agrees there few.
           let v : ℕ = get_or y parameter 0 in
@@ -88,45 +88,45 @@ module _ {arities : List ℕ} {l : AtomList} {known : ℕ} {buffer : List ℕ} {
           ap (λ (k : ℕ). is_member k v) e ∙ common_member mask one.mask v
           ∙ and_intro (is_member mask v) (is_member one.mask v)
           (so_far.holds y (agree_inside (inside_left culprits one.linked) all_agree) (λ j h. there j (omega arith)) few)
-          (atom.holds y (agree_inside (inside_right culprits one.linked) all_agree) (there i (omega arith)) (omega arith));
+          (atom.holds y (agree_inside (inside_right culprits one.linked) all_agree) (there i (omega arith)) (let small = asked.ready.state_kept.shape.few_objects in omega arith));
     }
 
 -- ---- what each atom leaves
 
 -- the first atoms of a list have what they leave in an array of eight
-pub record Filled (arities : List ℕ) (l : AtomList) (buffer : List ℕ) (rows parameter bound : ℕ) (x : List ℕ) (items : List Support) (i : ℕ) : Type 0 where
+pub record Filled (asked : Asked) (l : AtomList) (parameter bound : ℕ) (x : List ℕ) (items : List Support) (i : ℕ) : Type 0 where
   pub size : length items ≡ 8
-  pub each : (j : ℕ) → j < i → AtomSupported arities buffer rows (get_or l.atoms j blank_atom) parameter bound x (support_at items j)
+  pub each : (j : ℕ) → j < i → AtomSupported asked (get_or l.atoms j blank_atom) parameter bound x (support_at items j)
 
-module _ {arities : List ℕ} {l : AtomList} {buffer : List ℕ} {rows parameter bound : ℕ} {x : List ℕ} where
+module _ {asked : Asked} {l : AtomList} {parameter bound : ℕ} {x : List ℕ} where
   pub fill_next :
-      {items : List Support} {i : ℕ} {one : Support} → Filled arities l buffer rows parameter bound x items i → i < 8
-      → AtomSupported arities buffer rows (get_or l.atoms i blank_atom) parameter bound x one
-      → Filled arities l buffer rows parameter bound x (set items i one) (i + 1)
+      {items : List Support} {i : ℕ} {one : Support} → Filled asked l parameter bound x items i → i < 8
+      → AtomSupported asked (get_or l.atoms i blank_atom) parameter bound x one
+      → Filled asked l parameter bound x (set items i one) (i + 1)
   unfolding support_at
   fill_next {items} {i} {one} so_far few atom = record {
     size = length-set items i one ∙ so_far.size;
     each = λ j k.
         ⊎_elim
         (λ (less : j < i).
-        subst (AtomSupported arities buffer rows (get_or l.atoms j blank_atom) parameter bound x)
+        subst (AtomSupported asked (get_or l.atoms j blank_atom) parameter bound x)
         (sym (get_or-set_other items i j one no_support (λ e. absurd (omega (arith, e))))) (so_far.each j less))
         (⊎_elim
         (λ (same : j ≡ i).
-        subst (λ (n : ℕ). AtomSupported arities buffer rows (get_or l.atoms n blank_atom) parameter bound x (get_or (set items i one) n no_support)) (sym same)
-        (subst (AtomSupported arities buffer rows (get_or l.atoms i blank_atom) parameter bound x)
+        subst (λ (n : ℕ). AtomSupported asked (get_or l.atoms n blank_atom) parameter bound x (get_or (set items i one) n no_support)) (sym same)
+        (subst (AtomSupported asked (get_or l.atoms i blank_atom) parameter bound x)
         (sym (get_or-set_same items i one no_support (let s = so_far.size in omega arith))) atom))
         (λ (more : i < j). absurd (omega arith)))
         (compared j i);
   }
 
 -- those of the list are at the front of an array
-pub supports_front : {arities : List ℕ} {l : AtomList} {buffer : List ℕ} {rows parameter bound n : ℕ} {x : List ℕ} (items : List Support) → l.count ≤ n
-    → LeavesSupports arities l buffer rows parameter bound x items → LeavesSupports arities l buffer rows parameter bound x (take n items)
+pub supports_front : {asked : Asked} {l : AtomList} {parameter bound n : ℕ} {x : List ℕ} (items : List Support) → l.count ≤ n
+    → LeavesSupports asked l parameter bound x items → LeavesSupports asked l parameter bound x (take n items)
 unfolding support_at
-supports_front {arities} {l} {buffer} {rows} {parameter} {bound} {n} {x} items h supports = record {
+supports_front {asked} {l} {parameter} {bound} {n} {x} items h supports = record {
   each = λ i k.
-      subst (AtomSupported arities buffer rows (get_or l.atoms i blank_atom) parameter bound x) (sym (get_or-take n items i no_support (omega arith)))
+      subst (AtomSupported asked (get_or l.atoms i blank_atom) parameter bound x) (sym (get_or-take n items i no_support (omega arith)))
       (supports.each i k);
 }
 

@@ -29,11 +29,11 @@ use Rattle.card.specs.declared.Schema.{Schema}
 use Rattle.card.proofs.Entries.{item_at, item_in, length_atoms}
 use Rattle.masks.specs.Sets.{is_member, union_of, common_of, single_of}
 use Rattle.strips.specs.Steps.{ListKept, ActionReady}
-use Rattle.strips.proofs.Applying.{rows_ascend}
 use Rattle.open_actions.specs.Masked.{Agree, Inside, StartsFrom, BoundBelow}
 use Rattle.open_actions.specs.Supports.{ListReady, LeavesCandidates, LeavesSupports, LeavesRoom, atom_at, support_at}
-use Rattle.open_actions.specs.Bindings.{Query, query_of, open_binding, Full, SearchOutcome, Searchable, Leaves, Taken}
+use Rattle.open_actions.specs.Bindings.{Query, query_of, query_in, open_binding, Full, SearchOutcome, Searchable, Leaves, Taken}
 use Rattle.open_actions.specs.Notes.{Recalled, Noted, KeepsNotes, Searches, Descends, Concludes}
+use Rattle.open_actions.specs.declared.query.Query.{Query as Asked}
 use Rattle.open_actions.specs.declared.support.Support.{Support}
 use Rattle.open_actions.proofs.Choosing.{inside_refl, inside_trans, inside_left, inside_right, agree_inside}
 use Rattle.open_actions.proofs.Searching.{same_length, full_set, full_below, more_below, more_bound, single_inside}
@@ -41,28 +41,43 @@ use Rattle.open_actions.proofs.Searching.{ruled_out, taken_closes, stuck_anyway}
 use Rattle.open_actions.proofs.Searching.{Trying, try_start, try_skip, try_found, try_back, try_again, try_end}
 use Rattle.open_actions.proofs.Noting.{recalled_says, stuck_noted, same_notes, kept_twice}
 
-module _ {arities : List ℕ} {most : ℕ} {schema : Schema} {buffer : List ℕ} {rows : ℕ} {exact : Bool} {bound level : ℕ} {x : List ℕ}
-    (ready : Searchable arities most schema buffer rows exact bound level x) where
+module _ {asked : Asked} {exact : Bool} {bound level : ℕ} {x : List ℕ}
+    (ready : Searchable asked exact bound level x) where
+  abbrev arities : List ℕ
+  arities = asked.arities.now
+
+  abbrev most : ℕ
+  most = asked.known
+
+  abbrev schema : Schema
+  schema = asked.schema
+
+  abbrev buffer : List ℕ
+  buffer = asked.state.now
+
+  abbrev rows : ℕ
+  rows = asked.count
+
   abbrev q : Query
-  q = query_of arities most schema buffer rows
+  q = query_in asked
 
   abbrev facts : State
   facts = facts_in arities rows buffer
 
   checked : CheckedSchema arities (schema_of arities schema)
-  checked = checked_schema arities (schema_of arities schema) ready.schema_kept.checks
+  checked = checked_schema arities (schema_of arities schema) asked.ready.schema_kept.checks
 
   formed : WellFormed arities most buffer rows
-  formed = well_formed_lem arities most buffer rows ready.state_kept.well
+  formed = well_formed_lem arities most buffer rows asked.ready.state_kept.well
 
   pub few_rows : rows ≤ 1024
   few_rows = formed.count_fits
 
   pub few_objects : most ≤ 64
-  few_objects = ready.state_kept.shape.few_objects
+  few_objects = asked.ready.state_kept.shape.few_objects
 
   pub full_length : {y : List ℕ} → Full q y → length y ≡ schema.parameters
-  unfolding query_of schema_of
+  unfolding query_in query_of schema_of
   full_length f = f.one_for_each
 
   pub few_parameters : length x ≤ 6
@@ -70,38 +85,35 @@ module _ {arities : List ℕ} {most : ℕ} {schema : Schema} {buffer : List ℕ}
   few_parameters = let n = full_length ready.full in let few = checked.few_parameters in omega arith
 
   pub few_adds : schema.adds.count ≤ 8
-  few_adds = ready.schema_kept.adds.few
+  few_adds = asked.ready.schema_kept.adds.few
 
-  list_ready : (l : AtomList) → ListKept l → all (known arities schema.parameters) (atoms_of arities l) ≡ true → ListReady arities l buffer rows x
+  list_ready : (l : AtomList) → ListKept l → all (known arities schema.parameters) (atoms_of arities l) ≡ true → ListReady asked l x
   unfolding atom_at atoms_of
   list_ready l kept right = record {
-    right = ready.state_kept.shape.right;
     few_atoms = kept.few;
     size = kept.size;
     atoms_known = λ i h.
         subst (λ (n : ℕ). known arities n (atom_of arities (get_or l.atoms i blank_atom)) ≡ true) (sym (full_length ready.full))
         (all_at (known arities schema.parameters) (atoms_of arities l) right (atom_of arities (get_or l.atoms i blank_atom))
         (item_in (atom_of arities) l.count blank_atom l.atoms i h));
-    few_predicates = ready.state_kept.shape.few_predicates;
-    rows = rows_ascend ready.state_kept;
     few = let few = few_parameters in omega arith;
   }
 
-  pub preconditions_ready : ListReady arities schema.preconditions buffer rows x
+  pub preconditions_ready : ListReady asked schema.preconditions x
   unfolding schema_of
-  preconditions_ready = list_ready schema.preconditions ready.schema_kept.preconditions checked.preconditions_right.atoms_known
+  preconditions_ready = list_ready schema.preconditions asked.ready.schema_kept.preconditions checked.preconditions_right.atoms_known
 
-  pub adds_ready : ListReady arities schema.adds buffer rows x
+  pub adds_ready : ListReady asked schema.adds x
   unfolding schema_of
-  adds_ready = list_ready schema.adds ready.schema_kept.adds checked.adds_right.atoms_known
+  adds_ready = list_ready schema.adds asked.ready.schema_kept.adds checked.adds_right.atoms_known
 
   -- a binding by different objects as an action
   pub action_ready : {d : Bool} → d ≡ distinct x → d ≡ true → ActionReady arities x schema buffer rows
-  unfolding query_of
+  unfolding query_in query_of
   action_ready e differ = record {
     known_objects = most;
-    state = ready.state_kept;
-    schema_kept = ready.schema_kept;
+    state = asked.ready.state_kept;
+    schema_kept = asked.ready.schema_kept;
     one_for_each = full_length ready.full;
     objects_known = ready.full.objects_known;
     different = sym e ∙ differ;
@@ -109,22 +121,22 @@ module _ {arities : List ℕ} {most : ℕ} {schema : Schema} {buffer : List ℕ}
 
   -- what the test of a whole binding says
   pub decides : {r d : Bool} → d ≡ distinct x → d ≡ true → r ≡ is_accepted (progress (schema_of arities schema) x facts) → r ≡ open_binding q x
-  unfolding query_of open_binding
+  unfolding query_in query_of open_binding
   decides {r} e differ e₂ = e₂ ∙ ap (λ (b : Bool). b && is_accepted (progress (schema_of arities schema) x facts)) (sym (sym e ∙ differ))
 
   pub repeats : {d : Bool} → d ≡ distinct x → d ≡ false → false ≡ open_binding q x
-  unfolding query_of open_binding
+  unfolding query_in query_of open_binding
   repeats e same = ap (λ (b : Bool). b && is_accepted (progress (schema_of arities schema) x facts)) (sym (sym e ∙ same))
 
   -- an open binding: no two objects are the same, every precondition is a fact, and there is room
   module _ (y : List ℕ) (full : Full q y) (opened : open_binding q y ≡ true) where
     differ : distinct y ≡ true
-    unfolding query_of open_binding
+    unfolding query_in query_of open_binding
     differ = and_left (distinct y) (is_accepted (progress (schema_of arities schema) y facts)) opened
 
     by_room : (applicable (schema_of arities schema) y facts
         && leb (new_facts (schema_of arities schema) y facts) (most_facts + length (atoms_of arities schema.deletes) - length facts)) ≡ true
-    unfolding query_of open_binding schema_of
+    unfolding query_in query_of open_binding schema_of
     by_room =
         sym (progress_by_room checked y facts formed.in_order (let n = length_facts_in arities rows buffer in let few = few_rows in omega arith)
         (full_length full) differ)
@@ -165,9 +177,9 @@ module _ {arities : List ℕ} {most : ℕ} {schema : Schema} {buffer : List ℕ}
 
   -- the candidates of the preconditions are the objects that are left
   pub leaves_candidates :
-      {mask culprits : ℕ} → LeavesCandidates arities schema.preconditions schema.preconditions.count most buffer rows level bound x mask culprits
+      {mask culprits : ℕ} → LeavesCandidates asked schema.preconditions schema.preconditions.count level bound x mask culprits
       → Leaves q bound level x mask culprits
-  unfolding query_of
+  unfolding query_in query_of
   leaves_candidates leaves = record {
     inside = leaves.inside;
     holds = λ y full long agrees opened. leaves.holds y agrees (precondition_holds y full opened) (full_below full level long);
@@ -176,11 +188,11 @@ module _ {arities : List ℕ} {most : ℕ} {schema : Schema} {buffer : List ℕ}
   -- and so are those of them that leave room
   pub leaves_room :
       {mask culprits : ℕ} {items : List Support} {left why : ℕ}
-      → LeavesCandidates arities schema.preconditions schema.preconditions.count most buffer rows level bound x mask culprits
-      → LeavesSupports arities schema.adds buffer rows level bound x items
+      → LeavesCandidates asked schema.preconditions schema.preconditions.count level bound x mask culprits
+      → LeavesSupports asked schema.adds level bound x items
       → length items ≡ schema.adds.count → LeavesRoom mask culprits items (most_facts + schema.deletes.count - rows) most left why
       → Leaves q bound level x left why
-  unfolding query_of atom_at
+  unfolding query_in query_of atom_at
   leaves_room {mask} {culprits} {items} {left} {why} leaves supports all_adds roomy = record {
     inside = roomy.inside bound leaves.inside (λ i h. (supports.each i (omega arith)).inside);
     holds = λ y full long agrees opened.
@@ -207,12 +219,10 @@ module _ {arities : List ℕ} {most : ℕ} {schema : Schema} {buffer : List ℕ}
   -- the next level, with an object for this one
   pub next_ready :
       {o b : ℕ} {sure : Bool} → level < length x → o < most → b ≡ union_of bound (single_of level) → (sure ≡ true → exact ≡ true)
-      → Searchable arities most schema buffer rows sure b (level + 1) (set x level o)
-  unfolding query_of
+      → Searchable asked sure b (level + 1) (set x level o)
+  unfolding query_in query_of
   next_ready {o} {b} {sure} inside small e surely =
-      subst (λ (k : ℕ). Searchable arities most schema buffer rows sure k (level + 1) (set x level o)) (sym e) (record {
-        state_kept = ready.state_kept;
-        schema_kept = ready.schema_kept;
+      subst (λ (k : ℕ). Searchable asked sure k (level + 1) (set x level o)) (sym e) (record {
         full = full_set ready.full inside small;
         bound_below = more_below ready.bound_below;
         all_bound = λ s. more_bound (ready.all_bound (surely s));
@@ -220,10 +230,8 @@ module _ {arities : List ℕ} {most : ℕ} {schema : Schema} {buffer : List ℕ}
       })
 
   -- the same level, with another binding that begins alike
-  pub same_ready : {now : List ℕ} → Full q now → Searchable arities most schema buffer rows exact bound level now
+  pub same_ready : {now : List ℕ} → Full q now → Searchable asked exact bound level now
   same_ready full = record {
-    state_kept = ready.state_kept;
-    schema_kept = ready.schema_kept;
     full = full;
     bound_below = ready.bound_below;
     all_bound = ready.all_bound;
@@ -231,8 +239,8 @@ module _ {arities : List ℕ} {most : ℕ} {schema : Schema} {buffer : List ℕ}
   }
 
 -- A level below the last, with an object for its parameter, and notes.
-module _ {arities : List ℕ} {most : ℕ} {schema : Schema} {buffer : List ℕ} {rows : ℕ} {exact : Bool} {bound level o : ℕ} {x notes : List ℕ}
-    (pre : Descends arities most schema buffer rows exact bound level o x notes) where
+module _ {asked : Asked} {exact : Bool} {bound level o : ℕ} {x notes : List ℕ}
+    (pre : Descends asked exact bound level o x notes) where
   pub small : o < 64
   small = let few = few_objects pre.ready in let k = pre.object_known in omega arith
 
@@ -240,7 +248,7 @@ module _ {arities : List ℕ} {most : ℕ} {schema : Schema} {buffer : List ℕ}
   level_fits = let few = few_parameters pre.ready in let inside = pre.inside in omega arith
 
   pub set_full : Full (q pre.ready) (set x level o)
-  unfolding query_of
+  unfolding query_in query_of
   set_full = full_set pre.ready.full pre.inside pre.object_known
 
   -- what the search of the next level says, with the mask that the code made, and with the notes
@@ -254,7 +262,7 @@ module _ {arities : List ℕ} {most : ℕ} {schema : Schema} {buffer : List ℕ}
     below : BoundBelow b (level + 1)
     below = subst (λ (k : ℕ). BoundBelow k (level + 1)) (sym bound_is) (more_below pre.ready.bound_below)
 
-    pub level_ready : {sure : Bool} → (sure ≡ true → exact ≡ true) → Searches arities most schema buffer rows sure b (level + 1) (set x level o) notes
+    pub level_ready : {sure : Bool} → (sure ≡ true → exact ≡ true) → Searches asked sure b (level + 1) (set x level o) notes
     level_ready surely = record { ready = next_ready pre.ready pre.inside pre.object_known bound_is surely; true_notes = pre.true_notes }
 
     says : {sure : Bool} {after : List ℕ} {r : Result (Unit {0}) ℕ} → SearchOutcome (q pre.ready) sure b (level + 1) 0 (set x level o) after r
@@ -322,11 +330,11 @@ pub record Turning (q : Query) (bound level from : ℕ) (x now : List ℕ) (culp
   pub notes_kept : KeepsNotes q old notes
 
 -- A search from a level on, with notes.
-module _ {arities : List ℕ} {most : ℕ} {schema : Schema} {buffer : List ℕ} {rows : ℕ} {exact : Bool} {bound level : ℕ} {x notes : List ℕ}
-    (pre : Searches arities most schema buffer rows exact bound level x notes) where
+module _ {asked : Asked} {exact : Bool} {bound level : ℕ} {x notes : List ℕ}
+    (pre : Searches asked exact bound level x notes) where
   -- every parameter has its object
-  pub whole_ready : level ≡ length x → Searchable arities most schema buffer rows exact bound (length x) x
-  whole_ready e = subst (λ (k : ℕ). Searchable arities most schema buffer rows exact bound k x) e pre.ready
+  pub whole_ready : level ≡ length x → Searchable asked exact bound (length x) x
+  whole_ready e = subst (λ (k : ℕ). Searchable asked exact bound k x) e pre.ready
 
   pub whole_says : {from : ℕ} {r : Result (Unit {0}) ℕ} → level ≡ length x
       → SearchOutcome (q pre.ready) exact bound (length x) 0 x x r → Concludes (q pre.ready) exact bound level from x x notes notes r
@@ -351,10 +359,8 @@ module _ {arities : List ℕ} {most : ℕ} {schema : Schema} {buffer : List ℕ}
       past y f = record { from_on = λ h. omega arith }
 
   -- what is left to the parameter is asked for whether the search is exact or not
-  pub choices_ready : Searchable arities most schema buffer rows false bound level x
+  pub choices_ready : Searchable asked false bound level x
   choices_ready = record {
-    state_kept = pre.ready.state_kept;
-    schema_kept = pre.ready.schema_kept;
     full = pre.ready.full;
     bound_below = pre.ready.bound_below;
     all_bound = λ e. never (sym e);
@@ -379,7 +385,7 @@ module _ {arities : List ℕ} {most : ℕ} {schema : Schema} {buffer : List ℕ}
         }
 
         -- the step of a level
-        pub step_ready : o < most → Descends arities most schema buffer rows exact bound level o now kept
+        pub step_ready : o < asked.known → Descends asked exact bound level o now kept
         step_ready known = record {
           ready = same_ready pre.ready turning.trying.full;
           inside = let n = same_length turning.trying.full pre.ready.full in let w = inner in omega arith;
@@ -414,8 +420,8 @@ module _ {arities : List ℕ} {most : ℕ} {schema : Schema} {buffer : List ℕ}
             }
 
         -- every object is tried
-        pub turn_end : most ≤ o → Concludes (q pre.ready) exact bound level from x now notes kept (Err culprits)
-        unfolding query_of
+        pub turn_end : asked.known ≤ o → Concludes (q pre.ready) exact bound level from x now notes kept (Err culprits)
+        unfolding query_in query_of
         turn_end all_tried = record {
           outcome = try_end pre.ready.full pre.ready.bound_below inner turning.trying all_tried;
           notes_kept = turning.notes_kept;

@@ -22,8 +22,9 @@ use Rattle.state.proofs.Writing.{drop_zeros}
 use Rattle.masks.specs.Sets.{is_member, all_below}
 use Rattle.masks.proofs.Operations.{none_member, all_member}
 use Rattle.open_actions.specs.Masked.{Begins, StartsFrom}
-use Rattle.open_actions.specs.Bindings.{Query, query_of, open_binding, Full, Searchable, SearchOutcome}
-use Rattle.open_actions.specs.Schemas.{SchemaReady, BindingReady, NoneOpen, FirstOpen, FitTested, MayFit, Picks, BindingPicked}
+use Rattle.open_actions.specs.Bindings.{Query, query_of, query_in, open_binding, Full, Searchable, SearchOutcome}
+use Rattle.open_actions.specs.Schemas.{NoneOpen, FirstOpen, FitTested, MayFit, Picks, BindingPicked}
+use Rattle.open_actions.specs.declared.query.Query.{Query as Asked}
 use Rattle.open_actions.proofs.Searching.{full_binding, binding_full, same_length}
 
 -- parameters times objects are few enough to be told
@@ -32,13 +33,10 @@ product_fits h k = mul-le-mul h k
 
 -- ---- what a search asks
 
-module _ {arities : List ℕ} {known : ℕ} {schema : Schema} {buffer : List ℕ} {count level : ℕ} {x : List ℕ}
-    (ready : SchemaReady arities known schema buffer count) (full : Full (query_of arities known schema buffer count) x) (within : level ≤ length x) where
+module _ {asked : Asked} {level : ℕ} {x : List ℕ} (full : Full (query_in asked) x) (within : level ≤ length x) where
   -- with no parameter bound
-  pub alone_ready : Searchable arities known schema buffer count false 0 level x
+  pub alone_ready : Searchable asked false 0 level x
   alone_ready = record {
-    state_kept = ready.state_kept;
-    schema_kept = ready.schema_kept;
     full = full;
     bound_below = record { each = λ p m. never (sym m ∙ none_member p) };
     all_bound = λ e. never (sym e);
@@ -46,10 +44,8 @@ module _ {arities : List ℕ} {known : ℕ} {schema : Schema} {buffer : List ℕ
   }
 
   -- with every parameter below the level bound
-  pub exact_ready : {bound : ℕ} → bound ≡ all_below level → Searchable arities known schema buffer count true bound level x
+  pub exact_ready : {bound : ℕ} → bound ≡ all_below level → Searchable asked true bound level x
   exact_ready {bound} e = record {
-    state_kept = ready.state_kept;
-    schema_kept = ready.schema_kept;
     full = full;
     bound_below = record { each = λ p m. ltb-true p level (sym (is_below p) ∙ m) };
     all_bound = λ sure. record { each = λ p h. is_below p ∙ lt-ltb p level h };
@@ -236,63 +232,65 @@ chooses_none picks stops = record {
   none = λ is. picks.none stops;
 }
 
-module _ {arities : List ℕ} {known : ℕ} {schema : Schema} {buffer : List ℕ} {count : ℕ} (ready : SchemaReady arities known schema buffer count) where
+module _ (asked : Asked) where
   abbrev query : Query
-  query = query_of arities known schema buffer count
+  query = query_in asked
+
+  abbrev schema : Schema
+  schema = asked.schema
 
   pub few_parameters : schema.parameters ≤ 6
   unfolding schema_of
-  few_parameters = (checked_schema arities (schema_of arities schema) ready.schema_kept.checks).few_parameters
+  few_parameters = (checked_schema asked.arities.now (schema_of asked.arities.now schema) asked.ready.schema_kept.checks).few_parameters
 
   pub zeros_size : length (take {A = ℕ} schema.parameters (replicate 6 0)) ≡ schema.parameters
-  zeros_size = (zeros_full known schema.parameters ready.some_object few_parameters).one_for_each
+  zeros_size = (zeros_full asked.known schema.parameters asked.ready.some_object few_parameters).one_for_each
 
-  pub zeros_ready : BindingReady arities known schema buffer count (take schema.parameters (replicate 6 0))
-  unfolding query_of schema_of
-  zeros_ready = record { ready = ready; full = binding_full (zeros_full known schema.parameters ready.some_object few_parameters) }
+  pub zeros_ready : Full query (take schema.parameters (replicate 6 0))
+  unfolding query_in query_of schema_of
+  zeros_ready = binding_full (zeros_full asked.known schema.parameters asked.ready.some_object few_parameters)
 
   pub first_chosen : {after : List ℕ} {r : Bool} → Picks query (λ y. true) after r → r ≡ true
       → BindingPicked query (λ y. true) (Some (after ++ drop schema.parameters (replicate 6 0)))
-  unfolding query_of schema_of
+  unfolding query_in query_of schema_of
   first_chosen picks finds = chooses_front (replicate 6 0) (drop_zeros schema.parameters 6) picks finds
 
 -- the same after a given binding, which is at the front of the array to begin with
-module _ {arities : List ℕ} {known : ℕ} {schema : Schema} {buffer : List ℕ} {count : ℕ} {given : List ℕ}
-    (bound : BindingReady arities known schema buffer count given) where
+module _ (asked : Asked) {given : List ℕ} (bound : Full (query_in asked) given) where
   pub few_given : length given ≤ 6
-  unfolding query_of schema_of
-  few_given = let few = few_parameters bound.ready in let same : length given ≡ schema.parameters = bound.full.one_for_each in omega arith
+  unfolding query_in query_of schema_of
+  few_given = let few = few_parameters asked in let same : length given ≡ asked.schema.parameters = bound.one_for_each in omega arith
 
   module _ {array : List ℕ} (filled : array ≡ padded 6 0 given) where
-    front_given : take schema.parameters array ≡ given
-    unfolding query_of schema_of padded
-    front_given = ap (take schema.parameters) filled ∙ take_at given (replicate (6 - length given) 0) schema.parameters bound.full.one_for_each
+    front_given : take asked.schema.parameters array ≡ given
+    unfolding query_in query_of schema_of padded
+    front_given = ap (take asked.schema.parameters) filled ∙ take_at given (replicate (6 - length given) 0) asked.schema.parameters bound.one_for_each
 
-    pub front_inside : schema.parameters ≤ length array
+    pub front_inside : asked.schema.parameters ≤ length array
     front_inside =
-        let few = few_parameters bound.ready in
+        let few = few_parameters asked in
         let size = ap length filled ∙ length_padded 6 0 given few_given in
         omega arith
 
-    pub front_size : length (take schema.parameters array) ≡ schema.parameters
-    unfolding query_of schema_of
-    front_size = ap length front_given ∙ bound.full.one_for_each
+    pub front_size : length (take asked.schema.parameters array) ≡ asked.schema.parameters
+    unfolding query_in query_of schema_of
+    front_size = ap length front_given ∙ bound.one_for_each
 
-    pub given_ready : BindingReady arities known schema buffer count (take schema.parameters array)
-    given_ready = subst (BindingReady arities known schema buffer count) (sym front_given) bound
+    pub given_ready : Full (query_in asked) (take asked.schema.parameters array)
+    given_ready = subst (Full (query_in asked)) (sym front_given) bound
 
-    pub next_chosen : {after : List ℕ} {r : Bool} → Picks (query_of arities known schema buffer count) (before (take schema.parameters array)) after r
-        → r ≡ true → BindingPicked (query_of arities known schema buffer count) (before given) (Some (after ++ drop schema.parameters array))
-    unfolding query_of schema_of padded
+    pub next_chosen : {after : List ℕ} {r : Bool} → Picks (query_in asked) (before (take asked.schema.parameters array)) after r
+        → r ≡ true → BindingPicked (query_in asked) (before given) (Some (after ++ drop asked.schema.parameters array))
+    unfolding query_in query_of schema_of padded
     next_chosen {after} {r} picks finds =
-        let q = query_of arities known schema buffer count in
+        let q = query_in asked in
         chooses_front array
-        (ap (drop schema.parameters) filled
-        ∙ drop_at given (replicate (6 - length given) 0) schema.parameters bound.full.one_for_each
-        ∙ ap (λ (n : ℕ). replicate (6 - n) 0) bound.full.one_for_each)
+        (ap (drop asked.schema.parameters) filled
+        ∙ drop_at given (replicate (6 - length given) 0) asked.schema.parameters bound.one_for_each
+        ∙ ap (λ (n : ℕ). replicate (6 - n) 0) bound.one_for_each)
         (subst (λ (l : List ℕ). Picks q (before l) after r) front_given picks) finds
 
-    pub next_none : {after : List ℕ} {r : Bool} → Picks (query_of arities known schema buffer count) (before (take schema.parameters array)) after r
-        → r ≡ false → BindingPicked (query_of arities known schema buffer count) (before given) None
+    pub next_none : {after : List ℕ} {r : Bool} → Picks (query_in asked) (before (take asked.schema.parameters array)) after r
+        → r ≡ false → BindingPicked (query_in asked) (before given) None
     next_none {after} {r} picks =
-        chooses_none (subst (λ (l : List ℕ). Picks (query_of arities known schema buffer count) (before l) after r) front_given picks)
+        chooses_none (subst (λ (l : List ℕ). Picks (query_in asked) (before l) after r) front_given picks)

@@ -8,7 +8,7 @@ use mathlib.Core.List.{List, []}
 use mathlib.Core.Option.{Option, none, some}
 use lib.Dec.{ltb}
 use lib.ListN.{length, get_or, take}
-use borrow.Author.Tests.{ltb-true, lt-ltb}
+use borrow.Author.Tests.{ltb-true, ltb-false, lt-ltb}
 use Rattle.std.specs.Prelude.{Option as Optional, Some, None, Ok, is_some}
 use Rattle.std.proofs.lemmas.Option.{none-some, same_Some}
 use Rattle.laws.specs.Lists.{padded}
@@ -23,6 +23,7 @@ use Rattle.model.proofs.OpenActions.{Named, action_of, checked_named}
 use Rattle.model.proofs.OpenBySchema.{admits, FullOf, open_from, from_next, from_found, from_end, after_found, after_past}
 use Rattle.card.specs.Represents.{schema_of, task_of, blank_schema, Represented}
 use Rattle.card.specs.declared.Schema.{Schema}
+use Rattle.card.specs.declared.SchemaList.{SchemaList}
 use Rattle.card.specs.declared.Task.{Task}
 use Rattle.card.proofs.Counts.{right, predicates_inside, schema_count}
 use Rattle.card.proofs.Entries.{arities_part}
@@ -30,7 +31,8 @@ use Rattle.strips.proofs.Tasks.{get_d_default, few_schemas, schema_below, chosen
 use Rattle.strips.proofs.Pressing.{state_kept, schema_kept}
 use Rattle.open_actions.specs.Bindings.{Query, query_of, open_binding}
 use Rattle.open_actions.specs.Answers.{NextOpen, action_said, next_open_says, objects_in, Says}
-use Rattle.open_actions.specs.Schemas.{SchemaReady, NoneOpen, BindingPicked, unset, query_at, PassedOver, SchemasReady, FoundAmong, NoneAmong}
+use Rattle.open_actions.specs.Ready.{SchemaReady, unset, SchemasReady}
+use Rattle.open_actions.specs.Schemas.{NoneOpen, BindingPicked, query_at, PassedOver, FoundAmong, NoneAmong}
 use Rattle.open_actions.specs.Schemas.{FoundAfter, NoneAfter, check_listed, GivenAnswered}
 use Rattle.open_actions.specs.declared.OpenAction.{OpenAction}
 use Rattle.open_actions.proofs.Searching.{binding_full}
@@ -50,6 +52,22 @@ pub record SaysFrom (task : Task) (buffer : List ℕ) (count first : ℕ) (r : O
 
 same_ok : {a b : Optional OpenAction} → ◌≡◌ {A = NextOpen} (Ok a) (Ok b) → a ≡ b
 same_ok e = cc
+
+-- one schema more that allows no binding
+pub pass_next : {arities : List ℕ} {known : ℕ} {schemas : SchemaList} {buffer : List ℕ} {count first number : ℕ}
+    → PassedOver arities known schemas buffer count first number → number < schemas.count
+    → NoneOpen (query_at arities known schemas buffer count number) (λ y. true)
+    → PassedOver arities known schemas buffer count first (number + 1)
+pass_next {arities} {known} {schemas} {buffer} {count} {first} {number} passed inside closed = record {
+  started = let h = passed.started in omega arith;
+  in_list = λ k h l. omega arith;
+  none_open = λ k h l.
+      by_test (ltb k number)
+      (λ e. passed.none_open k h (ltb-true k number e))
+      (λ e.
+      subst (λ (n : ℕ). NoneOpen (query_at arities known schemas buffer count n) (λ y. true))
+      (let past = ltb-false k number e in let same : number ≡ k = omega arith in same) closed);
+}
 
 -- an action is not the end
 open_not_end : {C : Type 0} {a : OpenAction} → ◌≡◌ {A = Optional OpenAction} (Some a) None → C

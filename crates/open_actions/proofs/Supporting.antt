@@ -28,6 +28,7 @@ use Rattle.masks.specs.Sets.{is_member, union_of, single_of, common_of, all_belo
 use Rattle.masks.proofs.Operations.{union_member, single_member, all_member, common_member}
 use Rattle.open_actions.specs.Masked.{Agree}
 use Rattle.open_actions.specs.Supports.{RowShows, ParametersWithin, parameters_of, PlaceOf, Ranges, Supported, AtomReady, AtomSupported}
+use Rattle.open_actions.specs.declared.query.Query.{Query as Asked}
 use Rattle.open_actions.specs.declared.support.Support.{Support}
 
 -- ---- the parameters of an atom
@@ -218,28 +219,28 @@ row_shows arities buffer i a y e =
 
 -- what the rows leave, for a fact of the state
 pub atom_supported :
-    {arities buffer : List ℕ} {count : ℕ} {a : Kept} {parameter bound : ℕ} {x : List ℕ} {r : Support} (named : ℕ)
-    → r.linked ≡ common_of bound named → Supported buffer count a (get_or arities a.predicate 0) parameter r.linked x r.mask
-    → AtomSupported arities buffer count a parameter bound x r
-atom_supported {arities} {buffer} {count} {a} {parameter} {bound} {x} {r} named e supported = record {
+    {asked : Asked} {a : Kept} {parameter bound : ℕ} {x : List ℕ} {r : Support} (named : ℕ)
+    → r.linked ≡ common_of bound named → Supported asked.state.now asked.count a (get_or asked.arities.now a.predicate 0) parameter r.linked x r.mask
+    → AtomSupported asked a parameter bound x r
+atom_supported {asked} {a} {parameter} {bound} {x} {r} named e supported = record {
   inside = record {
     each = λ p m.
         and_left (is_member bound p) (is_member named p) (sym (common_member bound named p) ∙ ap (λ (k : ℕ). is_member k p) (sym e) ∙ m);
   };
   holds = λ y agrees there few.
-      row_of arities count buffer (ground y (atom_of arities a)) there
-      (λ i h same. supported.has_object y i h (row_shows arities buffer i a y same) agrees few);
+      row_of asked.arities.now asked.count asked.state.now (ground y (atom_of asked.arities.now a)) there
+      (λ i h same. supported.has_object y i h (row_shows asked.arities.now asked.state.now i a y same) agrees few);
 }
 
 -- an atom of a schema with a binding of its parameters
-pub atom_within : {arities : List ℕ} {a : Kept} {buffer : List ℕ} {count : ℕ} {x : List ℕ} → AtomReady arities a buffer count x
-    → ParametersWithin (get_or arities a.predicate 0) a x
-atom_within {arities} {a} {x = x} ready =
-    let named = atom_predicate arities (length x) a ready.atom_known in
-    let within = arity_within arities a.predicate ready.right named in
-    let inside = atom_arguments arities (length x) a ready.right ready.atom_known in
+pub atom_within : {asked : Asked} {a : Kept} {x : List ℕ} → AtomReady asked a x
+    → ParametersWithin (get_or asked.arities.now a.predicate 0) a x
+atom_within {asked} {a} {x = x} ready =
+    let named = atom_predicate asked.arities.now (length x) a ready.atom_known in
+    let within = arity_within asked.arities.now a.predicate asked.ready.state_kept.shape.right named in
+    let inside = atom_arguments asked.arities.now (length x) a asked.ready.state_kept.shape.right ready.atom_known in
     record {
-      predicate = (let few = ready.few_predicates in omega arith);
+      predicate = (let few = asked.ready.state_kept.shape.few_predicates in omega arith);
       some = within.0;
       first = inside.0 within.0;
       second = inside.1;

@@ -7,8 +7,8 @@ use Rattle.model.specs.Open.{is_accepted}
 use Rattle.card.specs.Represents.{schema_of}
 use Rattle.card.specs.declared.Schema.{Schema}
 use Rattle.masks.specs.Sets.{is_member}
-use Rattle.strips.specs.Steps.{StateKept, SchemaKept}
 use Rattle.open_actions.specs.Masked.{Agree, Inside, Begins, StartsFrom, BoundBelow, Covers}
+use Rattle.open_actions.specs.declared.query.Query.{Query as Asked}
 
 -- What is searched: a schema's bindings by so many objects, on a state.
 pub record Query : Type 0 where
@@ -16,9 +16,13 @@ pub record Query : Type 0 where
   pub known : ℕ
   pub state : State
 
--- the search as the code has it: the task's arities and number of objects, a schema, and the state's bytes and count
+-- the query of a task's arities and number of objects, a schema, and the state's bytes and count
 unfoldable pub query_of : List ℕ → ℕ → Schema → List ℕ → ℕ → Query
 query_of arities known schema buffer count = record { schema = schema_of arities schema; known = known; state = facts_in arities count buffer }
+
+-- the query that the code's value stands for
+unfoldable pub query_in : Asked → Query
+query_in asked = query_of asked.arities.now asked.known asked.schema asked.state.now asked.count
 
 -- the binding is open: no two objects are the same (18), and neither 19 nor 20 refuses
 unfoldable pub open_binding : Query → List ℕ → Bool
@@ -48,13 +52,10 @@ pub record SearchOutcome (q : Query) (exact : Bool) (bound level from : ℕ) (x 
   pub stuck : (culprits : ℕ) → r ≡ Err culprits → Stuck q bound level from x culprits
   pub found : r ≡ Ok tt → exact ≡ true → Earliest q level from x after
 
--- A schema of a checked task, a well-formed state, and a full binding of which the parameters of a mask, all below a level, are bound.
+-- A full binding of which the parameters of a mask, all below a level, are bound.
 -- In a search that is exact every parameter below the level is.
-pub record Searchable (arities : List ℕ) (known : ℕ) (schema : Schema) (buffer : List ℕ) (count : ℕ) (exact : Bool) (bound level : ℕ)
-    (x : List ℕ) : Type 0 where
-  pub state_kept : StateKept arities known buffer count
-  pub schema_kept : SchemaKept arities schema
-  pub full : Full (query_of arities known schema buffer count) x
+pub record Searchable (asked : Asked) (exact : Bool) (bound level : ℕ) (x : List ℕ) : Type 0 where
+  pub full : Full (query_in asked) x
   pub bound_below : BoundBelow bound level
   pub all_bound : exact ≡ true → Covers bound level
   pub within : level ≤ length x

@@ -1,5 +1,6 @@
 pub mod Masked
 pub mod Supports
+pub mod Ready
 pub mod Bindings
 pub mod Notes
 pub mod Answers

@@ -1,10 +1,10 @@
 -- What is noted of the search, so that it is not searched again: at each place seven bytes, a mask of culprits and then the objects of the
 -- parameters. And the search with notes.
 use Rattle.std.specs.Prelude.{ℕ, ◌+◌, ◌*◌, ◌≤◌, ◌<◌, ◌≡◌, Bool, true, false, List, length, get_or, Result}
-use Rattle.card.specs.declared.Schema.{Schema}
 use Rattle.masks.specs.Sets.{is_member}
 use Rattle.open_actions.specs.Masked.{Inside}
-use Rattle.open_actions.specs.Bindings.{Query, query_of, open_binding, Full, Searchable, SearchOutcome}
+use Rattle.open_actions.specs.Bindings.{Query, query_in, open_binding, Full, Searchable, SearchOutcome}
+use Rattle.open_actions.specs.declared.query.Query.{Query as Asked}
 
 -- the culprits that are noted at a place, and the object of a parameter; past the end of the table there are none
 unfoldable pub culprits_at : List ℕ → ℕ → ℕ
@@ -40,17 +40,15 @@ pub record KeepsNotes (q : Query) (old new : List ℕ) : Type 0 where
   pub true_notes : Notes q new
 
 -- What a search from a level on relies on, and what the step of a level does with an object for its parameter.
-pub record Searches (arities : List ℕ) (known : ℕ) (schema : Schema) (buffer : List ℕ) (count : ℕ) (exact : Bool) (bound level : ℕ)
-    (x notes : List ℕ) : Type 0 where
-  pub ready : Searchable arities known schema buffer count exact bound level x
-  pub true_notes : Notes (query_of arities known schema buffer count) notes
+pub record Searches (asked : Asked) (exact : Bool) (bound level : ℕ) (x notes : List ℕ) : Type 0 where
+  pub ready : Searchable asked exact bound level x
+  pub true_notes : Notes (query_in asked) notes
 
-pub record Descends (arities : List ℕ) (known : ℕ) (schema : Schema) (buffer : List ℕ) (count : ℕ) (exact : Bool) (bound level o : ℕ)
-    (x notes : List ℕ) : Type 0 where
-  pub ready : Searchable arities known schema buffer count exact bound level x
+pub record Descends (asked : Asked) (exact : Bool) (bound level o : ℕ) (x notes : List ℕ) : Type 0 where
+  pub ready : Searchable asked exact bound level x
   pub inside : level < length x
-  pub object_known : o < known
-  pub true_notes : Notes (query_of arities known schema buffer count) notes
+  pub object_known : o < asked.known
+  pub true_notes : Notes (query_in asked) notes
 
 -- What either answers.
 pub record Concludes (q : Query) (exact : Bool) (bound level from : ℕ) (x after old new : List ℕ) (r : Result (Unit {0}) ℕ) : Type 0 where

@@ -1,33 +1,23 @@
 -- What is relied on and what is answered by the search among the bindings of a schema and over the schemas of a task.
-use Rattle.std.specs.Prelude.{ℕ, ◌≤◌, ◌<◌, ◌≡◌, Bool, true, false, ◌⊎◌, List, [], ltb, get_or, take, Option as Optional, Some, None, Ok}
+use Rattle.std.specs.Prelude.{ℕ, ◌≤◌, ◌<◌, ◌≡◌, Bool, true, false, ◌⊎◌, List, ltb, get_or, take, Option as Optional, Some, None, Ok}
 use Rattle.laws.specs.Lists.{padded, before}
 use Rattle.model.specs.Answer.{Answer, refused, accepted, ◌>>◌, need}
 use Rattle.model.specs.Strips.{Action, check_objects}
 use Rattle.model.proofs.Bindings.{FirstBinding}
 use Rattle.card.specs.Represents.{schema_of}
-use Rattle.card.specs.declared.Schema.{Schema}
 use Rattle.card.specs.declared.SchemaList.{SchemaList}
-use Rattle.strips.specs.Steps.{StateKept, SchemaKept}
-use Rattle.open_actions.specs.Bindings.{Query, query_of, open_binding, Full}
+use Rattle.open_actions.specs.Ready.{unset}
+use Rattle.open_actions.specs.Bindings.{Query, query_of, query_in, open_binding, Full}
 use Rattle.open_actions.specs.Notes.{Notes}
 use Rattle.open_actions.specs.Answers.{NextOpen, Says}
 use Rattle.open_actions.specs.declared.OpenAction.{OpenAction}
+use Rattle.open_actions.specs.declared.query.Queries.{Queries}
+use Rattle.open_actions.specs.declared.query.Query.{Query as Asked}
 
--- A schema of a checked task, which has an object, and a well-formed state.
-pub record SchemaReady (arities : List ℕ) (known : ℕ) (schema : Schema) (buffer : List ℕ) (count : ℕ) : Type 0 where
-  pub state_kept : StateKept arities known buffer count
-  pub schema_kept : SchemaKept arities schema
-  pub some_object : 1 ≤ known
-
--- The same, and a full binding.
-pub record BindingReady (arities : List ℕ) (known : ℕ) (schema : Schema) (buffer : List ℕ) (count : ℕ) (x : List ℕ) : Type 0 where
-  pub ready : SchemaReady arities known schema buffer count
-  pub full : Full (query_of arities known schema buffer count) x
-
--- The same, and notes.
-pub record NotesReady (arities : List ℕ) (known : ℕ) (schema : Schema) (buffer : List ℕ) (count : ℕ) (x notes : List ℕ) : Type 0 where
-  pub ready : BindingReady arities known schema buffer count x
-  pub true_notes : Notes (query_of arities known schema buffer count) notes
+-- What a search relies on that starts with a full binding and notes.
+pub record NotesReady (asked : Asked) (x notes : List ℕ) : Type 0 where
+  pub full : Full (query_in asked) x
+  pub true_notes : Notes (query_in asked) notes
 
 -- no binding is open, of those among which one is looked for
 abbrev pub NoneOpen : Query → (List ℕ → Bool) → Type 0
@@ -58,15 +48,6 @@ pub record BindingPicked (q : Query) (among : List ℕ → Bool) (r : Optional (
   pub found : (objects : List ℕ) → r ≡ Some objects → FirstOpen q among (take q.schema.parameters objects)
   pub none : r ≡ None → NoneOpen q among
 
--- what a read past an array of schemas would give
-abbrev pub unset : Schema
-unset = record {
-  parameters = 0;
-  preconditions = record { count = 0; atoms = [] };
-  deletes = record { count = 0; atoms = [] };
-  adds = record { count = 0; atoms = [] };
-}
-
 -- the bindings of a schema of a list
 abbrev pub query_at : List ℕ → ℕ → SchemaList → List ℕ → ℕ → ℕ → Query
 query_at arities known schemas buffer count k = query_of arities known (get_or schemas.schemas k unset) buffer count
@@ -77,12 +58,7 @@ pub record PassedOver (arities : List ℕ) (known : ℕ) (schemas : SchemaList) 
   pub in_list : (k : ℕ) → first ≤ k → k < number → k < schemas.count
   pub none_open : (k : ℕ) → first ≤ k → k < number → NoneOpen (query_at arities known schemas buffer count k) (λ y. true)
 
--- What the search over the schemas of a list relies on: each of them is ready.
-pub record SchemasReady (arities : List ℕ) (known : ℕ) (schemas : SchemaList) (buffer : List ℕ) (count : ℕ) : Type 0 where
-  pub few : (k : ℕ) → k < schemas.count → k < 32
-  pub each : (k : ℕ) → k < schemas.count → SchemaReady arities known (get_or schemas.schemas k unset) buffer count
-
--- Its answer: the first open binding of the first schema that has one, or the end.
+-- The answer of the search over the schemas of a list: the first open binding of the first schema that has one, or the end.
 pub record FoundAmong (arities : List ℕ) (known : ℕ) (schemas : SchemaList) (buffer : List ℕ) (count first : ℕ) (r : Optional OpenAction) : Type 0 where
   pub number : ℕ
   pub passed : PassedOver arities known schemas buffer count first number
@@ -131,3 +107,16 @@ pub record GivenPassed (arities : List ℕ) (known : ℕ) (schemas : SchemaList)
 abbrev pub GivenAnswered : List ℕ → ℕ → SchemaList → List ℕ → ℕ → Action → NextOpen → Type 0
 GivenAnswered arities known schemas buffer count given r =
     GivenRefused arities known schemas given r ⊎ GivenPassed arities known schemas buffer count given r
+
+-- Both answers, of the code's value.
+abbrev pub AmongAnswered : Queries → ℕ → Optional OpenAction → Type 0
+AmongAnswered all first r =
+    FoundAmong all.arities.now all.known all.schemas.now all.state.now all.count first r
+    ⊎ NoneAmong all.arities.now all.known all.schemas.now all.state.now all.count first r
+
+abbrev pub AfterAnswered : Queries → Action → NextOpen → Type 0
+AfterAnswered all given r = GivenAnswered all.arities.now all.known all.schemas.now all.state.now all.count given r
+
+-- the query that the code makes of a schema of the list
+abbrev pub query_within : Queries → ℕ → Query
+query_within all number = query_at all.arities.now all.known all.schemas.now all.state.now all.count number

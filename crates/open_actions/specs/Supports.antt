@@ -2,7 +2,7 @@
 use Rattle.std.specs.Prelude.{ℕ, ◌+◌, ◌*◌, ◌≤◌, ◌<◌, ◌≡◌, Bool, true, false, cond, List, ltb, length, get_or}
 use Rattle.laws.specs.Lists.{up_to}
 use Rattle.laws.specs.Lists.{count as counted}
-use Rattle.model.specs.Card.{has, in_range}
+use Rattle.model.specs.Card.{has}
 use Rattle.model.specs.Writer.{known}
 use Rattle.model.specs.Strips.{ground, facts_in}
 use Rattle.card.specs.Represents.{atom_of, blank_atom}
@@ -10,8 +10,9 @@ use Rattle.model.specs.Card.{Atom as Model}
 use Rattle.card.specs.declared.Atom.{Atom}
 use Rattle.card.specs.declared.AtomList.{AtomList}
 use Rattle.masks.specs.Sets.{is_member, union_of, single_of}
-use Rattle.state.specs.Rows.{row_number, row_at, RowsAscend}
+use Rattle.state.specs.Rows.{row_number, row_at}
 use Rattle.open_actions.specs.Masked.{Agree, Inside}
+use Rattle.open_actions.specs.declared.query.Query.{Query as Asked}
 use Rattle.open_actions.specs.declared.support.Support.{Support}
 
 -- Row i of a buffer holds the fact that an atom becomes with a binding's objects.
@@ -54,20 +55,17 @@ pub record Supported (buffer : List ℕ) (count : ℕ) (a : Atom) (arity paramet
       (y : List ℕ) (i : ℕ) → i < count → RowShows buffer i arity a y → Agree bound x y → get_or y parameter 0 < 64
       → is_member mask (get_or y parameter 0) ≡ true
 
--- An atom of a schema, the rows of a state, and a binding of the schema's parameters.
-pub record AtomReady (arities : List ℕ) (a : Atom) (buffer : List ℕ) (count : ℕ) (x : List ℕ) : Type 0 where
-  pub right : in_range arities ≡ true
-  pub atom_known : known arities (length x) (atom_of arities a) ≡ true
-  pub few_predicates : length arities ≤ 20
-  pub rows : RowsAscend count buffer
+-- An atom of a schema, and a binding of the schema's parameters.
+pub record AtomReady (asked : Asked) (a : Atom) (x : List ℕ) : Type 0 where
+  pub atom_known : known asked.arities.now (length x) (atom_of asked.arities.now a) ≡ true
   pub few : length x ≤ 64
 
 -- What an atom leaves to a parameter: a binding that has the bound objects at the linked parameters has an object of the mask there, if
 -- the atom becomes a fact of the state with it.
-pub record AtomSupported (arities buffer : List ℕ) (count : ℕ) (a : Atom) (parameter bound : ℕ) (x : List ℕ) (r : Support) : Type 0 where
+pub record AtomSupported (asked : Asked) (a : Atom) (parameter bound : ℕ) (x : List ℕ) (r : Support) : Type 0 where
   pub inside : Inside r.linked bound
   pub holds :
-      (y : List ℕ) → Agree r.linked x y → has (facts_in arities count buffer) (ground y (atom_of arities a)) ≡ true
+      (y : List ℕ) → Agree r.linked x y → has (facts_in asked.arities.now asked.count asked.state.now) (ground y (atom_of asked.arities.now a)) ≡ true
       → get_or y parameter 0 < 64 → is_member r.mask (get_or y parameter 0) ≡ true
 
 -- the atom at a place of a list
@@ -75,24 +73,20 @@ unfoldable pub atom_at : List ℕ → AtomList → ℕ → Model
 atom_at arities l i = atom_of arities (get_or l.atoms i blank_atom)
 
 -- A list of a schema's atoms, and the same.
-pub record ListReady (arities : List ℕ) (l : AtomList) (buffer : List ℕ) (count : ℕ) (x : List ℕ) : Type 0 where
-  pub right : in_range arities ≡ true
+pub record ListReady (asked : Asked) (l : AtomList) (x : List ℕ) : Type 0 where
   pub few_atoms : l.count ≤ 8
   pub size : length l.atoms ≡ 8
-  pub atoms_known : (i : ℕ) → i < l.count → known arities (length x) (atom_at arities l i) ≡ true
-  pub few_predicates : length arities ≤ 20
-  pub rows : RowsAscend count buffer
+  pub atoms_known : (i : ℕ) → i < l.count → known asked.arities.now (length x) (atom_at asked.arities.now l i) ≡ true
   pub few : length x ≤ 64
 
 -- The candidates that the first atoms of a list leave: a binding that has the bound objects at the culprits has a candidate at the
 -- parameter, if each of these atoms becomes a fact of the state with it.
-pub record LeavesCandidates (arities : List ℕ) (l : AtomList) (atoms known : ℕ) (buffer : List ℕ) (count parameter bound : ℕ) (x : List ℕ)
-    (mask culprits : ℕ) : Type 0 where
+pub record LeavesCandidates (asked : Asked) (l : AtomList) (atoms parameter bound : ℕ) (x : List ℕ) (mask culprits : ℕ) : Type 0 where
   pub inside : Inside culprits bound
   pub holds :
       (y : List ℕ) → Agree culprits x y
-      → ((i : ℕ) → i < atoms → has (facts_in arities count buffer) (ground y (atom_at arities l i)) ≡ true)
-      → get_or y parameter 0 < known → is_member mask (get_or y parameter 0) ≡ true
+      → ((i : ℕ) → i < atoms → has (facts_in asked.arities.now asked.count asked.state.now) (ground y (atom_at asked.arities.now l i)) ≡ true)
+      → get_or y parameter 0 < asked.known → is_member mask (get_or y parameter 0) ≡ true
 
 unfoldable pub no_support : Support
 no_support = record { mask = 0; linked = 0 }
@@ -101,9 +95,8 @@ unfoldable pub support_at : List Support → ℕ → Support
 support_at items i = get_or items i no_support
 
 -- What each atom of a list leaves.
-pub record LeavesSupports (arities : List ℕ) (l : AtomList) (buffer : List ℕ) (count parameter bound : ℕ) (x : List ℕ)
-    (items : List Support) : Type 0 where
-  pub each : (i : ℕ) → i < l.count → AtomSupported arities buffer count (get_or l.atoms i blank_atom) parameter bound x (support_at items i)
+pub record LeavesSupports (asked : Asked) (l : AtomList) (parameter bound : ℕ) (x : List ℕ) (items : List Support) : Type 0 where
+  pub each : (i : ℕ) → i < l.count → AtomSupported asked (get_or l.atoms i blank_atom) parameter bound x (support_at items i)
 
 -- The object leaves too little room: whatever is true of each atom without the object, if its linked parameters are among the culprits,
 -- is true of more than `room` atoms.

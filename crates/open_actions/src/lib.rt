@@ -3,6 +3,7 @@
 
 mod choices;
 mod notes;
+mod query;
 mod room;
 mod rows;
 mod schemas;
@@ -13,12 +14,12 @@ ghost use Rattle.std.specs.Prelude.{◌≡◌};
 ghost use Rattle.model.specs.Open.{next_open_of, next_open};
 ghost use Rattle.card.specs.Represents.{task_of, Represented};
 ghost use Rattle.open_actions.specs.Answers.{given_of, Says};
-ghost use Rattle.open_actions.specs.Schemas.{SchemasReady, GivenAnswered};
+ghost use Rattle.open_actions.specs.Schemas.{AfterAnswered};
 ghost use Rattle.open_actions.specs.declared.OpenRefusal.TheVariants.{Card};
 
-use crate::schemas::{open_among, rest_of_schema};
+use crate::query::Queries;
 use actions::{MOST_PARAMETERS, all_different, all_known};
-use card::{Refusal, SchemaList, Task, Verdict};
+use card::{Refusal, Task, Verdict};
 use reader::decode;
 use state::well_formed;
 
@@ -48,31 +49,24 @@ impl From<Refusal> for OpenRefusal {
     }
 }
 
-// 16 to 18 of the given action, as at a press, then the next open action of its schema, or the end where its schema has none after it.
-fn after_given(
-    schemas: SchemaList,
-    arities: &[u8],
-    known: usize,
-    state: &[u8],
-    count: usize,
-    number: usize,
-    objects: &[u8],
-) -> Result<Option<OpenAction>, OpenRefusal>
-    requires { SchemasReady arities.now known schemas state.now count }
-    ensures { GivenAnswered arities.now known schemas state.now count (record { schema = number; objects = objects.now }) result }
-{
-    if schemas.count <= number {
-        return Err(OpenRefusal::SchemaUnknown);
+impl Queries<'_> {
+    // 16 to 18 of the given action, as at a press, then the next open action of its schema, or the end where its schema has none after it.
+    fn after_given(&self, number: usize, objects: &[u8]) -> Result<Option<OpenAction>, OpenRefusal>
+        ensures { AfterAnswered self.now (record { schema = number; objects = objects.now }) result }
+    {
+        if self.schemas.count <= number {
+            return Err(OpenRefusal::SchemaUnknown);
+        }
+        let query = self.query(number);
+        if objects.len() != query.schema.parameters || !all_known(objects, self.known) {
+            return Err(OpenRefusal::ObjectsWrong);
+        }
+        if !all_different(objects) {
+            return Err(OpenRefusal::ObjectsRepeated);
+        }
+        let rest = query.rest_of_schema(number, objects);
+        Ok(rest)
     }
-    let schema = schemas.schemas[number];
-    if objects.len() != schema.parameters || !all_known(objects, known) {
-        return Err(OpenRefusal::ObjectsWrong);
-    }
-    if !all_different(objects) {
-        return Err(OpenRefusal::ObjectsRepeated);
-    }
-    let rest = rest_of_schema(schema, arities, known, state, count, number, objects);
-    Ok(rest)
 }
 
 // 15 to 18, for a task: the state first, then the given action and the rest of its schema, then the later schemas; with none given all
@@ -93,16 +87,22 @@ fn next_open_of(
     if !well_formed(state, count, arities, known) {
         return Err(OpenRefusal::StateMalformed);
     }
-    let schemas = task.schemas;
-    let mut first = 0;
-    if let Some(number) = given {
-        let next = after_given(schemas, arities, known, state, count, number, objects)?;
-        if next.is_some() {
-            return Ok(next);
-        }
-        first = number + 1;
+    let queries = Queries {
+        schemas: &task.schemas,
+        arities,
+        known,
+        state,
+        count,
+    };
+    let Some(number) = given else {
+        let all = queries.open_among(0);
+        return Ok(all);
+    };
+    let next = queries.after_given(number, objects)?;
+    if next.is_some() {
+        return Ok(next);
     }
-    let later = open_among(schemas, arities, known, state, count, first);
+    let later = queries.open_among(number + 1);
     Ok(later)
 }
 

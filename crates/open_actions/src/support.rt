@@ -1,9 +1,10 @@
 // Which objects the state leaves to a parameter: those that some fact has where an atom of the schema has the parameter.
-ghost use Rattle.std.specs.Prelude.{◌≡◌, ◌≤◌, IfSome};
+ghost use Rattle.std.specs.Prelude.{◌≡◌, IfSome};
 ghost use Rattle.state.specs.Rows.{RowsAscend};
 ghost use Rattle.open_actions.specs.Supports.{ParametersWithin, parameters_of, PlaceOf, Supported, AtomReady, AtomSupported};
 ghost use Rattle.open_actions.specs.Supports.{ListReady, LeavesCandidates, LeavesSupports};
 
+use crate::query::Query;
 use crate::rows::{range_of, row_agrees};
 use card::{Atom, AtomList};
 use masks::{all_below, common, single, union};
@@ -96,71 +97,59 @@ fn rows_support(
     mask
 }
 
-// What an atom leaves to a parameter. It depends on the atom's own parameters, as far as they are bound.
-fn atom_support(
-    a: Atom,
-    arities: &[u8],
-    state: &[u8],
-    count: usize,
-    parameter: usize,
-    bound: u64,
-    objects: &[u8],
-) -> Support
-    requires { AtomReady arities.now a state.now count objects.now }
-    ensures { AtomSupported arities.now state.now count a parameter bound objects.now result }
-{
-    let arity = arities[usize::from(a.predicate)];
-    let linked = common(bound, parameters_of(a, arity, objects));
-    let mask = rows_support(state, count, a, arity, parameter, linked, objects);
-    Support { mask, linked }
-}
+impl Query<'_> {
+    // What an atom leaves to a parameter. It depends on the atom's own parameters, as far as they are bound.
+    fn atom_support(&self, a: Atom, parameter: usize, bound: u64, objects: &[u8]) -> Support
+        requires { AtomReady self.now a objects.now }
+        ensures { AtomSupported self.now a parameter bound objects.now result }
+    {
+        let arity = self.arities[usize::from(a.predicate)];
+        let linked = common(bound, parameters_of(a, arity, objects));
+        let mask = rows_support(self.state, self.count, a, arity, parameter, linked, objects);
+        Support { mask, linked }
+    }
 
-// The objects that every atom of a list, a schema's preconditions, leaves to a parameter.
-pub(crate) fn candidates_for(
-    list: AtomList,
-    arities: &[u8],
-    known: usize,
-    state: &[u8],
-    count: usize,
-    parameter: usize,
-    bound: u64,
-    objects: &[u8],
-) -> Candidates
-    requires { (known ≤ 64) × ListReady arities.now list state.now count objects.now }
-    ensures { LeavesCandidates arities.now list list.count known state.now count parameter bound objects.now
-        result.mask result.culprits }
-{
-    let mut mask = all_below(known);
-    let mut culprits = 0u64;
-    for a in &list.atoms[..list.count] {
-        let one = atom_support(*a, arities, state, count, parameter, bound, objects);
-        let left = common(mask, one.mask);
-        if left != mask {
-            mask = left;
-            culprits = union(culprits, one.linked);
+    // The objects that every atom of a list, a schema's preconditions, leaves to a parameter.
+    pub(crate) fn candidates_for(
+        &self,
+        list: AtomList,
+        parameter: usize,
+        bound: u64,
+        objects: &[u8],
+    ) -> Candidates
+        requires { ListReady self.now list objects.now }
+        ensures { LeavesCandidates self.now list list.count parameter bound objects.now result.mask result.culprits }
+    {
+        let mut mask = all_below(self.known);
+        let mut culprits = 0u64;
+        for a in &list.atoms[..list.count] {
+            let one = self.atom_support(*a, parameter, bound, objects);
+            let left = common(mask, one.mask);
+            if left != mask {
+                mask = left;
+                culprits = union(culprits, one.linked);
+            }
         }
+        Candidates { mask, culprits }
     }
-    Candidates { mask, culprits }
-}
 
-// What each atom of a list, a schema's adds, leaves to a parameter.
-pub(crate) fn supports_for(
-    list: AtomList,
-    arities: &[u8],
-    state: &[u8],
-    count: usize,
-    parameter: usize,
-    bound: u64,
-    objects: &[u8],
-) -> [Support; 8]
-    requires { ListReady arities.now list state.now count objects.now }
-    ensures { LeavesSupports arities.now list state.now count parameter bound objects.now result }
-{
-    let blank = Support { mask: 0, linked: 0 };
-    let mut items = [blank; 8];
-    for i in 0..list.count {
-        let a = list.atoms[i];
-        items[i] = atom_support(a, arities, state, count, parameter, bound, objects);
+    // What each atom of a list, a schema's adds, leaves to a parameter.
+    pub(crate) fn supports_for(
+        &self,
+        list: AtomList,
+        parameter: usize,
+        bound: u64,
+        objects: &[u8],
+    ) -> [Support; 8]
+        requires { ListReady self.now list objects.now }
+        ensures { LeavesSupports self.now list parameter bound objects.now result }
+    {
+        let blank = Support { mask: 0, linked: 0 };
+        let mut items = [blank; 8];
+        for i in 0..list.count {
+            let a = list.atoms[i];
+            items[i] = self.atom_support(a, parameter, bound, objects);
+        }
+        items
     }
-    items
 }

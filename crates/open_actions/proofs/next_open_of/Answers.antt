@@ -1,12 +1,11 @@
 -- 15, then the given action and the rest of its schema, then the schemas after it; with none given all schemas.
-use Rattle.std.proofs.Common.{sym, ◌∙◌, arith}
+use Rattle.std.proofs.Common.{refl, sym, ◌∙◌, arith}
 use Rattle.std.proofs.lemmas.Result.{err_from_is_err_and}
 use Rattle.card.proofs.Counts.{predicates_inside}
 use Rattle.strips.proofs.Pressing.{part_right}
 use Rattle.open_actions.proofs.OverSchemas.{schemas_ready, says_among, end_now, given_small}
 use Rattle.open_actions.proofs.Answering.{state_refused, task_ready, first_answered, given_refused, next_answered, later_answered}
 use Rattle.open_actions.proofs.next_open_of.Goals as goal
-use Rattle.open_actions.proofs.next_open_of.Goals.{in-Some+in_ok-next+else-is_some, in_default}
 
 pub slice_bounds-arities-end : goal.slice_bounds-arities-end
 slice_bounds-arities-end c = predicates_inside _ c.requires
@@ -17,8 +16,15 @@ well_formed-requires c = part_right _ c.requires
 pub returns-then-not-well_formed : goal.returns-then-not-well_formed
 returns-then-not-well_formed c = state_refused c.requires _ _ c.well_formed-2.ensures _ c.if-not-well_formed.true
 
-pub after_given-requires : goal.after_given-requires
-after_given-requires c = schemas_ready (task_ready c.requires _ _ c.well_formed-2.ensures c.if-not-well_formed.false)
+pub invariant_of-queries : goal.invariant_of-queries
+invariant_of-queries c = record {
+  ready = schemas_ready (task_ready c.requires _ _ c.well_formed-2.ensures c.if-not-well_formed.false);
+}
+
+pub invariant_of-queries-2 : goal.invariant_of-queries-2
+invariant_of-queries-2 c = record {
+  ready = schemas_ready (task_ready c.requires _ _ c.well_formed-2.ensures c.if-not-well_formed.false);
+}
 
 pub returns-in_err-next : goal.returns-in_err-next
 returns-in_err-next c =
@@ -30,20 +36,18 @@ returns-then-is_some c =
     next_answered (task_ready c.requires _ _ c.well_formed-2.ensures c.if-not-well_formed.false) _ c.in-Some.is c.in_ok-next.ensures
     (sym c.is_some.ensures ∙ c.if-is_some.true)
 
-pub overflow_add-first : goal.overflow_add-first
-overflow_add-first c =
+pub overflow_add-number : goal.overflow_add-number
+overflow_add-number c =
     let ready = task_ready c.requires _ _ c.well_formed-2.ensures c.if-not-well_formed.false in
     omega (arith, given_small ready _ (end_now ready _ c.in_ok-next.ensures (sym c.is_some.ensures ∙ c.if-is_some.false)))
-
-pub open_among-later-requires : goal.open_among-later-requires
-open_among-later-requires c = schemas_ready (task_ready c.requires _ _ c.well_formed-2.ensures c.if-not-well_formed.false)
 
 pub returns : goal.returns
 returns c =
     let ready = task_ready c.requires _ _ c.well_formed-2.ensures c.if-not-well_formed.false in
-    let says = says_among ready c.open_among-later.ensures in
-    elim c.match-given.branch [
-      | in-Some+in_ok-next+else-is_some w ↦
-          later_answered ready _ w.in-Some.is w.in_ok-next.ensures (sym w.is_some.ensures ∙ w.if-is_some.false) w.first-is says
-      | in_default w ↦ first_answered ready _ w.in_default.is w.first-is says
-    ]
+    later_answered ready _ c.in-Some.is c.in_ok-next.ensures (sym c.is_some.ensures ∙ c.if-is_some.false) refl
+    (says_among ready c.open_among-later.ensures)
+
+pub returns-in_default : goal.returns-in_default
+returns-in_default c =
+    let ready = task_ready c.requires _ _ c.well_formed-2.ensures c.if-not-well_formed.false in
+    first_answered ready _ c.in_default.is refl (says_among ready c.open_among-all.ensures)

@@ -1,6 +1,0 @@
--- One atom after the other.
-use Rattle.open_actions.proofs.Choosing.{Filled}
-use Rattle.open_actions.proofs.support.supports_for.Given as goal
-
-abbrev pub invariant-loop-i : goal.invariant-loop-i
-invariant-loop-i l = Filled l.arities l.list l.state l.count l.parameter l.bound l.objects l.items l.i
