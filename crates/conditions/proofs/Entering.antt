@@ -16,7 +16,7 @@ use Rattle.laws.proofs.Padded.{length_padded, padded_at, padded_past}
 use Rattle.laws.proofs.Tests.{by_test}
 use Rattle.masks.specs.Sets.{mask_of, union_of, single_of}
 use Rattle.masks.proofs.Joining.{kept_start, kept_joined, kept_skipped}
-use Rattle.conditions.specs.Minimal.{entered_at, entered_if, row_mask, Entered, Masks, AllEntered}
+use Rattle.conditions.specs.Minimal.{entered_at, entered_if, row_mask, Entered}
 
 -- ---- one number entered into one mask
 
@@ -130,11 +130,6 @@ module _ {test : ℕ → ℕ → Bool} {i : ℕ} {masks : List ℕ} where
         (λ b d f. entered_other (test k i) i k mid b d ∙ entered_other (test i k) k i masks b f))
 
 -- ---- all conditions entered
-
--- as many as there are
-pub all_entered : {size n count : ℕ} {table : List ℕ} {masks : Masks} → n ≤ count → count ≤ n → AllEntered size table n masks
-    → AllEntered size table count masks
-all_entered {size} {table = table} {masks = masks} p q a = subst (λ (k : ℕ). AllEntered size table k masks) (le_antisymm p q) a
 
 pub entered_none : {test : ℕ → ℕ → Bool} → Entered test 0 (replicate 64 0)
 entered_none = record { long = length-replicate {A = ℕ} 64 0; rows = λ i h. absurd (omega (arith, h)); blank = λ i h. none 64 i }
