@@ -11,11 +11,15 @@ use Rattle.model.specs.Spaces.{moved, unite_all, grouping}
 use Rattle.properties.specs.Parameters.{RoomForBags, rules_in}
 use Rattle.properties.specs.Tables.{stride, bag_at, HasRow}
 use Rattle.properties.proofs.Rows.{length_bag_at}
-use Rattle.spaces.specs.Steps.{united_by, groups_in, round_in, rounds_in}
+use Rattle.spaces.specs.Steps.{united_by, groups_in, gain_row, round_in, rounds_in}
 use Rattle.spaces.proofs.Rows.{united_below}
 use Rattle.spaces.proofs.RuleSteps.{gain_by, round_of, rounds_of}
 use Rattle.spaces.proofs.RowRules.{unite_rules, gain_rules}
 use Rattle.spaces.proofs.Uniting.{unitings_padded}
+
+-- what the parameter in a row brings
+abbrev pub gain_at : List ℕ → ℕ → ℕ → List ℕ → List ℕ → List ℕ → List ℕ → List ℕ → ℕ → List ℕ
+gain_at groups objects size p d a old gained row = gain_row groups objects old gained (bag_at size p row) (bag_at size d row) (bag_at size a row)
 
 module _ {size count : ℕ} {p d a : List ℕ} (narrow : size ≤ stride) (room : RoomForBags count p d a) where
   -- each row is in its table

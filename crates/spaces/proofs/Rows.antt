@@ -13,6 +13,7 @@ use Rattle.laws.specs.Bags.{support}
 use Rattle.laws.proofs.Lists.{up_to_at, up_to_intro, keep_at, any_intro, any_false}
 use Rattle.laws.proofs.Mapped.{keep_ext}
 use Rattle.laws.proofs.Walks.{left, kept_passes, kept_fails, kept_none}
+use Rattle.masks.specs.Sets.{common_of}
 use Rattle.properties.specs.Tables.{bag_at, HasRow}
 use Rattle.properties.proofs.Rows.{length_bag_at, get_d_bag_at}
 use Rattle.spaces.specs.Steps.{has_start, changed_by, united_by, first_of}
@@ -23,6 +24,10 @@ used table at c = ltb 0 (get_or table (at + c) 0)
 
 unfoldable pub differs : List ℕ → List ℕ → ℕ → ℕ → Bool
 differs deletes adds at c = not (eqb (get_or deletes (at + c) 0) (get_or adds (at + c) 0))
+
+-- the members of the space of a property, met with others
+abbrev pub meet_at : List ℕ → List ℕ → ℕ → ℕ → ℕ
+meet_at groups masks those c = common_of those (get_or masks (get_or groups c 0) 0)
 
 -- the properties of a row's bag
 pub support_kept : {size row : ℕ} {table : List ℕ} → HasRow size row table

@@ -16,6 +16,7 @@ use Rattle.laws.proofs.Mapped.{map_ext}
 use Rattle.laws.proofs.Walks.{changed, changed_at, changed_next, changed_left}
 use Rattle.model.specs.Spaces.{unite, unite_all}
 use Rattle.model.proofs.Grouping.{length_unite, unite_all_keeps}
+use Rattle.properties.specs.Tables.{bag_at}
 use Rattle.spaces.specs.Steps.{has_start, changed_by, united_by, first_of}
 
 -- a parameter with a start unites the properties that it changes, any other none
@@ -26,6 +27,10 @@ united_started d a = cond_true (has_start d a) (changed_by d a) []
 pub united_none : (d a : Bag) → has_start d a ≡ false → united_by d a ≡ []
 unfolding united_by
 united_none d a = cond_false (has_start d a) (changed_by d a) []
+
+-- what the parameter in a row unites
+abbrev pub unite_at : ℕ → List ℕ → List ℕ → List ℕ → ℕ → List ℕ
+unite_at size deletes adds groups row = unite_all groups (united_by (bag_at size deletes row) (bag_at size adds row))
 
 -- one label in the place of another
 abbrev pub replaced : ℕ → ℕ → ℕ → ℕ
