@@ -71,9 +71,6 @@ module _ {t : Task} {number : ℕ} {p : Prepared} {f : Found} {conditions : List
   pub writable_found : Writable t (analysis_at t number)
   writable_found = part_writable h.checked part_found (analysis_sized t (space_at t number))
 
-  pub few_own : f.own.count ≤ 60
-  few_own = omega (arith, h.own_is.count, writable_found.narrow)
-
   below : (c : ℕ) → Memᴰ c (own_in f) → c < length (properties t)
   below c m = in_order_below _ _ writable_found.in_order c (subst (Memᴰ c) h.held.own_is m)
 
@@ -96,12 +93,11 @@ module _ {t : Task} {number : ℕ} {p : Prepared} {f : Found} {conditions : List
       section_fits number _ (get_or p.spaces.members number 0) listable_found (omega (arith, number_few))
       (λ c m. omega (arith, few_properties, below c m)) small out room
 
-  -- and its totals entered, from the own properties and the number of members as they are handed over
-  module _ {own : List ℕ} (e : own ≡ own_in f) {members : ℕ} (m : members ≡ length (members_at p number)) where
-    pub enterable_found : (fixed : List ℕ) → length fixed ≡ 60 → TotalsEnterable own f.analysed.count members conditions fixed
+  -- and its totals entered, from the number of members as it is handed over
+  module _ {members : ℕ} (m : members ≡ length (members_at p number)) where
+    pub enterable_found : (fixed : List ℕ) → length fixed ≡ 60 → TotalsEnterable (own_in f) f.analysed.count members conditions fixed
     enterable_found fixed long =
-        subst (λ (n : ℕ). TotalsEnterable own f.analysed.count n conditions fixed) (sym m)
-        (subst (λ (l : List ℕ). TotalsEnterable l f.analysed.count (length (members_at p number)) conditions fixed) (sym e)
+        subst (λ (n : ℕ). TotalsEnterable (own_in f) f.analysed.count n conditions fixed) (sym m)
         record {
           rows_there = listable_found.rows;
           apart = listable_found.apart;
@@ -112,13 +108,14 @@ module _ {t : Task} {number : ℕ} {p : Prepared} {f : Found} {conditions : List
             below (get_or (own_in f) j 0) (mem_get_d (own_in f) j 0 k),
           );
           few_members = members_few (get_or p.spaces.members number 0);
-        })
+        }
 
-    pub totals_found : (fixed : List ℕ) {after : List ℕ} → after ≡ entered own (bags_in (length own) f.analysed.count conditions) members fixed
+    pub totals_found : (fixed : List ℕ) {after : List ℕ}
+        → after ≡ entered (own_in f) (bags_in (length (own_in f)) f.analysed.count conditions) members fixed
         → after ≡ found_totals number p f conditions fixed
     unfolding found_totals
     totals_found fixed is =
-        is ∙ (λ i. entered (e i) (bags_in (length (e i)) f.analysed.count conditions) (m i) fixed)
+        is ∙ ap (λ (n : ℕ). entered (own_in f) (bags_in (length (own_in f)) f.analysed.count conditions) n fixed) m
 
   -- the lines are the definition's
   pub lines_found : found_lines number p f conditions ≡ space_lines t number (analysis_at t number)

@@ -2,11 +2,8 @@
 use Prim.Native.Nat.{ℕ, ◌+◌, ◌-◌, ◌≤◌, ◌<◌}
 use native.Mathlib.Omega.{arith}
 use mathlib.Core.Path.{◌≡◌, refl, sym, ap, ◌∙◌, subst}
-use mathlib.Core.Logic.{inl, inr}
 use mathlib.Core.List.{List, [], ◌∷◌, ◌++◌, flat_map, append-nil, Memᴰ}
 use lib.ListN.{length, get_or, take, drop}
-use types.Run.{OneOf}
-use denote.Enum.Declared.{tag_of}
 use Rattle.laws.proofs.Lists.{flat_map_append}
 use Rattle.laws.proofs.Numbers.{in_order_below}
 use Rattle.masks.specs.Sets.{members_of}
@@ -18,7 +15,6 @@ use Rattle.model.specs.Spaces as model
 use Rattle.model.specs.Text.{line_text, text}
 use Rattle.model.proofs.RuleCount.{properties_few}
 use Rattle.properties.specs.Tables.{bags_in}
-use Rattle.text.specs.contracts.kinds.Kind as kinds
 use Rattle.text.specs.Kinds.{kind_says}
 use Rattle.text.specs.Room.{Room}
 use Rattle.text.specs.Written.{Writes}
@@ -41,19 +37,12 @@ use Rattle.prepared.proofs.Finding.{number_few, part_found, arities_of_lem, line
 -- ---- the section
 
 -- only a mixed space is rescued
-not_mixed : {A : Type 0} (k : Kind) → OneOf (0 ∷ 1 ∷ 2 ∷ 4 ∷ 5 ∷ []) (tag_of kinds.the_type k) → (xs : List A) → if_mixed (kind_says k) xs ≡ []
+not_mixed : {A : Type 0} (k : Kind) → (k ≡ Mixed → ⊥) → (xs : List A) → if_mixed (kind_says k) xs ≡ []
 unfolding if_mixed kind_says
 not_mixed Static h xs = refl
 not_mixed Attribute h xs = refl
 not_mixed Property h xs = refl
-not_mixed Mixed h xs = absurd (none h)
-  where
-    none : OneOf (0 ∷ 1 ∷ 2 ∷ 4 ∷ 5 ∷ []) 3 → ⊥
-    none (inl e) = omega arith
-    none (inr (inl e)) = omega arith
-    none (inr (inr (inl e))) = omega arith
-    none (inr (inr (inr (inl e)))) = omega arith
-    none (inr (inr (inr (inr e)))) = omega arith
+not_mixed Mixed h xs = absurd (h refl)
 not_mixed Wide h xs = refl
 not_mixed Rescued h xs = refl
 
@@ -81,7 +70,7 @@ module _ {t : Task} {number : ℕ} {p : Prepared} {f : Found} {conditions : List
       (section_text (ap (λ (k : model.Kind). if_mixed k (rescue_of t a)) kind)) (and_then w v)
 
   -- where it is not, no line does
-  pub section_other : OneOf (0 ∷ 1 ∷ 2 ∷ 4 ∷ 5 ∷ []) (tag_of kinds.the_type f.analysed.kind) → {before after : List ℕ} {n : ℕ}
+  pub section_other : (f.analysed.kind ≡ Mixed → ⊥) → {before after : List ℕ} {n : ℕ}
       → Writes (text (found_lines number p f conditions)) before after n
       → Writes (text (section_lines t number (analysis_at t number))) before after n
   unfolding rescues text flat_map

@@ -46,9 +46,8 @@ pub fn rows_at_most(predicates: ArityList, schemas: SchemaList) -> usize
         → t.schemas ≡ schemas_of (arities_of predicates) schemas
         → result ≡ rows_at_most t }
 {
-    let numbers = numbered(predicates);
-    let properties = numbers.count;
     let parameters = parameters_of(schemas);
+    let properties = numbered(predicates).count;
     parameters + properties
 }
 
@@ -77,8 +76,7 @@ pub fn prepare(
 {
     let parameters = parameter_bags(task.predicates, task.schemas, preconditions, deletes, adds);
     object_bags(task.predicates, task.objects, task.facts, counts);
-    let numbers = numbered(task.predicates);
-    let properties = numbers.count;
+    let properties = numbered(task.predicates).count;
     let arities = property_arities(task.predicates);
     let spaces = spaces_of(
         preconditions,
@@ -130,14 +128,14 @@ pub fn analyse_space(
         finishes.new
         conditions.new }
 {
-    let spaces = prepared.spaces;
-    let groups = spaces.groups;
-    let own = own_properties(&groups, prepared.properties, spaces.lowest[number]);
-    let list = own.properties;
-    let size = own.count;
+    let own = own_properties(
+        &prepared.spaces.groups,
+        prepared.properties,
+        prepared.spaces.lowest[number],
+    );
     let analysed = analyse(
-        &list[0..size],
-        spaces.members[number],
+        &own.properties[..own.count],
+        prepared.spaces.members[number],
         prepared.parameters,
         deletes,
         adds,
@@ -161,22 +159,15 @@ fn write_found(
     requires space_bytes_in_bounds { space_bytes ≤ length out.old }
     ensures { Writes (text (found_lines number prepared found conditions.now)) out.old out.new result }
 {
-    let own = found.own;
-    let list = own.properties;
-    let size = own.count;
-    let analysed = found.analysed;
-    let kind = analysed.kind;
-    let arities = prepared.arities;
-    let spaces = prepared.spaces;
     write_space(
         out,
         number,
-        kind,
-        &list[0..size],
-        spaces.members[number],
+        found.analysed.kind,
+        &found.own.properties[..found.own.count],
+        prepared.spaces.members[number],
         conditions,
-        analysed.count,
-        &arities,
+        found.analysed.count,
+        &prepared.arities,
     )
 }
 
@@ -199,14 +190,12 @@ fn write_rescue(
         → FoundIn t number prepared found deletes.now adds.now counts.now conditions.old
         → Writes (text (rescue_lines t number)) out.old out.new result }
 {
-    let analysed = found.analysed;
-    let spaces = prepared.spaces;
-    let members = spaces.members[number];
+    let members = prepared.spaces.members[number];
     let parameters = prepared.parameters;
     let Some(rescued) = rescue(
         found.own,
         members,
-        analysed.hidden,
+        found.analysed.hidden,
         parameters,
         deletes,
         adds,
@@ -217,19 +206,15 @@ fn write_rescue(
     ) else {
         return 0;
     };
-    let own = rescued.own;
-    let list = own.properties;
-    let size = own.count;
-    let arities = prepared.arities;
     write_space(
         out,
         number,
         Kind::Rescued,
-        &list[0..size],
+        &rescued.own.properties[..rescued.own.count],
         rescued.members,
         conditions,
         rescued.count,
-        &arities,
+        &prepared.arities,
     )
 }
 
@@ -254,9 +239,7 @@ pub fn write_space_section(
         → Writes (text (section_lines t number (analysis_at t number))) out.old out.new result }
 {
     let at = write_found(out, number, prepared, found, conditions);
-    let analysed = found.analysed;
-    let kind = analysed.kind;
-    match kind {
+    match found.analysed.kind {
         Kind::Mixed => {
             let n = write_rescue(
                 &mut out[at..],
@@ -288,11 +271,7 @@ pub fn enter_space(
     requires fixed_len { length fixed.old ≡ 60 }
     ensures { fixed.new ≡ found_totals number prepared found conditions.now fixed.old }
 {
-    let own = found.own;
-    let list = own.properties;
-    let size = own.count;
-    let analysed = found.analysed;
-    let spaces = prepared.spaces;
-    let members = masks::size(spaces.members[number]);
-    enter_totals(fixed, &list[0..size], conditions, analysed.count, members);
+    let own = &found.own.properties[..found.own.count];
+    let members = masks::size(prepared.spaces.members[number]);
+    enter_totals(fixed, own, conditions, found.analysed.count, members);
 }
