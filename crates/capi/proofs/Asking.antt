@@ -58,6 +58,11 @@ module _ (card buffer : List ℕ) (count : ℕ) (given : Option Action) {r : Nex
         (omega arith, omega arith);
   }
 
+-- what is given is told from a number as it is read back
+pub given_told : (z : ℤ) (schema : ℕ) {given : Optional ℕ} → SFits w32 z → given ≡ given_as (to_z w32 (of_z w32 z)) schema
+    → given ≡ given_as z schema
+given_told z schema fits e = e ∙ ap (λ (y : ℤ). given_as y schema) (to_z-of_z {w = w32} {z = z} fits)
+
 -- the same said of what is given
 pub asked_so : (card buffer : List ℕ) (count : ℕ) (objects : List ℕ) {given other : Optional ℕ} {r : NextOpen} → given ≡ other
     → Says (next_open card buffer count (given_of given objects)) r → Says (next_open card buffer count (given_of other objects)) r

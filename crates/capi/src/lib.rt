@@ -230,9 +230,7 @@ pub extern "C" fn stakestalk_version() -> i32
 pub extern "C" fn stakestalk_check(card: &[u8]) -> i32
     ensures { result ≡ signed (checks card.now) }
 {
-    let decoded = decode(card);
-    let verdict = decoded.verdict;
-    match verdict {
+    match decode(card).verdict {
         Verdict::Accepted => 0,
         Verdict::Refused(refusal) => refusal_code(refusal),
     }
@@ -244,8 +242,7 @@ pub extern "C" fn stakestalk_initial(card: &[u8], state: &mut [u8]) -> i32
     ensures value { result ≡ signed (initial card.now state.old).answer }
     ensures state_after { state.new ≡ (initial card.now state.old).buffer }
 {
-    let applied = initial(card, state);
-    applied_code(applied)
+    applied_code(initial(card, state))
 }
 
 // Applies a schema to objects in the state of `count` facts: the next state's number of facts.
@@ -260,8 +257,7 @@ pub extern "C" fn stakestalk_press(
     ensures value { result ≡ signed (press card.now state.old count (record { schema = schema; objects = objects.now })).answer }
     ensures state_after { state.new ≡ (press card.now state.old count (record { schema = schema; objects = objects.now })).buffer }
 {
-    let applied = apply(card, state, count, schema, objects);
-    applied_code(applied)
+    applied_code(apply(card, state, count, schema, objects))
 }
 
 // Finds the next open action after a given one, or the first with none given (0): the number of its objects, or 0 at the end. Only where one
@@ -281,8 +277,7 @@ pub extern "C" fn stakestalk_next_open(
         ≡ shown_in (next_open card.now state.now count (given_of (given_as given schema) objects.now)) found.old }
 {
     let after = given_action(given, schema);
-    let next = next_open(card, state, count, after, objects);
-    next_open_code(next, found)
+    next_open_code(next_open(card, state, count, after, objects), found)
 }
 
 // Asks what applying a schema to objects would do in the state of `count` facts: the number of facts that there would be then. Only where it
@@ -300,8 +295,7 @@ pub extern "C" fn stakestalk_preview(
     ensures changes_after { changes.new
         ≡ asked_shown (ask card.now state.now count (record { schema = schema; objects = objects.now })) changes.old }
 {
-    let previewed = preview(card, state, count, schema, objects);
-    previewed_code(previewed, changes)
+    previewed_code(preview(card, state, count, schema, objects), changes)
 }
 
 // Applies the action that `changes` carries, if in the state of `count` facts it still does what they say: the next state's number of facts.
@@ -316,8 +310,7 @@ pub extern "C" fn stakestalk_commit(
     ensures state_after { state.new ≡ (commit card.now state.old count (preview_of (changes_held changes.now))).buffer }
 {
     let given = changes_from(changes);
-    let committed = commit(card, state, count, given);
-    committed_code(committed)
+    committed_code(commit(card, state, count, given))
 }
 
 // Reads a card and writes what was read as a card again: its length.
@@ -327,13 +320,10 @@ pub extern "C" fn stakestalk_rewrite(card: &[u8], out: &mut [u8]) -> i32
     ensures out_after { out.new ≡ (rewrites card.now out.old).buffer }
 {
     let decoded = decode(card);
-    let verdict = decoded.verdict;
-    if let Verdict::Refused(refusal) = verdict {
+    if let Verdict::Refused(refusal) = decoded.verdict {
         return refusal_code(refusal);
     }
-    let task = decoded.task;
-    let writing = encode(task, out);
-    writing_code(writing)
+    writing_code(encode(decoded.task, out))
 }
 
 // Writes one section of a card's listing: its length. Only the bytes that are asked for are lent on, so that the length is within them.
@@ -343,9 +333,7 @@ pub extern "C" fn stakestalk_section(card: &[u8], number: usize, out: &mut [u8])
     ensures out_after { out.new ≡ (section card.now number out.old).buffer }
 {
     if out.len() < OUTPUT_BYTES {
-        let listed = section(card, number, out);
-        return listed_code(listed);
+        return listed_code(section(card, number, out));
     }
-    let listed = section(card, number, &mut out[0..OUTPUT_BYTES]);
-    listed_code(listed)
+    listed_code(section(card, number, &mut out[0..OUTPUT_BYTES]))
 }

@@ -6,12 +6,12 @@ use Rattle.capi.proofs.stakestalk_preview.Goals as goal
 
 pub previewed_code-requires : goal.previewed_code-requires
 previewed_code-requires c =
-    let asks = c.preview-previewed.ensures in
+    let asks = c.preview.ensures in
     (asks_small _ _ _ _ asks, changes_small _ _ _ _ asks)
 
 pub returns-clause-value : goal.returns-clause-value
 returns-clause-value c =
-    same_code c.previewed_code.result c.previewed_code.type_inv c.previewed_code.ensures.value (sym (number_asked c.preview-previewed.ensures))
+    same_code c.previewed_code.result c.previewed_code.type_inv c.previewed_code.ensures.value (sym (number_asked c.preview.ensures))
 
 pub returns-clause-changes_after : goal.returns-clause-changes_after
-returns-clause-changes_after c = c.previewed_code.ensures.changes_after ∙ bytes_asked c.preview-previewed.ensures _
+returns-clause-changes_after c = c.previewed_code.ensures.changes_after ∙ bytes_asked c.preview.ensures _
