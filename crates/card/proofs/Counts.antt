@@ -64,3 +64,6 @@ module _ (task : Task) (r : Represented task (task_of task)) where
   facts_size =
       ap (λ (x : Task). length x.facts.facts) r.stands
       ∙ length_padded 512 blank_atom (map atom_for (task_of task).facts) (omega (arith, length-map (task_of task).facts atom_for, right.few_facts))
+
+  pub facts_inside : task.facts.count ≤ length task.facts.facts
+  facts_inside = omega (arith, facts_few, facts_size)
