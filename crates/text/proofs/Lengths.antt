@@ -6,10 +6,10 @@ use mathlib.Core.Path.{◌≡◌, refl, ap, ◌∙◌}
 use mathlib.Core.List.{List, [], ◌∷◌, ◌++◌, map, flat_map, Memᴰ}
 use lib.ListN.{length, length-append}
 use Rattle.masks.proofs.Ascending.{Below}
-use Rattle.model.specs.Lines.{Line, space, state, limit, membership, exclusion, nesting, ceiling, types}
+use Rattle.model.specs.Lines.{Line, space, state, limit, membership, exclusion, nesting, total, ceiling, types}
 use Rattle.model.specs.Text.{decimal, items, spaced, line_text, text}
 use Rattle.model.specs.Spaces.{Kind}
-use Rattle.text.specs.Letters.{newline, letter_c, letter_d, letter_e, letter_m, letter_r, letter_s, letter_x}
+use Rattle.text.specs.Letters.{newline, letter_c, letter_d, letter_e, letter_f, letter_m, letter_r, letter_s, letter_x}
 use Rattle.text.specs.Numbers.{numbers, last_numbers}
 use Rattle.text.proofs.Decimal.{two_digits, five_digits}
 use Rattle.text.proofs.LineTexts.{one_number_lem, two_numbers, state_parts, types_parts, head_parts, front_parts, space_parts, membership_end}
@@ -74,6 +74,10 @@ exclusion_length i j h k = omega (arith, pair_length letter_x i j, two_digits i 
 pub nesting_length : (i j : ℕ) → i < 100 → j < 100 → length (line_text (nesting i j)) ≤ 8
 unfolding line_text items
 nesting_length i j h k = omega (arith, pair_length letter_e i j, two_digits i h, two_digits j k)
+
+pub total_length : (p n : ℕ) → p < 100 → n < 100000 → length (line_text (total p n)) ≤ 11
+unfolding line_text items
+total_length p n h k = omega (arith, pair_length letter_f p n, two_digits p h, five_digits n k)
 
 pub ceiling_length : (p n : ℕ) → p < 100 → n < 100000 → length (line_text (ceiling p n)) ≤ 11
 unfolding line_text items

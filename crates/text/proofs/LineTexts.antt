@@ -33,6 +33,10 @@ pub membership_end : (index : ℕ) → Begins (line_text (membership index)) (sp
 unfolding line_text items
 membership_end index = line_end _
 
+-- a blank and a byte
+pub mark_byte : (b : ℕ) → Begins (blank ∷ b ∷ []) (blank ∷ []) (b ∷ [])
+mark_byte b = record { path = refl }
+
 -- the last numbers of a line: first the colon
 pub colon_first : (ns : List ℕ) → Begins (last_numbers ns) (blank ∷ colon_byte ∷ []) (numbers ns ++ (newline ∷ []))
 unfolding last_numbers
@@ -77,7 +81,11 @@ pub types_parts : (schema parameter : ℕ) (objects : List ℕ)
 unfolding line_text items flat_map last_numbers numbers
 types_parts schema parameter objects = items_parts (letter_r ∷ []) (decimal schema ∷ decimal parameter ∷ []) (colon ∷ map decimal objects)
 
--- S: the letter and the number, then the kind
+-- S: the kind and a colon
+pub kind_parts : (letter : ℕ) → Begins (blank ∷ letter ∷ blank ∷ colon_byte ∷ []) (blank ∷ letter ∷ []) (blank ∷ colon_byte ∷ [])
+kind_parts letter = record { path = refl }
+
+-- the letter and the number, then the kind
 pub head_parts : (n : ℕ) (kind : Kind)
     → Begins (space_front n kind []) (spaced ((letter_s ∷ []) ∷ decimal n ∷ [])) (blank ∷ kind_letter kind ∷ blank ∷ colon_byte ∷ [])
 unfolding space_front spaced flat_map

@@ -22,9 +22,14 @@ unfolding numbers flat_map
 first_number n ns = record { path = refl }
 
 -- the numbers from a place on are the one that stands there and those from the next on
-number_at : (ns : List ℕ) (i : ℕ) → i < length ns → Begins (numbers (drop i ns)) (blank ∷ decimal (get_or ns i 0)) (numbers (drop (i + 1) ns))
+pub number_at : (ns : List ℕ) (i : ℕ) → i < length ns → Begins (numbers (drop i ns)) (blank ∷ decimal (get_or ns i 0)) (numbers (drop (i + 1) ns))
 unfolding numbers flat_map
 number_at ns i h = record { path = rw (add-one i, drop-cons ns i 0 h) }
+
+-- from the end on there is none
+pub no_number : (ns : List ℕ) (i : ℕ) → length ns ≤ i → numbers (drop i ns) ≡ []
+unfolding numbers flat_map
+no_number ns i h = rw (drop_of_length-le ns h)
 
 -- of a list whose elements say the numbers
 module _ {A : Type 0} (value : A → ℕ) (xs : List A) (i : ℕ) where
