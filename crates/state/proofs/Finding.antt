@@ -17,6 +17,7 @@ use Rattle.sets.proofs.Ascending.{rising_no_less, place_is, place_within, place_
 use Rattle.state.specs.Rows.{row_number, row_at, numbers_in, RowsAscend}
 use Rattle.state.proofs.Chunks.{one_row, row_inside, rows_counted}
 use Rattle.state.proofs.Writing.{length_numbers_in}
+use Rattle.state.proofs.RowBytes.{four_at}
 
 -- a number of the rows is that of the row at its place
 number_at : (n i : ℕ) (buffer : List ℕ) → i < n → get_or (numbers_in n buffer) i 0 ≡ row_number (row_at i buffer)
@@ -87,3 +88,16 @@ module _ {count : ℕ} {buffer : List ℕ} (rows : RowsAscend count buffer) (n :
         place_is n numbers rows.ascends i (omega arith)
         (λ k below. let less = ltb-true _ n (parted.0 k [] zero-le below) in omega (arith, number_of k [] (omega arith)))
         (λ k above within. let no_less = ltb-false _ n (parted.1 k [] above (omega arith)) in omega (arith, number_of k [] (omega arith)))
+
+-- the rows of a predicate: from its least number on, and below that of the next predicate
+pub predicate_rows :
+    {count i : ℕ} {buffer : List ℕ} → RowsAscend count buffer → i < count → ((k : ℕ) → get_or buffer k 0 < 256) → (p : ℕ) → get_or buffer (4 * i) 0 ≡ p
+    → (place (p * 16777216) (numbers_in count buffer) ≤ i) × (i < place ((p + 1) * 16777216) (numbers_in count buffer))
+unfolding row_at row_number
+predicate_rows {count} {i} {buffer} rows inside small p e =
+    let room = rows.room in
+    let read = ap row_number (sym (four_at (4 * i) buffer (omega arith))) in
+    let second = small (4 * i + 1) in
+    let third = small (4 * i + 2) in
+    let fourth = small (4 * i + 3) in
+    (below_up_to rows (p * 16777216) inside read (omega arith), below_past rows ((p + 1) * 16777216) inside read (omega arith))

@@ -5,10 +5,10 @@ use native.Mathlib.Numerals.{add-one, add-two, add-three}
 use mathlib.Core.Path.{◌≡◌, sym, ap, ◌∙◌, subst}
 use mathlib.Core.Bool.{true}
 use mathlib.Core.Logic.{◌⊎◌, inl, inr}
-use mathlib.Core.List.{List, [], ◌∷◌}
+use mathlib.Core.List.{List, [], ◌∷◌, ◌++◌}
 use lib.Dec.{ltb}
-use lib.ListN.{length, get_or, take, drop}
-use lib.Seq.{drop-cons}
+use lib.ListN.{length, get_or, take, drop, set}
+use lib.Seq.{drop-cons, sets-eq}
 use borrow.Author.Tests.{lt-ltb, ltb-true}
 use mir.Syntax.{w32}
 use Rattle.std.specs.Int.{to_be_bytes}
@@ -33,6 +33,16 @@ four_at k b h =
     ∙ sym (ap (λ (i : ℕ). get_or b k 0 ∷ get_or b i 0 ∷ get_or b (k + 2) 0 ∷ get_or b (k + 3) 0 ∷ []) (add-one k)
     ∙ ap (λ (i : ℕ). get_or b k 0 ∷ get_or b (suc k) 0 ∷ get_or b i 0 ∷ get_or b (k + 3) 0 ∷ []) (add-two k)
     ∙ ap (λ (i : ℕ). get_or b k 0 ∷ get_or b (suc k) 0 ∷ get_or b (suc (suc k)) 0 ∷ get_or b i 0 ∷ []) (add-three k))
+
+-- four bytes stored one after the other
+pub four_stored :
+    (k : ℕ) (b : List ℕ) (x y z w : ℕ) → k + 4 ≤ length b
+    → set (set (set (set b k x) (k + 1) y) (k + 2) z) (k + 3) w ≡ take k b ++ (x ∷ y ∷ z ∷ w ∷ []) ++ drop (k + 4) b
+four_stored k b x y z w h =
+    ap (λ (i : ℕ). set (set (set (set b k x) i y) (k + 2) z) (k + 3) w) (add-one k)
+    ∙ ap (λ (i : ℕ). set (set (set (set b k x) (suc k) y) i z) (k + 3) w) (add-two k)
+    ∙ ap (λ (i : ℕ). set (set (set (set b k x) (suc k) y) (suc (suc k)) z) i w) (add-three k)
+    ∙ sets-eq (x ∷ y ∷ z ∷ w ∷ []) b k h
 
 -- the four bytes of a number as the library has them
 pub be_bytes : (n : ℕ) → n < 2 ^ 32 → to_be_bytes w32 n ≡ row_bytes n
