@@ -5,7 +5,7 @@ use native.Mathlib.Numerals.{add-one}
 use native.Mathlib.Omega.{arith}
 use mathlib.Core.Path.{◌≡◌, refl, sym, ap, ◌∙◌, subst}
 use mathlib.Core.List.{List, [], ◌∷◌, ◌++◌, map, flat_map, map-map, append_assoc, append-nil}
-use lib.ListN.{length, get_or, take, drop, replicate, length-append, length-map, length-replicate}
+use lib.ListN.{length, get_or, take, drop, replicate, length-append, length-map, length-replicate, set, length-take, length-drop, take-append-drop}
 use lib.ListN.{replicate-append-replicate}
 use lib.Seq.{take_at, drop_at, take-suc, take_all, get_or-append-add}
 use Rattle.laws.proofs.Padded.{padded_at}
@@ -18,12 +18,49 @@ use Rattle.model.specs.Card.{Task}
 use Rattle.model.specs.Lines.{arity_of}
 use Rattle.model.specs.Transitions.{Property, properties_from, properties}
 use Rattle.properties.specs.Represented.{property_arities}
+use borrow.Author.Fill.{fill_more}
 
 -- ---- one predicate
 
 -- one number put into n places of a list, from a place on
 abbrev pub stamped : ℕ → ℕ → ℕ → List ℕ → List ℕ
 stamped first n v before = take first before ++ (replicate n v ++ drop n (drop first before))
+
+module _ (first v : ℕ) (before : List ℕ) where
+  -- at first nothing is put
+  pub stamp_none : before ≡ stamped first 0 v before
+  stamp_none = sym (take-append-drop first before)
+
+  -- one place more
+  pub stamp_next : (n : ℕ) → first + n < length before → set (stamped first n v before) (first + n) v ≡ stamped first (n + 1) v before
+  stamp_next n h =
+      set_behind (take first before) (replicate n v ++ drop n (drop first before)) (omega (arith, length-take first before))
+      ∙ ap (λ (l : List ℕ). take first before ++ l) (fill_more n v (drop first before) (omega (arith, length-drop first before)))
+    where
+      set_behind : (xs ys : List ℕ) → length xs ≡ first → set (xs ++ ys) (first + n) v ≡ xs ++ set ys n v
+      set_behind xs ys e = ap (λ (k : ℕ). set (xs ++ ys) (k + n) v) (sym e) ∙ go xs
+        where
+          go : (zs : List ℕ) → set (zs ++ ys) (length zs + n) v ≡ zs ++ set ys n v
+          go [] = ap (λ (k : ℕ). set ys k v) (zero_and n)
+            where
+              zero_and : (n : ℕ) → 0 + n ≡ n
+              zero_and n = omega arith
+          go (z ∷ zs) = ap (λ (k : ℕ). set (z ∷ (zs ++ ys)) k v) (suc_and (length zs) n) ∙ ap (λ (l : List ℕ). z ∷ l) (go zs)
+            where
+              suc_and : (m n : ℕ) → suc m + n ≡ suc (m + n)
+              suc_and m n = omega arith
+
+  pub length_stamped : (n : ℕ) → first + n ≤ length before → length (stamped first n v before) ≡ length before
+  length_stamped n h =
+      length-append (take first before) (replicate n v ++ drop n (drop first before))
+      ∙ omega (
+        arith,
+        length-take first before,
+        length-append (replicate n v) (drop n (drop first before)),
+        length-replicate {A = ℕ} n v,
+        length-drop n (drop first before),
+        length-drop first before,
+      )
 
 -- ---- all predicates
 

@@ -5,7 +5,7 @@ use native.Mathlib.Omega.{arith}
 use mathlib.Core.Path.{◌≡◌, refl, sym, ap, ◌∙◌, subst}
 use mathlib.Core.List.Memᴰ
 use mathlib.Core.List.{List, [], ◌∷◌, ◌++◌, map, flat_map, append_assoc, append-nil, Memᴰ}
-use lib.ListN.{length, get_or, take, drop, length-map, length-append, length-drop, take-append-drop, get_or-append}
+use lib.ListN.{length, get_or, take, drop, length-map, length-append, length-drop, take-append-drop, get_or-append, length-take}
 use lib.Seq.{take_all, take_at, drop_at, drop-drop, drop-length, drop-cons, take-suc, get_or-append-add}
 use Rattle.laws.specs.Lists.{sum, up_to}
 use Rattle.laws.specs.Bags.{Bag}
@@ -40,6 +40,10 @@ rows_put at table bags {part} e =
 
     nothing : drop (length table - at) (drop at table) ≡ []
     nothing = ap (λ (n : ℕ). drop n (drop at table)) (sym (length-drop at table)) ∙ drop-length (drop at table)
+
+-- the part has the places behind
+pub part_room : (at size : ℕ) (table : List ℕ) → at + size ≤ length table → size ≤ length (take (length table - at) (drop at table))
+part_room at size table h = omega (arith, length-take (length table - at) (drop at table), length-drop at table)
 
 -- rows written behind rows
 pub rows_after : (xs ys : List Bag) (before : List ℕ) → Narrow xs → rows_from (stride * length xs) ys (rows_before xs before) ≡ rows_before (xs ++ ys) before
