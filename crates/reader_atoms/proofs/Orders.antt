@@ -1,10 +1,10 @@
 -- Two atoms compared by all their bytes: as the definitions compare them, since places past the arity hold 0.
 use Prim.Native.Nat.{ℕ, zero, suc, ◌+◌, ◌≤◌, ◌<◌}
 use native.Mathlib.Omega.{arith}
-use mathlib.Core.Bool.{Bool, true, false, ◌&&◌, ◌||◌}
+use mathlib.Core.Bool.{Bool, true, false, ◌&&◌, ◌||◌, or-false, and-true}
 use mathlib.Core.List.{List, [], ◌∷◌, ◌++◌, map}
 use mathlib.Core.Path.{◌≡◌, refl, ap, ap₂, ◌∙◌, sym, subst, subst⁻¹}
-use borrow.Author.Tests.{eq-eqb, eqb-true}
+use borrow.Author.Tests.{eq-eqb, eqb-true, ne_eqb, le-ltb}
 use lib.Dec.{ltb, eqb}
 use lib.ListN.{length, take, drop, get_or, length-take}
 use Rattle.laws.specs.Lists.{any, same, before}
@@ -18,6 +18,36 @@ use Rattle.reader_atoms.specs.Atoms.{bytes_of, argument_places, has_bytes}
 
 eqb_self : (x : ℕ) → eqb x x ≡ true
 eqb_self x = eq-eqb x x refl
+
+-- lists that differ at their first number are in the order of those
+pub before_differs : (x y : ℕ) (xs ys : List ℕ) → (x ≡ y → ⊥) → before (x ∷ xs) (y ∷ ys) ≡ ltb x y
+unfolding before
+before_differs x y xs ys d = rw (ne_eqb x y d, or-false)
+
+-- lists with the same first number are in the order of what follows
+pub before_equal : (x y : ℕ) (xs ys : List ℕ) → x ≡ y → before (x ∷ xs) (y ∷ ys) ≡ before xs ys
+unfolding before
+before_equal x y xs ys e = rw (eq-eqb x y e, le-ltb x y (omega arith))
+
+pub before_last : (x y : ℕ) → before (x ∷ []) (y ∷ []) ≡ ltb x y
+unfolding before
+before_last x y = go (eqb x y)
+  where
+    go : (b : Bool) → (ltb x y || (b && false)) ≡ ltb x y
+    go true = or-false (ltb x y)
+    go false = or-false (ltb x y)
+
+pub same_differs : (x y : ℕ) (xs ys : List ℕ) → (x ≡ y → ⊥) → same (x ∷ xs) (y ∷ ys) ≡ false
+unfolding same
+same_differs x y xs ys d = rw (ne_eqb x y d)
+
+pub same_equal : (x y : ℕ) (xs ys : List ℕ) → x ≡ y → same (x ∷ xs) (y ∷ ys) ≡ same xs ys
+unfolding same
+same_equal x y xs ys e = rw (eq-eqb x y e)
+
+pub same_last : (x y : ℕ) → same (x ∷ []) (y ∷ []) ≡ eqb x y
+unfolding same
+same_last x y = and-true (eqb x y)
 
 -- what both lists end in makes no difference, where the parts before it are as long as each other
 pub same_ends : (xs ys zs : List ℕ) → length xs ≡ length ys → same (xs ++ zs) (ys ++ zs) ≡ same xs ys
