@@ -1,23 +1,26 @@
 -- The bytes of a card put together from the pieces that the code writes.
-use Prim.Native.Nat.{ℕ, ◌+◌, ◌*◌, ◌/◌, ◌%◌, ◌≤◌}
+use Prim.Native.Nat.{ℕ, ◌+◌, ◌*◌, ◌/◌, ◌%◌, ◌≤◌, ◌<◌}
 use native.Mathlib.Omega.{arith}
-use mathlib.Core.Path.{◌≡◌, refl, sym, ◌∙◌}
+use mathlib.Core.Path.{◌≡◌, refl, sym, ◌∙◌, ap}
 use mathlib.Core.Bool.{Bool, true, false, cond, not, ◌&&◌}
 use mathlib.Core.List.{List, [], ◌∷◌, ◌++◌, map, flat_map, append_assoc}
 use lib.Dec.{eqb, leb, eqb-suc-zero}
-use lib.ListN.{length}
+use lib.ListN.{length, get_or}
 use borrow.Author.Tests.{leb-true}
 use Rattle.laws.proofs.Tests.{and_left, and_right}
 use Rattle.model.specs.Card as model
 use Rattle.model.specs.Writer.{atom_bytes, list_bytes, role_bytes, bit_for, schema_bytes, task_bytes}
-use Rattle.card.specs.Represents.{entries, atom_of, atoms_of, schema_of, arities_of, schemas_of, facts_of, task_of}
+use Rattle.card.specs.Represents.{entries, atom_of, atoms_of, schema_of, arities_of, schemas_of, facts_of, task_of, atoms_for, blank_schema}
 use Rattle.card.specs.declared.Atom.{Atom}
 use Rattle.card.specs.declared.AtomList.{AtomList}
 use Rattle.card.specs.declared.Schema.{Schema}
 use Rattle.card.specs.declared.Task.{Task}
 use Rattle.writer.specs.Bytes.{atom_room, list_room, schema_room, header_room, card_room, WritesAt, bit_where, map_of, schema_fits, Fits}
-use Rattle.card.proofs.Entries.{length_atoms, length_schemas, length_facts}
+use Rattle.card.proofs.Entries.{length_atoms, length_schemas, length_facts, length_entries, get_d_entries, default_alike, no_schema}
 use Rattle.writer.proofs.WriteLaws.{writes_none, writes_then, writes_within}
+use Rattle.laws.specs.Lists.{all}
+use Rattle.laws.proofs.Lists.{all_at, mem_get_d}
+use Rattle.card.specs.declared.SchemaList.{SchemaList}
 
 -- a list
 list_bytes_lem : (xs : List model.Atom) → (length xs ≡ 0 → ⊥) → list_bytes xs ≡ length xs ∷ flat_map atom_bytes xs
@@ -103,6 +106,18 @@ module _ (s : Schema) (fits : schema_fits s ≡ true) where
 
   pub adds_fit : s.adds.count ≤ 8
   adds_fit = each_fits.3
+
+no_schema_fits : schema_fits no_schema ≡ schema_fits blank_schema
+unfolding schema_fits blank_schema atoms_for
+no_schema_fits = refl
+
+-- each schema of a table that fits
+pub schema_fits_lem : (list : SchemaList) (i : ℕ) → i < list.count → all schema_fits (entries list.count blank_schema list.schemas) ≡ true
+    → schema_fits (get_or list.schemas i no_schema) ≡ true
+schema_fits_lem list i h e =
+    default_alike schema_fits no_schema blank_schema no_schema_fits list.schemas i
+    ∙ ap schema_fits (sym (get_d_entries list.count blank_schema list.schemas i h))
+    ∙ all_at schema_fits _ e _ (mem_get_d _ i blank_schema (rw length_entries h))
 
 -- the header
 pub whole_header : (arities : List ℕ) (objects schemas : ℕ) (x : List ℕ) → length arities ≤ 20 → header_room ≤ length x

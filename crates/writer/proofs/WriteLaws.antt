@@ -1,12 +1,12 @@
 -- Writing at a place of a buffer: nothing, bytes, one piece after another, and the items of a table one by one.
 use Prim.Native.Nat.{ℕ, ◌+◌, ◌*◌, ◌≤◌, ◌<◌, zero-le}
 use native.Mathlib.Nat.{add-zero, mul-suc, mul-le-mul_left}
-use native.Mathlib.Numerals.{add-one, unary_clauses}
+use native.Mathlib.Numerals.{add-one, unary_clauses, add-two, add-three}
 use native.Mathlib.Omega.{arith}
 use mathlib.Core.Path.{◌≡◌, refl, sym, ap, ◌∙◌}
-use mathlib.Core.List.{List, [], ◌++◌, map, flat_map, append_assoc, append-nil}
-use lib.ListN.{length, get_or, take, drop, length-append, length-map, get_or-map, take-append-drop}
-use lib.Seq.{length-take-le, take_at, drop_at, drop-drop, take-suc, take_all}
+use mathlib.Core.List.{List, [], ◌++◌, map, flat_map, append_assoc, append-nil, ◌∷◌}
+use lib.ListN.{length, get_or, take, drop, length-append, length-map, get_or-map, take-append-drop, set}
+use lib.Seq.{length-take-le, take_at, drop_at, drop-drop, take-suc, take_all, sets, sets-eq}
 use borrow.Rule.Slice.PartMut.{put_mid}
 use Rattle.std.proofs.lemmas.Slice.{put_mid-paste}
 use Rattle.laws.proofs.Lists.{flat_map_append}
@@ -20,6 +20,26 @@ writes_none room at x =
       place = sym (add-zero at);
       within = zero-le;
     }
+
+-- bytes stored one by one
+pub writes_sets : (room at : ℕ) (bytes x : List ℕ) → at + length bytes ≤ length x → length bytes ≤ room
+    → WritesAt room at bytes x (sets x at bytes) (at + length bytes)
+writes_sets room at bytes x fits h = record { stands = sets-eq bytes x at fits; place = refl; within = h }
+
+-- up to four bytes stored in a row
+module _ (room at : ℕ) (x : List ℕ) (fits : at + room ≤ length x) (a b c d : ℕ) where
+  pub stores_1 : 1 ≤ room → WritesAt room at (a ∷ []) x (set x at a) (at + 1)
+  stores_1 h = writes_sets room at (a ∷ []) x (omega arith) h
+
+  pub stores_2 : 2 ≤ room → WritesAt room at (a ∷ b ∷ []) x (set (set x at a) (at + 1) b) (at + 2)
+  stores_2 h = rw add-one (writes_sets room at (a ∷ b ∷ []) x (omega arith) h)
+
+  pub stores_3 : 3 ≤ room → WritesAt room at (a ∷ b ∷ c ∷ []) x (set (set (set x at a) (at + 1) b) (at + 2) c) (at + 3)
+  stores_3 h = rw (add-one, add-two) (writes_sets room at (a ∷ b ∷ c ∷ []) x (omega arith) h)
+
+  pub stores_4 : 4 ≤ room
+      → WritesAt room at (a ∷ b ∷ c ∷ d ∷ []) x (set (set (set (set x at a) (at + 1) b) (at + 2) c) (at + 3) d) (at + 4)
+  stores_4 h = rw (add-one, add-two, add-three) (writes_sets room at (a ∷ b ∷ c ∷ d ∷ []) x (omega arith) h)
 
 -- bytes copied into a part of the buffer
 pub writes_part : (room at k : ℕ) (bytes part x : List ℕ) (next : ℕ) → part ≡ bytes → length bytes ≡ k → next ≡ at + k → k ≤ room
