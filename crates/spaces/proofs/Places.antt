@@ -1,12 +1,14 @@
 -- The spaces of a task by place: what the code's spaces hold at a place is the own properties and the members of the space there.
 use Prim.Native.Nat.{ℕ, ◌≤◌, ◌<◌}
 use mathlib.Core.Path.{◌≡◌, sym, ap, ◌∙◌, subst}
-use mathlib.Core.List.{List, [], map}
+use mathlib.Core.Bool.{true}
+use mathlib.Core.List.{List, [], map, Memᴰ}
 use lib.Dec.{eqb}
 use lib.ListN.{length, get_or, length-map}
 use Rattle.laws.proofs.Padded.{padded_at}
-use Rattle.laws.specs.Lists.{keep, up_to}
-use Rattle.laws.proofs.Lists.{up_to_at}
+use Rattle.laws.specs.Lists.{keep, up_to, distinct}
+use Rattle.laws.proofs.Lists.{keep_at, up_to_at}
+use Rattle.laws.proofs.Numbers.{distinct_keep, distinct_up_to}
 use Rattle.laws.proofs.Mapped.{get_d_map, keep_ext}
 use Rattle.model.specs.Card.{Task}
 use Rattle.model.specs.Transitions.{properties, transitions}
@@ -43,6 +45,19 @@ module _ (t : Task) (k : ℕ) (there : k < length (spaces t)) where
   properties_are =
       ap (λ (u : Space). u.properties) space_is
       ∙ ap (λ (n : ℕ). keep (λ d. eqb (get_or (groups t) d 0) label) (up_to n)) (length_grouping (length (properties t)) (transitions t))
+
+  -- they are properties of the task, and no two the same
+  pub own_below : (c : ℕ) → Memᴰ c (space_at t k).properties → c < length (properties t)
+  unfolding own_of
+  own_below c m =
+      up_to_at (length (properties t)) c
+      (keep_at (λ d. eqb (get_or (groups t) d 0) label) (up_to (length (properties t))) c (subst (Memᴰ c) properties_are m)).0
+
+  pub own_distinct : distinct (space_at t k).properties ≡ true
+  unfolding own_of
+  own_distinct =
+      subst (λ (l : List ℕ). distinct l ≡ true) (sym properties_are)
+      (distinct_keep (λ d. eqb (get_or (groups t) d 0) label) (up_to (length (properties t))) (distinct_up_to (length (properties t))))
 
   pub members_are : (space_at t k).members ≡ keep (λ o. belongs t o label) (up_to t.objects)
   unfolding space_with
