@@ -16,7 +16,7 @@ use Rattle.laws.proofs.Padded.{length_padded, padded_at, padded_past}
 use Rattle.laws.proofs.Tests.{by_test}
 use Rattle.masks.specs.Sets.{mask_of, union_of, single_of}
 use Rattle.masks.proofs.Joining.{kept_start, kept_joined, kept_skipped}
-use Rattle.conditions.specs.Minimal.{entered_at, entered_if, row_mask, Entered}
+use Rattle.conditions.specs.Minimal.{entered_at, entered_if, row_mask, Entered, Masks, AllEntered}
 
 -- ---- one number entered into one mask
 
@@ -157,3 +157,8 @@ entered_all {test} {n} {masks} few e =
   where
     long : length (map (row_mask test n) (up_to n)) ≡ n
     long = length-map (up_to n) (row_mask test n) ∙ length_up_to n
+
+-- as many as there are
+pub all_entered : {size n count : ℕ} {table : List ℕ} {masks : Masks} → n ≤ count → count ≤ n → AllEntered size table n masks
+    → AllEntered size table count masks
+all_entered {size} {table = table} {masks = masks} p q a = subst (λ (k : ℕ). AllEntered size table k masks) (le_antisymm p q) a

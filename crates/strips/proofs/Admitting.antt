@@ -49,7 +49,13 @@ admitted_tests known schema objects state e =
       holds = need_inv _ 19 (then_passed _ _ tt e);
     }
 
--- what is made of a value does not change a refusal
+-- what follows a check does not change its refusal
+pub refused_alike : {A B : Type 0} (x : Answer (Unit {0})) (a : A) (b : B) {m : ℕ} → (x >> accepted a) ≡ refused m → (x >> accepted b) ≡ refused m
+unfolding ◌>>◌
+refused_alike (refused n) a b e = ap refused (one_number_lem e)
+refused_alike (accepted done) a b e = accepted_not_refused e
+
+-- nor does what is made of a value
 pub refused_before : {A B : Type 0} (x : Answer A) (f : A → B) {m : ℕ} → (x >>= (λ a. accepted (f a))) ≡ refused m → x ≡ refused m
 unfolding ◌>>=◌
 refused_before (refused n) f e = ap refused (one_number_lem e)
