@@ -9,7 +9,9 @@ use Rattle.model.specs.Lines.{Line}
 use Rattle.model.specs.Text.{line_text, text}
 use Rattle.text.specs.Room.{Room}
 use Rattle.text.specs.Written.{Writes}
-use Rattle.text.proofs.Writing.{Begins}
+use Rattle.text.proofs.Writing.{Begins, Remains}
+use native.Mathlib.Omega.{arith}
+use lib.ListN.{length}
 
 -- a text may be said in other words
 pub room_as : {bytes bytes' buffer : List ℕ} → bytes ≡ bytes' → Room bytes buffer → Room bytes' buffer
@@ -17,6 +19,10 @@ room_as {buffer = buffer} e r = subst (λ (l : List ℕ). Room l buffer) e r
 
 pub writes_as : {bytes bytes' before after : List ℕ} {n : ℕ} → bytes ≡ bytes' → Writes bytes before after n → Writes bytes' before after n
 writes_as {before = before} {after = after} {n = n} e w = subst (λ (l : List ℕ). Writes l before after n) e w
+
+-- the place that is reached is within the buffer
+pub remains_within : {all rest before now : List ℕ} {at : ℕ} → Remains all rest before now at → at ≤ length now
+remains_within r = omega (arith, r.reached, r.room.fits, r.kept)
 
 -- the text of some lines and of others behind them
 pub text_parts : (front back : List Line) → Begins (text (front ++ back)) (text front) (text back)
