@@ -38,6 +38,10 @@ unfolding padded
 own_kept {own} {r} h =
     ap (λ (n : ℕ). take n r.properties) h.count ∙ ap (take (length own)) h.properties ∙ take-append_seam own _
 
+-- and there is room for them
+pub own_inside : {own : List ℕ} {r : Own} → Owns own r → length own ≤ 60 → r.count ≤ length r.properties
+own_inside {own} h few = omega (arith, few, h.count, ap length h.properties, padded_long 60 own)
+
 -- the tables of a prepared task
 pub tables_of : {t : Task} {p : Prepared} {preconditions deletes adds counts : List ℕ} → Given t p preconditions deletes adds counts
     → TaskTables t p.parameters deletes adds counts

@@ -71,6 +71,9 @@ module _ {t : Task} {number : ℕ} {p : Prepared} {f : Found} {conditions : List
   pub writable_found : Writable t (analysis_at t number)
   writable_found = part_writable h.checked part_found (analysis_sized t (space_at t number))
 
+  pub few_own : f.own.count ≤ 60
+  few_own = omega (arith, h.own_is.count, writable_found.narrow)
+
   below : (c : ℕ) → Memᴰ c (own_in f) → c < length (properties t)
   below c m = in_order_below _ _ writable_found.in_order c (subst (Memᴰ c) h.held.own_is m)
 
