@@ -1,16 +1,17 @@
 -- A row of a bag over some atoms, with the code's next atom counted.
-use Prim.Native.Nat.{ℕ, ◌≤◌, ◌<◌}
+use Prim.Native.Nat.{ℕ, suc, ◌≤◌, ◌<◌}
 use native.Mathlib.Omega.{arith}
 use mathlib.Core.Path.{◌≡◌, ap, ◌∙◌}
-use mathlib.Core.List.{List, [], ◌∷◌, ◌++◌}
+use mathlib.Core.List.{List, [], ◌∷◌, ◌++◌, map}
 use lib.ListN.{length, get_or, take}
-use lib.Seq.{length-take-le}
+use lib.Seq.{take-suc, length-take-le}
 use Rattle.model.specs.Card as model
 use Rattle.model.specs.Transitions.{properties_from, bag_of}
 use Rattle.model.proofs.RuleCount.{bag_at_most}
 use Rattle.card.specs.declared.Atom.{Atom}
 use Rattle.card.specs.declared.ArityList.{ArityList}
-use Rattle.card.specs.Represents.{arities_of, atom_of}
+use Rattle.card.specs.Represents.{blank_atom, entries, arities_of, atom_of}
+use Rattle.card.proofs.Entries.{length_table, item_at}
 use Rattle.properties.specs.Represented.{AritiesRight}
 use Rattle.properties.specs.Tables.{row}
 use Rattle.properties.specs.Tallies.{tallied}
@@ -23,6 +24,15 @@ pub length_arguments : (arities : List ℕ) (a : Atom) → get_or arities a.pred
     → length (atom_of arities a).arguments ≡ get_or arities a.predicate 0
 unfolding atom_of
 length_arguments arities a h = length-take-le (get_or arities a.predicate 0) (a.first ∷ a.second ∷ a.third ∷ []) h
+
+-- the front part of the model's atoms grows by the code's next atom
+pub atoms_next : (arities : List ℕ) (atoms : List Atom) (n i : ℕ) → i < n
+    → let list = map (atom_of arities) (entries n blank_atom atoms) in
+    take (suc i) list ≡ take i list ++ (atom_of arities (get_or atoms i blank_atom) ∷ [])
+atoms_next arities atoms n i h =
+    let list = map (atom_of arities) (entries n blank_atom atoms) in
+    take-suc list i (atom_of arities blank_atom) (omega (arith, h, length_table (atom_of arities) n blank_atom atoms))
+    ∙ ap (λ (a : model.Atom). take i list ++ (a ∷ [])) (item_at (atom_of arities) n blank_atom atoms i h)
 
 module _ (predicates : ArityList) (firsts : List ℕ) (right : AritiesRight predicates) where
   -- the code's next atom counted: first property and arity are read from the arrays

@@ -18,8 +18,8 @@ use Rattle.model.specs.Transitions.{properties_from}
 use Rattle.model.proofs.RuleCount.{sum_all, length_properties}
 use Rattle.card.specs.declared.Atom.{Atom}
 use Rattle.card.specs.declared.ArityList.{ArityList}
-use Rattle.card.specs.Represents.{arities_of, atom_of}
-use Rattle.card.proofs.Entries.{get_d_entries, length_arities}
+use Rattle.card.specs.Represents.{blank_atom, entries, arities_of, atom_of}
+use Rattle.card.proofs.Entries.{get_d_entries, item_in, length_arities}
 use Rattle.properties.specs.Represented.{AritiesRight, first_properties}
 
 -- What the arrays hold for predicate p: its arity, and where its properties begin.
@@ -87,6 +87,13 @@ module _ (predicates : ArityList) (firsts : List ℕ) (right : AritiesRight pred
       (and_left (ltb a.predicate (length arities) && eqb (length arguments) (get_or arities a.predicate 0))
       (all (λ x. ltb x bound) arguments) there)) in
       (p, placed a.predicate p)
+
+-- an atom of a list is known, if all are
+pub atom_known : (arities : List ℕ) (atoms : List Atom) (n bound : ℕ) → all (known arities bound) (map (atom_of arities) (entries n blank_atom atoms)) ≡ true
+    → (i : ℕ) → i < n → known arities bound (atom_of arities (get_or atoms i blank_atom)) ≡ true
+atom_known arities atoms n bound all_are_known i h =
+    all_at (known arities bound) (map (atom_of arities) (entries n blank_atom atoms)) all_are_known (atom_of arities (get_or atoms i blank_atom))
+    (item_in (atom_of arities) n blank_atom atoms i h)
 
 -- an arity that was read is 1, 2 or 3
 pub arity_asked : {predicates : ArityList} {firsts : List ℕ} {p q arity : ℕ} → Placed predicates firsts p → q ≡ p

@@ -4,7 +4,7 @@ use native.Mathlib.Omega.{arith}
 use native.Mathlib.Numerals.{add-one}
 use mathlib.Core.Path.{◌≡◌, refl, sym, ap, ◌∙◌}
 use mathlib.Core.List.{List, [], ◌∷◌, ◌++◌, flat_map, append_assoc, append-nil}
-use lib.ListN.{length, get_or, take, drop, set, replicate}
+use lib.ListN.{length, get_or, take, drop, set, replicate, length-append, length-drop, length-replicate}
 use lib.Seq.{take-suc, take_at, drop-cons, drop-drop, drop-append-add, set_at, length-take-le}
 use borrow.Rule.Slice.PartMut.{put_mid, Post-is}
 use Rattle.laws.proofs.Lists.{flat_map_append}
@@ -50,6 +50,22 @@ load_step buffer was now i n e h p =
     ∙ ap (λ (l : List ℕ). l ++ drop (i + 1) was)
     (ap (λ (m : ℕ). numbers_in i buffer ++ (m ∷ [])) p ∙ sym (numbers_more i buffer)
     ∙ ap (λ (k : ℕ). numbers_in k buffer) (sym (add-one i)))
+
+pub load_length : (buffer was now : List ℕ) (i : ℕ) → now ≡ numbers_in i buffer ++ drop i was → i ≤ length was → length now ≡ length was
+load_length buffer was now i e h =
+    ap length e ∙ length-append (numbers_in i buffer) (drop i was)
+    ∙ (let a = length_numbers_in i buffer in let b = length-drop i was in omega arith)
+
+pub clear_length :
+    (at : ℕ) (was now : List ℕ) (i : ℕ) → at ≤ i → now ≡ take at was ++ replicate (i - at) 0 ++ drop i was → i ≤ length was
+    → length now ≡ length was
+clear_length at was now i low e h =
+    ap length e ∙ length-append (take at was ++ replicate (i - at) 0) (drop i was)
+    ∙ (let a = length-append (take at was) (replicate (i - at) 0) in
+    let b = length-take-le at was (omega arith) in
+    let c = length-replicate {A = ℕ} (i - at) 0 in
+    let d = length-drop i was in
+    omega arith)
 
 -- the zeros behind some of them
 pub drop_zeros : (k n : ℕ) → drop {A = ℕ} k (replicate n 0) ≡ replicate (n - k) 0
@@ -101,3 +117,10 @@ rows_stored ns was now next e few w =
     ∙ ap (λ (k : ℕ). drop k was) (let m : n + (4096 - n) ≡ 4096 = omega arith in m)) in
     w ∙ ap (λ (l : List ℕ). l ++ replicate (4096 - n) 0 ++ drop 4096 now) front
     ∙ ap (λ (l : List ℕ). rows ++ replicate (4096 - n) 0 ++ l) back
+
+pub rows_length :
+    (ns was now : List ℕ) (i : ℕ) → now ≡ flat_map row_bytes (take i ns) ++ drop (4 * i) was → i ≤ length ns → 4 * length ns ≤ length was
+    → length now ≡ length was
+rows_length ns was now i e h room =
+    ap length e ∙ length-append (flat_map row_bytes (take i ns)) (drop (4 * i) was)
+    ∙ (let a = length_rows (take i ns) in let b = length-take-le i ns h in let c = length-drop (4 * i) was in omega arith)
