@@ -8,7 +8,7 @@ use lib.ListN.{length, get_or, set, take, drop, length-append, length-drop, leng
 use lib.ListN.{drop_of_length-le}
 use Rattle.std.specs.Prelude.{Result, Ok, Err, IfOk}
 use borrow.Rule.Slice.PartMut.{put_mid, Post-is}
-use lib.Seq.{take_all, take_at, drop_at, get_or_at, append_snoc, take-suc-set, drop-set-lt}
+use lib.Seq.{take_all, take_at, drop_at, get_or_at, append_snoc, take-suc-set, drop-set-lt, length-take-le}
 use Rattle.model.specs.Answer.{Answer, refused, accepted, ◌>>=◌}
 use Rattle.model.specs.Card.{Schema, decode}
 use Rattle.model.specs.Strips.{State, Action, fact_bytes, facts_in, well_formed}
@@ -25,6 +25,7 @@ use Rattle.strips.specs.Answers.{applied_says}
 use Rattle.strips.specs.declared.PressRefusal.{PressRefusal}
 use Rattle.previews.specs.Represents.{rows_for, preview_of, changes_for}
 use Rattle.previews.specs.Answers.{previewed_says, committed_says, Asks, Commits}
+use Rattle.previews.specs.declared.Rows.{Rows}
 use Rattle.previews.specs.declared.Changes.{Changes}
 use Rattle.previews.specs.declared.Foreseen.{Foreseen}
 use Rattle.previews.specs.declared.CommitRefusal.{CommitRefusal}
@@ -50,6 +51,19 @@ module _ (bytes run : List ℕ) (at n : ℕ) (room : at + 33 ≤ length bytes) (
       (ap (λ (k : ℕ). take k (set bytes at n)) (add-one at) ∙ take-suc-set bytes at n (omega arith))
       ∙ ap (λ (l : List ℕ). take at bytes ++ (n ∷ []) ++ run ++ l) (drop-set-lt (at + 33) bytes at n (omega arith))
       ∙ ap (λ (l : List ℕ). l ++ drop (at + 33) bytes) (append_assoc (take at bytes) (n ∷ []) run)
+
+  pub put_long : length (take at bytes ++ (n ∷ run) ++ drop (at + 33) bytes) ≡ length bytes
+  put_long =
+      let a = length-append (take at bytes ++ (n ∷ run)) (drop (at + 33) bytes) in
+      let b = length-append (take at bytes) (n ∷ run) in
+      let c = length-take-le at bytes (omega arith) in
+      let d = length-drop (at + 33) bytes in
+      omega arith
+
+pub rows_long : (bytes : List ℕ) (rows : Rows) (at : ℕ) {next : List ℕ} → at + 33 ≤ length bytes → length rows.rows ≡ 32
+    → next ≡ take at bytes ++ rows_shown rows ++ drop (at + 33) bytes → length next ≡ length bytes
+unfolding rows_shown
+rows_long bytes rows at room size is = ap length is ∙ put_long bytes rows.rows at rows.count room size
 
 -- the parts of changes, written one after the other, take the place of all bytes
 module _ (rest objects gone come : List ℕ) (s n : ℕ) (whole : length rest ≡ 72) (six : length objects ≡ 6) (p : length gone ≡ 33) where
