@@ -9,6 +9,15 @@ ghost use Rattle.writer.specs.Bytes.{atom_room, list_room, schema_room, header_r
 use card::{Atom, AtomList, Schema, Task};
 use writer_checks::atoms::arity;
 
+// Bytes, as many as their array has: a number that the compiler knows, so that nothing is called to copy them.
+fn write_bytes<const N: usize>(out: &mut [u8], at: usize, bytes: [u8; N]) -> usize
+    requires { at + N ≤ length out.old }
+    ensures { WritesAt N at bytes.entry out.old out.new result }
+{
+    out[at..at + N].copy_from_slice(&bytes);
+    at + N
+}
+
 // One byte.
 fn write_byte(out: &mut [u8], at: usize, b: u8) -> usize
     requires { at + 1 ≤ length out.old }
@@ -23,10 +32,12 @@ fn write_atom(out: &mut [u8], at: usize, arities: &[u8], a: Atom) -> usize
     requires { at + atom_room ≤ length out.old }
     ensures { WritesAt atom_room at (atom_bytes (atom_of arities.now a)) out.old out.new result }
 {
-    let bytes = [a.predicate, a.first, a.second, a.third];
-    let n = 1 + arity(arities, a.predicate).min(3);
-    out[at..at + n].copy_from_slice(&bytes[..n]);
-    at + n
+    match arity(arities, a.predicate) {
+        0 => write_bytes(out, at, [a.predicate]),
+        1 => write_bytes(out, at, [a.predicate, a.first]),
+        2 => write_bytes(out, at, [a.predicate, a.first, a.second]),
+        _ => write_bytes(out, at, [a.predicate, a.first, a.second, a.third]),
+    }
 }
 
 // Atoms, one after the other.

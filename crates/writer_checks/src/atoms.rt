@@ -49,6 +49,10 @@ pub(crate) fn is_below(arities: &[u8], a: Atom, b: Atom) -> bool
     if a.predicate != b.predicate {
         return a.predicate < b.predicate;
     }
-    let n = arity(arities, a.predicate).min(3);
-    arguments(a)[..n] < arguments(b)[..n]
+    match arity(arities, a.predicate) {
+        0 => false,
+        1 => [a.first] < [b.first],
+        2 => [a.first, a.second] < [b.first, b.second],
+        _ => arguments(a) < arguments(b),
+    }
 }

@@ -21,7 +21,8 @@ fn has_atom(arities: &[u8], list: AtomList, a: Atom) -> bool
         .any(|b| is_same(arities, a, *b))
 }
 
-// An atom after the one before it, if there is one.
+// An atom after the one before it, if there is one. Inlined, since each atom and each fact of a table comes here.
+#[inline(always)]
 fn check_atom(
     arities: &[u8],
     bound: usize,
