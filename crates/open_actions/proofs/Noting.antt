@@ -7,11 +7,9 @@ use mathlib.Core.Logic.{◌⊎◌, ⊎_elim}
 use mathlib.Core.List.{List}
 use lib.Bits.{and_le_r}
 use Rattle.std.specs.Prelude.{Result, Err}
-use lib.ListN.{length, get_or, set, take, drop, replicate, length-set}
-use lib.Seq.{get_or-set_same, get_or-set_other, length-take-le}
-use borrow.Rule.Slice.PartMut.{post_of, put_mid, same_len_mid}
-use Rattle.std.proofs.Common.{◌-◌, ◌++◌, eqb, length-drop}
-use Rattle.std.proofs.lemmas.List.{get_or_append_left, get_or-append_right, get_or-take, get_or-drop}
+use lib.ListN.{length, get_or, set, replicate, length-set}
+use lib.Seq.{get_or-set_same, get_or-set_other}
+use Rattle.std.proofs.Common.{eqb}
 use borrow.Author.Tests.{lt-ltb, eq-eqb}
 use Rattle.laws.proofs.Tests.{and_right, and_intro, never}
 use Rattle.laws.proofs.Orders.{compared}
@@ -73,44 +71,35 @@ recalls_all {culprits = culprits} read e some joined same so_far all = record {
 
 -- ---- what is noted
 
--- The objects of the parameters stand at a place.
-pub record Noting (old now : List ℕ) (place : ℕ) (x : List ℕ) : Type 0 where
+-- The objects of the parameters below one stand at a place.
+pub record Noting (old now : List ℕ) (place : ℕ) (x : List ℕ) (p : ℕ) : Type 0 where
+  pub within : p ≤ length x
   pub size : length now ≡ length old
-  pub objects_there : (r : ℕ) → r < length x → get_or now (7 * place + 1 + r) 0 ≡ get_or x r 0
+  pub objects_there : (r : ℕ) → r < p → get_or now (7 * place + 1 + r) 0 ≡ get_or x r 0
   pub earlier : (j : ℕ) → j < 7 * place → get_or now j 0 ≡ get_or old j 0
   pub later : (j : ℕ) → 7 * place + 7 ≤ j → get_or now j 0 ≡ get_or old j 0
 
--- a list put in the place of as many elements of another
-module _ (a k : ℕ) (old x : List ℕ) (all : k ≡ length x) (room : a + k ≤ length old) where
-  front : length (take a old) ≡ a
-  front = length-take-le a old (omega arith)
+pub note_start : {old : List ℕ} {place : ℕ} {x : List ℕ} → Noting old old place x 0
+note_start = record { within = omega arith; size = refl; objects_there = λ r k. absurd (omega arith); earlier = λ j k. refl; later = λ j k. refl }
 
-  put_size : length (put_mid a k old x) ≡ length old
-  put_size = same_len_mid a k old x (sym all ∙ sym (length-take-le k (drop a old) (omega (arith, length-drop a old))))
-
-  put_before : (j : ℕ) → j < a → get_or (put_mid a k old x) j 0 ≡ get_or old j 0
-  put_before j h = get_or_append_left (take a old) _ 0 j (omega (arith, front)) ∙ get_or-take a old j 0 h
-
-  put_there : (r : ℕ) → r < length x → get_or (put_mid a k old x) (a + r) 0 ≡ get_or x r 0
-  put_there r h =
-      get_or-append_right (take a old) _ a (a + r) 0 front (omega arith)
-      ∙ ap (λ (n : ℕ). get_or (x ++ post_of a k old) n 0) (let e : a + r - a ≡ r = omega arith in e)
-      ∙ get_or_append_left x (post_of a k old) 0 r h
-
-  put_after : (j : ℕ) → a + k ≤ j → get_or (put_mid a k old x) j 0 ≡ get_or old j 0
-  put_after j h =
-      get_or-append_right (take a old) _ a j 0 front (omega arith)
-      ∙ get_or-append_right x (post_of a k old) (length x) (j - a) 0 refl (omega arith)
-      ∙ get_or-drop k (drop a old) (j - a - length x) 0 ∙ get_or-drop a old (k + (j - a - length x)) 0
-      ∙ ap (λ (n : ℕ). get_or old n 0) (let e : a + (k + (j - a - length x)) ≡ j = omega arith in e)
-
-pub note_put : {old x : List ℕ} {place k : ℕ} → k ≡ length x → length x ≤ 6 → 7 * place + 7 ≤ length old
-    → Noting old (put_mid (7 * place + 1) k old x) place x
-note_put {old} {x} {place} {k} all few room = record {
-  size = put_size (7 * place + 1) k old x all (omega arith);
-  objects_there = put_there (7 * place + 1) k old x all (omega arith);
-  earlier = λ j h. put_before (7 * place + 1) k old x all (omega arith) j (omega arith);
-  later = λ j h. put_after (7 * place + 1) k old x all (omega arith) j (omega arith);
+pub note_next : {old now : List ℕ} {place : ℕ} {x : List ℕ} {p : ℕ} → Noting old now place x p → p < length x → length x ≤ 6
+    → 7 * place + 7 ≤ length old → Noting old (set now (7 * place + 1 + p) (get_or x p 0)) place x (p + 1)
+note_next {old} {now} {place} {x} {p} so_far more few room = record {
+  within = omega arith;
+  size = length-set now (7 * place + 1 + p) (get_or x p 0) ∙ so_far.size;
+  objects_there = λ r k.
+      ⊎_elim
+      (λ (less : r < p).
+      get_or-set_other now (7 * place + 1 + p) (7 * place + 1 + r) (get_or x p 0) 0 (λ e. absurd (omega (arith, e))) ∙ so_far.objects_there r less)
+      (⊎_elim
+      (λ (same : r ≡ p).
+      ap (λ (n : ℕ). get_or (set now (7 * place + 1 + p) (get_or x p 0)) (7 * place + 1 + n) 0) same
+      ∙ get_or-set_same now (7 * place + 1 + p) (get_or x p 0) 0 (let s = so_far.size in omega arith)
+      ∙ ap (λ (n : ℕ). get_or x n 0) (sym same))
+      (λ (over : p < r). absurd (omega arith)))
+      (compared r p);
+  earlier = λ j k. get_or-set_other now (7 * place + 1 + p) j (get_or x p 0) 0 (λ e. absurd (omega (arith, e))) ∙ so_far.earlier j k;
+  later = λ j k. get_or-set_other now (7 * place + 1 + p) j (get_or x p 0) 0 (λ e. absurd (omega (arith, e))) ∙ so_far.later j k;
 }
 
 -- the culprits come last, those of them that are parameters
@@ -118,9 +107,9 @@ pub few_fit : (c : ℕ) {b few : ℕ} → b ≡ all_below 6 → few ≡ common_o
 unfolding common_of all_below
 few_fit c {b} six e = let small = and_le_r c b in omega (arith, six, e)
 
-pub note_end : {old now : List ℕ} {place culprits b few : ℕ} {x : List ℕ} → Noting old now place x → 7 * place < length old
+pub note_end : {old now : List ℕ} {place culprits b few : ℕ} {x : List ℕ} {p : ℕ} → Noting old now place x p → length x ≤ p → 7 * place < length old
     → b ≡ all_below 6 → few ≡ common_of culprits b → Noted old (set now (7 * place) few) place culprits x
-note_end {old} {now} {place} {culprits} {b} {few} so_far room six e = record {
+note_end {old} {now} {place} {culprits} {b} {few} so_far h room six e = record {
   size = length-set now (7 * place) few ∙ so_far.size;
   culprits_there = λ r k m.
       ap (λ (n : ℕ). is_member n r)
@@ -128,7 +117,7 @@ note_end {old} {now} {place} {culprits} {b} {few} so_far room six e = record {
       ∙ common_member culprits (all_below 6) r
       ∙ and_intro (is_member culprits r) (is_member (all_below 6) r) m (all_member 6 r ∙ lt-ltb r 6 k);
   objects_there = λ r k.
-      get_or-set_other now (7 * place) (7 * place + 1 + r) few 0 (λ e. absurd (omega (arith, e))) ∙ so_far.objects_there r k;
+      get_or-set_other now (7 * place) (7 * place + 1 + r) few 0 (λ e. absurd (omega (arith, e))) ∙ so_far.objects_there r (omega arith);
   earlier = λ j k. get_or-set_other now (7 * place) j few 0 (λ e. absurd (omega (arith, e))) ∙ so_far.earlier j k;
   later = λ j k. get_or-set_other now (7 * place) j few 0 (λ e. absurd (omega (arith, e))) ∙ so_far.later j k;
 }

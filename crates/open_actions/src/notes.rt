@@ -44,8 +44,10 @@ pub(crate) fn note(notes: &mut [u8], place: usize, culprits: u64, objects: &[u8]
     if notes.len() < first + NOTE {
         return;
     }
-    let from = first + 1;
-    notes[from..from + objects.len()].copy_from_slice(objects);
+    // One by one, since they are few: copied as a slice they would be handed to memmove, which the C interface does without.
+    for (p, &o) in objects.iter().enumerate() {
+        notes[first + 1 + p] = o;
+    }
     let few = common(culprits, all_below(6));
     notes[first] = few as u8;
 }
