@@ -1,20 +1,23 @@
 -- Two atoms compared by all their bytes: as the definitions compare them, since places past the arity hold 0.
-use Prim.Native.Nat.{ℕ, zero, suc, ◌+◌, ◌≤◌, ◌<◌}
+use Prim.Native.Nat.{ℕ, zero, suc, ◌+◌, ◌*◌, ◌≤◌, ◌<◌}
+use native.Mathlib.Nat.{mul-suc, mul-le-mul_left}
 use native.Mathlib.Omega.{arith}
 use mathlib.Core.Bool.{Bool, true, false, ◌&&◌, ◌||◌, or-false, and-true}
 use mathlib.Core.List.{List, [], ◌∷◌, ◌++◌, map}
+use mathlib.Core.Logic.{◌⊎◌, inl, inr}
 use mathlib.Core.Path.{◌≡◌, refl, ap, ap₂, ◌∙◌, sym, subst, subst⁻¹}
-use borrow.Author.Tests.{eq-eqb, eqb-true, ne_eqb, le-ltb}
+use borrow.Author.Tests.{eq-eqb, eqb-true, ne_eqb, lt-ltb, le-ltb}
+use Rattle.std.proofs.lemmas.Bool.Decides.{nat_tests}
 use lib.Dec.{ltb, eqb}
 use lib.ListN.{length, take, drop, get_or, length-take}
 use Rattle.laws.specs.Lists.{any, same, before}
-use Rattle.laws.proofs.Orders.{before_append}
+use Rattle.laws.proofs.Orders.{before_append, compared as ordered}
 use Rattle.model.specs.Card as model
 use Rattle.card.specs.declared.Atom.{Atom}
 use Rattle.card.specs.declared.AtomList.{AtomList}
 use Rattle.card.specs.Represents.{entries, blank_atom, atom_of, atom_for}
 use Rattle.card.proofs.Entries.{next_entry, no_entry}
-use Rattle.reader_atoms.specs.Atoms.{bytes_of, argument_places, has_bytes}
+use Rattle.reader_atoms.specs.Atoms.{bytes_of, number_of, argument_places, has_bytes}
 
 eqb_self : (x : ℕ) → eqb x x ≡ true
 eqb_self x = eq-eqb x x refl
@@ -37,6 +40,23 @@ before_last x y = go (eqb x y)
     go true = or-false (ltb x y)
     go false = or-false (ltb x y)
 
+shifted : (k m n : ℕ) → ltb (k + m) (k + n) ≡ ltb m n
+shifted k m n = grind (arith, nat_tests)
+
+-- numbers whose high parts are elements, and whose low parts are in the order of what follows, are in the order of the lists
+module _ (unit x y m n : ℕ) (xs ys : List ℕ) (low : m < unit) (lower : n < unit) (follows : ltb m n ≡ before xs ys) where
+  before_higher : ltb (unit * x + m) (unit * y + n) ≡ before (x ∷ xs) (y ∷ ys)
+  before_higher = go (ordered x y)
+    where
+      go : (x < y) ⊎ ((x ≡ y) ⊎ (y < x)) → ltb (unit * x + m) (unit * y + n) ≡ before (x ∷ xs) (y ∷ ys)
+      go (inl less) =
+          lt-ltb _ _ (omega (arith, mul-le-mul_left {m = suc x} {n = y} unit less, mul-suc unit x))
+          ∙ sym (before_differs x y xs ys (λ e. absurd (omega (arith, e))) ∙ lt-ltb x y less)
+      go (inr (inl same)) = rw same (shifted (unit * y) m n ∙ follows ∙ sym (before_equal y y xs ys refl))
+      go (inr (inr over)) =
+          le-ltb _ _ (omega (arith, mul-le-mul_left {m = suc y} {n = x} unit over, mul-suc unit y))
+          ∙ sym (before_differs x y xs ys (λ e. absurd (omega (arith, e))) ∙ le-ltb x y (omega arith))
+
 pub same_differs : (x y : ℕ) (xs ys : List ℕ) → (x ≡ y → ⊥) → same (x ∷ xs) (y ∷ ys) ≡ false
 unfolding same
 same_differs x y xs ys d = rw (ne_eqb x y d)
@@ -48,6 +68,54 @@ same_equal x y xs ys e = rw (eq-eqb x y e)
 pub same_last : (x y : ℕ) → same (x ∷ []) (y ∷ []) ≡ eqb x y
 unfolding same
 same_last x y = and-true (eqb x y)
+
+shifted_same : (k m n : ℕ) → eqb (k + m) (k + n) ≡ eqb m n
+shifted_same k m n = grind (arith, nat_tests)
+
+-- numbers of such parts are the same where the lists are
+module _ (unit x y m n : ℕ) (xs ys : List ℕ) (low : m < unit) (lower : n < unit) (follows : eqb m n ≡ same xs ys) where
+  same_higher : eqb (unit * x + m) (unit * y + n) ≡ same (x ∷ xs) (y ∷ ys)
+  same_higher = go (ordered x y)
+    where
+      go : (x < y) ⊎ ((x ≡ y) ⊎ (y < x)) → eqb (unit * x + m) (unit * y + n) ≡ same (x ∷ xs) (y ∷ ys)
+      go (inl less) =
+          ne_eqb _ _ (λ e. absurd (omega (arith, e, mul-le-mul_left {m = suc x} {n = y} unit less, mul-suc unit x)))
+          ∙ sym (same_differs x y xs ys (λ e. absurd (omega (arith, e))))
+      go (inr (inl equal)) = rw equal (shifted_same (unit * y) m n ∙ follows ∙ sym (same_equal y y xs ys refl))
+      go (inr (inr over)) =
+          ne_eqb _ _ (λ e. absurd (omega (arith, e, mul-le-mul_left {m = suc y} {n = x} unit over, mul-suc unit y)))
+          ∙ sym (same_differs x y xs ys (λ e. absurd (omega (arith, e))))
+
+-- the arguments of an atom are bytes
+abbrev pub Bytes : Atom → Type 0
+Bytes a = (a.first < 256) × (a.second < 256) × (a.third < 256)
+
+module _ (a b : Atom) (small : Bytes a) (bytes : Bytes b) where
+  parted : (c : Atom) → number_of c ≡ 16777216 * c.predicate + (65536 * c.first + (256 * c.second + c.third))
+  unfolding number_of
+  parted c = omega arith
+
+  -- the numbers of two atoms are in the order of their bytes
+  pub numbers_in_order : ltb (number_of a) (number_of b) ≡ before (bytes_of a) (bytes_of b)
+  numbers_in_order =
+      let third = before_higher 256 a.second b.second a.third b.third _ _ small.2 bytes.2 (sym (before_last a.third b.third)) in
+      let second =
+      before_higher 65536 a.first b.first (256 * a.second + a.third) (256 * b.second + b.third) _ _ (omega (arith, small)) (omega (arith, bytes)) third
+      in
+      rw (parted a, parted b)
+      (before_higher 16777216 a.predicate b.predicate (65536 * a.first + (256 * a.second + a.third))
+      (65536 * b.first + (256 * b.second + b.third)) _ _ (omega (arith, small)) (omega (arith, bytes)) second)
+
+  -- and the same where their bytes are
+  pub numbers_same : eqb (number_of a) (number_of b) ≡ same (bytes_of a) (bytes_of b)
+  numbers_same =
+      let third = same_higher 256 a.second b.second a.third b.third _ _ small.2 bytes.2 (sym (same_last a.third b.third)) in
+      let second =
+      same_higher 65536 a.first b.first (256 * a.second + a.third) (256 * b.second + b.third) _ _ (omega (arith, small)) (omega (arith, bytes)) third
+      in
+      rw (parted a, parted b)
+      (same_higher 16777216 a.predicate b.predicate (65536 * a.first + (256 * a.second + a.third))
+      (65536 * b.first + (256 * b.second + b.third)) _ _ (omega (arith, small)) (omega (arith, bytes)) second)
 
 -- what both lists end in makes no difference, where the parts before it are as long as each other
 pub same_ends : (xs ys zs : List ℕ) → length xs ≡ length ys → same (xs ++ zs) (ys ++ zs) ≡ same xs ys

@@ -1,5 +1,5 @@
 -- What the code's atoms and the reads of them stand for.
-use Rattle.std.specs.Prelude.{Option as Maybe, None, Some, ℕ, ◌≤◌, Bool, true, not, List, [], ◌∷◌, ◌≡◌, ltb, take, drop}
+use Rattle.std.specs.Prelude.{Option as Maybe, None, Some, ℕ, ◌≤◌, Bool, true, not, List, [], ◌∷◌, ◌≡◌, ltb, take, drop, ◌+◌, ◌*◌}
 use Rattle.std.proofs.Math.Option.{Option, none, some}
 use Rattle.laws.specs.Lists.{any, same, before}
 use Rattle.model.specs.Answer.{Answer}
@@ -37,6 +37,10 @@ ArgumentsRead predicate arity card answer r = Reads (arguments_of arity) (with_a
 -- the four bytes of an atom
 abbrev pub bytes_of : Atom → List ℕ
 bytes_of a = a.predicate ∷ argument_places a
+
+-- the same as one number, the first of them highest
+unfoldable pub number_of : Atom → ℕ
+number_of a = a.predicate * 16777216 + a.first * 65536 + a.second * 256 + a.third
 
 -- an atom with the same bytes is on the list
 unfoldable pub has_bytes : AtomList → Atom → Bool

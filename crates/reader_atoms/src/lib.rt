@@ -4,6 +4,8 @@
 ghost use Rattle.std.specs.Prelude.{◌≤◌, true, ◌≡◌, length};
 ghost use Rattle.model.specs.Card.{in_range};
 ghost use Rattle.card.specs.Fields.{field_refusal};
+ghost use Rattle.laws.specs.Lists.{same, before};
+ghost use Rattle.reader_atoms.specs.Atoms.{bytes_of, number_of};
 ghost use Rattle.reader_atoms.specs.Atoms.{ArgumentsReadAt, AtomReadAt, SchemaAtomReadAt, FactReadAt, AtomsKept, PreviousKept};
 ghost use Rattle.reader_atoms.specs.Atoms.{has_bytes, above_bytes, belongs_bytes};
 
@@ -51,6 +53,27 @@ fn atom(card: &[u8], c: Cursor, arities: &[u8], bound: usize, refusal: Refusal) 
     arguments(card, c, predicate, arity, bound, refusal)
 }
 
+// The four bytes of an atom as one number, the predicate highest. Atoms are compared by it: by the derived operations, which look at one byte
+// after the other, a card with many atoms is read a quarter slower.
+fn number(a: Atom) -> u32
+    ensures { result ≡ number_of a }
+{
+    u32::from_be_bytes([a.predicate, a.first, a.second, a.third])
+}
+
+// The first atom stands below the second, byte by byte.
+fn is_below(a: Atom, b: Atom) -> bool
+    ensures { result ≡ before (bytes_of a) (bytes_of b) }
+{
+    number(a) < number(b)
+}
+
+fn is_same(a: Atom, b: Atom) -> bool
+    ensures { result ≡ same (bytes_of a) (bytes_of b) }
+{
+    number(a) == number(b)
+}
+
 // The atom is on the list.
 fn has(list: AtomList, a: Atom) -> bool
     requires { (list.count ≤ 8) × (length list.atoms ≡ 8) }
@@ -58,7 +81,7 @@ fn has(list: AtomList, a: Atom) -> bool
 {
     // `contains` was tried: it makes reading a card slower by a tenth and more.
     for i in 0..list.count {
-        if list.atoms[i] == a {
+        if is_same(a, list.atoms[i]) {
             return true;
         }
     }
@@ -69,7 +92,10 @@ fn has(list: AtomList, a: Atom) -> bool
 fn is_above(previous: Option<Atom>, a: Atom) -> bool
     ensures { result ≡ above_bytes previous a }
 {
-    previous.is_none_or(|b| b < a)
+    match previous {
+        None => true,
+        Some(b) => is_below(b, a),
+    }
 }
 
 // The atom passes the check of its own list: a deleted atom is a precondition, an added one is none.

@@ -34,11 +34,11 @@ fn number(row: [u8; 4]) -> u32
     u32::from_be_bytes(row)
 }
 
-// Four bytes as one number, the first of them highest.
+// Four bytes as one number, the first of them highest. Added up: by `number` the rows of many facts are made more than twice as slowly.
 pub fn row_number(a: u8, b: u8, c: u8, d: u8) -> u32
     ensures { result ≡ row_number (a ∷ b ∷ c ∷ d ∷ []) }
 {
-    number([a, b, c, d])
+    u32::from(a) * 16777216 + u32::from(b) * 65536 + u32::from(c) * 256 + u32::from(d)
 }
 
 // Writes the four bytes of a number as row i.
