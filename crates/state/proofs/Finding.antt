@@ -1,23 +1,19 @@
 -- Finding a row by its number, among rows whose numbers ascend.
-use Prim.Native.Nat.{ℕ, zero, suc, ◌+◌, ◌*◌, ◌≤◌, ◌<◌, zero-le}
+use Prim.Native.Nat.{ℕ, zero, suc, ◌+◌, ◌*◌, ◌≤◌, ◌<◌}
 use native.Mathlib.Nat.{le_of_suc-le-suc, not-suc-le-zero}
 use native.Mathlib.Omega.{arith}
 use mathlib.Core.Path.{◌≡◌, refl, sym, ap, ◌∙◌, subst}
-use mathlib.Core.Bool.{true, false}
-use mathlib.Core.List.{List, []}
-use lib.Dec.{ltb, eqb}
+use mathlib.Core.Bool.{false}
+use mathlib.Core.List.{List}
+use lib.Dec.{eqb}
 use lib.ListN.{length, get_or, take, drop}
 use lib.Seq.{drop-drop}
-use borrow.Author.Tests.{ltb-true, ltb-false, lt-ltb}
-use Rattle.std.specs.List.Sorted.{IsPartitionedBy, IsPartitionPoint}
-use Rattle.std.specs.Simd.{first_chunks}
 use Rattle.laws.specs.Lists.{member}
 use Rattle.sets.specs.Numbers.{place}
-use Rattle.sets.proofs.Ascending.{rising_no_less, place_is, place_within, place_past, place_up_to, member_at_place, member_past_end}
+use Rattle.sets.proofs.Ascending.{place_within, place_past, place_up_to, member_at_place, member_past_end}
 use Rattle.state.specs.Rows.{row_number, row_at, numbers_in, RowsAscend}
-use Rattle.state.proofs.Chunks.{one_row, row_inside, rows_counted}
-use Rattle.state.proofs.Writing.{length_numbers_in}
 use Rattle.state.proofs.RowBytes.{four_at}
+use Rattle.state.proofs.Writing.{length_numbers_in}
 
 -- a number of the rows is that of the row at its place
 number_at : (n i : ℕ) (buffer : List ℕ) → i < n → get_or (numbers_in n buffer) i 0 ≡ row_number (row_at i buffer)
@@ -63,31 +59,6 @@ module _ {count : ℕ} {buffer : List ℕ} (rows : RowsAscend count buffer) (n :
 
   pub number_missing : count ≤ place n numbers → false ≡ member n numbers
   number_missing h = sym (member_past_end n numbers (let all = size in omega arith))
-
-  -- The rows as the library cuts them: those below n stand before the others, and the first of the others is at the place of n.
-  module _ (items : List (List ℕ)) (are : items ≡ first_chunks 4 count buffer) where
-    number_of : (i : ℕ) (d : List ℕ) → i < length items → row_number (get_or items i d) ≡ get_or numbers i 0
-    number_of i d h =
-        let inside = row_inside items count buffer are h in
-        ap (λ (l : List (List ℕ)). row_number (get_or l i d)) are ∙ ap row_number (one_row i count buffer d inside)
-        ∙ sym (number_at count i buffer inside)
-
-    pub below_first : IsPartitionedBy (λ (row : List ℕ). ltb (row_number row) n) items
-    below_first i j d h k e =
-        let less = ltb-true (row_number (get_or items j d)) n e in
-        let counted = rows_counted items count buffer are in
-        let up = rising_no_less numbers rows.ascends i j h (let all = size in omega arith) in
-        lt-ltb (row_number (get_or items i d)) n (omega (arith, number_of i d (omega arith), number_of j d k))
-
-    pub first_other : (i : ℕ) → i ≤ length items
-        → IsPartitionPoint (λ (row : List ℕ). ltb (row_number row) n ≡ true) (λ (row : List ℕ). ltb (row_number row) n ≡ false) items i
-        → i ≡ place n numbers
-    first_other i h parted =
-        let counted = rows_counted items count buffer are in
-        let all = size in
-        place_is n numbers rows.ascends i (omega arith)
-        (λ k below. let less = ltb-true _ n (parted.0 k [] zero-le below) in omega (arith, number_of k [] (omega arith)))
-        (λ k above within. let no_less = ltb-false _ n (parted.1 k [] above (omega arith)) in omega (arith, number_of k [] (omega arith)))
 
 -- the rows of a predicate: from its least number on, and below that of the next predicate
 pub predicate_rows :

@@ -39,6 +39,11 @@ pub record Shape (arities : List ℕ) (objects : ℕ) : Type 0 where
 unfoldable pub place_right : ℕ → ℕ → ℕ → ℕ → Bool
 place_right objects arity k byte = cond (leb k arity) (ltb byte objects) (eqb byte filler)
 
+-- the bytes after a row's predicate are right
+unfoldable pub places_right : ℕ → ℕ → List ℕ → Bool
+places_right objects arity row =
+    place_right objects arity 1 (get_or row 1 0) && place_right objects arity 2 (get_or row 2 0) && place_right objects arity 3 (get_or row 3 0)
+
 -- the first n rows are right, and their numbers ascend from `least` on
 unfoldable pub rows_in : List ℕ → ℕ → ℕ → ℕ → List ℕ → Bool
 rows_in arities objects least zero buffer = true
