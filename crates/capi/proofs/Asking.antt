@@ -121,10 +121,12 @@ pub few_fits : (n : ℕ) → n ≤ 6 → SFits w32 (pos n)
 few_fits n h = number_fits n (omega arith)
 
 module _ {next : NextOpen} {o : Optional OpenAction} (ok : next ≡ Ok o) where
-  pub action_code : {a : OpenAction} → o ≡ Some a → SmallAction next → to_z w32 a.object_count ≡ signed (count_said next)
+  pub action_few : {a : OpenAction} → o ≡ Some a → SmallAction next → a.object_count ≤ 6
+  action_few {a} is small = (small.small a (ok ∙ ap Ok is)).1
+
+  pub action_code : {a : OpenAction} → o ≡ Some a → a.object_count ≤ 6 → to_z w32 a.object_count ≡ signed (count_said next)
   unfolding signed count_said
-  action_code {a} is small =
-      to_z_pos w32 (few_fits a.object_count (small.small a (ok ∙ ap Ok is)).1).sfits ∙ ap (λ (r : NextOpen). signed (count_said r)) (sym (ok ∙ ap Ok is))
+  action_code {a} is few = to_z_pos w32 (few_fits a.object_count few).sfits ∙ ap (λ (r : NextOpen). signed (count_said r)) (sym (ok ∙ ap Ok is))
 
   pub action_told : {a : OpenAction} (bytes : List ℕ) → o ≡ Some a → a.schema ∷ a.objects ≡ bytes_said next bytes
   unfolding bytes_said

@@ -71,9 +71,13 @@ module _ {asked : Asked} {l : AtomList} {parameter bound : ℕ} {x : List ℕ} w
   }
 
   module _ {i mask culprits : ℕ} (so_far : LeavesCandidates asked l i parameter bound x mask culprits) where
+    -- what some atoms leave, more of them leave too
+    pub left_at : {atoms : ℕ} → i ≤ atoms → LeavesCandidates asked l atoms parameter bound x mask culprits
+    left_at h = record { inside = so_far.inside; holds = λ y agrees there few. so_far.holds y agrees (λ j less. there j (omega arith)) few }
+
     -- an atom that takes nothing away
     pub same_left : LeavesCandidates asked l (i + 1) parameter bound x mask culprits
-    same_left = record { inside = so_far.inside; holds = λ y agrees there few. so_far.holds y agrees (λ j h. there j (omega arith)) few }
+    same_left = left_at (omega arith)
 
     -- an atom that takes something away
     pub fewer_left :
@@ -263,3 +267,7 @@ module _ {mask culprits : ℕ} {s : List Support} {room : ℕ} where
 
         here : (v : ℕ) → v ≡ o → is_member n v ≡ true
         here v same = joined v ∙ or_right (is_member m v) (is_member (single_of o) v) (single_member o v ∙ eq-eqb o v (sym same))
+
+    -- what leaves room for some objects leaves it for fewer
+    pub room_all : {known : ℕ} → known ≤ o → LeavesRoom mask culprits s room known m c
+    room_all h = record { more = so_far.more; inside = so_far.inside; crowded = λ v k. so_far.crowded v (omega arith) }

@@ -8,7 +8,7 @@ use mathlib.Core.List.Memᴰ
 use mathlib.Core.List.{List, [], ◌∷◌, ◌++◌, map, flat_map}
 use mathlib.Core.Option.{none}
 use lib.ListN.{length, get_or, set, take, drop, replicate, length-map, length-replicate}
-use lib.Seq.{take-suc, take_all, length-take-le}
+use lib.Seq.{take-suc, length-take-le}
 use Rattle.laws.specs.Lists.{all, keep, member, padded}
 use Rattle.laws.proofs.Lists.{all_at, length_keep}
 use Rattle.laws.proofs.Mapped.{flat_map_map, keep_map, keep_ext}
@@ -76,12 +76,12 @@ module _ {test : ℕ → Bool} {numbers : List ℕ} where
         let next = failed_skipped test 8 0 (take i numbers) (get_or numbers i 0) array new front_few p.counted p.are e in
         record { counted = rw one_more next.0; are = rw one_more next.1 }
 
--- all of them are looked at
-pub picked_all : {test : ℕ → Bool} {numbers : List ℕ} {i new : ℕ} {array : List ℕ} → length numbers ≤ i → Picked test numbers i new array
-    → record { count = new; numbers = array } ≡ numbers_kept (keep test numbers)
+-- all that are counted are looked at
+pub picked_all : {test : ℕ → Bool} {numbers : List ℕ} {i new : ℕ} {array : List ℕ} (count : ℕ) → i ≡ count → Picked test numbers i new array
+    → record { count = new; numbers = array } ≡ numbers_kept (keep test (take count numbers))
 unfolding numbers_kept
-picked_all {test} {numbers} {i} past p =
-    (λ j. record { count = p.counted j; numbers = p.are j }) ∙ ap (λ (ns : List ℕ). numbers_kept (keep test ns)) (take_all i numbers past)
+picked_all {test} {numbers} count e p =
+    (λ j. record { count = p.counted j; numbers = p.are j }) ∙ ap (λ (k : ℕ). numbers_kept (keep test (take k numbers))) e
 
 -- ---- numbers put in order, as rows
 

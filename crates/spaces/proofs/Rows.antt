@@ -10,7 +10,7 @@ use lib.ListN.{length, get_or}
 use borrow.Author.Tests.{lt-ltb, le-ltb}
 use Rattle.laws.specs.Lists.{keep, up_to}
 use Rattle.laws.specs.Bags.{support}
-use Rattle.laws.proofs.Lists.{up_to_at, up_to_intro, keep_at, any_intro, any_false}
+use Rattle.laws.proofs.Lists.{up_to_at, up_to_intro, keep_at, keep_intro, any_intro, any_false}
 use Rattle.laws.proofs.Mapped.{keep_ext}
 use Rattle.laws.proofs.Walks.{left, kept_passes, kept_fails, kept_none}
 use Rattle.masks.specs.Sets.{common_of}
@@ -83,6 +83,12 @@ unfolding first_of
 first_is [] e = absurd (cc)
 first_is (k ∷ ns) e = let f : k ≡ _ = cc in (ns, ap (λ (m : ℕ). m ∷ ns) f)
 
+-- a list with an element has a first number, and it is in the list
+first_in : (n : ℕ) (ns : List ℕ) → Memᴰ n ns → (k : ℕ) × (first_of ns ≡ Some k) × Memᴰ k ns
+unfolding first_of
+first_in n [] m = absurd (Memᴰ.not-nil m)
+first_in n (k ∷ ns) m = (k, refl, Memᴰ.head refl)
+
 -- a list without a first number
 pub none_first : (ns : List ℕ) → first_of ns ≡ None → ns ≡ []
 unfolding first_of
@@ -107,3 +113,9 @@ module _ (test : ℕ → Bool) (size : ℕ) where
   first_below {n} e =
       let p = first_is (keep test (up_to size)) e in
       up_to_at size n (keep_at test (up_to size) n (subst (Memᴰ n) (sym p.1) (Memᴰ.head refl))).0
+
+  -- where a number passes, there is a first that passes, and it is below the size
+  pub first_found : (i : ℕ) → i < size → test i ≡ true → (n : ℕ) × (first_of (keep test (up_to size)) ≡ Some n) × (n < size)
+  first_found i h e =
+      let p = first_in i (keep test (up_to size)) (keep_intro test (up_to size) i (up_to_intro size i h) e) in
+      (p.0, p.1, first_below p.1)

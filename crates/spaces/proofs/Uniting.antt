@@ -1,6 +1,6 @@
 -- Uniting groups: one label gives way to another, in as many places as hold it; places past the properties stay as they are.
 use Prim.Native.Nat.{ℕ, zero, suc, ◌+◌, ◌≤◌, ◌<◌, ◌-◌, min}
-use Rattle.std.specs.Prelude.{Some}
+use Rattle.std.specs.Option.{unwrap_or}
 use native.Mathlib.Omega.{arith}
 use mathlib.Core.Path.{◌≡◌, refl, sym, ap, ◌∙◌, subst}
 use mathlib.Core.Bool.{Bool, true, false, cond, ◌||◌}
@@ -103,12 +103,10 @@ unite_same groups c d e =
         by_test (eqb l g) (λ p. eqb-true l g p ∙ e ∙ sym (cond_true (eqb l g) k l p)) (λ p. sym (cond_false (eqb l g) k l p))
 
 -- bringing all together with the first, the first itself included
-pub unite_all_first : {first : ℕ} (groups cs : List ℕ) → first_of cs ≡ Some first → unite_all groups cs ≡ foldl (unite first) groups cs
+pub unite_all_first : (other : ℕ) (groups cs : List ℕ) → unite_all groups cs ≡ foldl (unite (unwrap_or (first_of cs) other)) groups cs
 unfolding unite_all first_of
-unite_all_first groups [] e = absurd (cc)
-unite_all_first {first} groups (c ∷ cs) e =
-    let f : c ≡ first = cc in
-    ap (λ (l : List ℕ). foldl (unite c) l cs) (unite_same groups c c refl) ∙ ap (λ (n : ℕ). foldl (unite n) groups (c ∷ cs)) f
+unite_all_first other groups [] = refl
+unite_all_first other groups (c ∷ cs) = ap (λ (l : List ℕ). foldl (unite c) l cs) (unite_same groups c c refl)
 
 -- Places past the properties: their label 0 stays, as no label is lower.
 zero_merged : (g h : ℕ) → cond (eqb 0 g || eqb 0 h) (min g h) 0 ≡ 0

@@ -6,11 +6,13 @@ use Rattle.open_actions.specs.declared.OpenRefusal.{OpenRefusal}
 use Rattle.capi.specs.Numbers.{signed}
 use Rattle.capi.specs.Asking.{count_said}
 use Rattle.capi.proofs.Codes.{same_code}
-use Rattle.capi.proofs.Asking.{action_code, action_told, end_code, end_told, refusal_code, refusal_told}
+use Rattle.capi.proofs.Asking.{action_few, action_code, action_told, end_code, end_told, refusal_code, refusal_told}
 use Rattle.capi.proofs.next_open_code.Goals as goal
 
 pub returns-in-Ok-Some-clause-value : goal.returns-in-Ok-Some-clause-value
-returns-in-Ok-Some-clause-value c = action_code c.in-Ok-Some.is (rw c.in-Ok-Some.is at c.in-Ok-Some.field-0-is) c.requires
+returns-in-Ok-Some-clause-value c =
+    let action = rw c.in-Ok-Some.is at c.in-Ok-Some.field-0-is in
+    action_code c.in-Ok-Some.is action (action_few c.in-Ok-Some.is action c.requires)
 
 pub returns-in-Ok-Some-clause-found_after : goal.returns-in-Ok-Some-clause-found_after
 returns-in-Ok-Some-clause-found_after c = c.action_bytes.ensures ∙ action_told c.in-Ok-Some.is _ (rw c.in-Ok-Some.is at c.in-Ok-Some.field-0-is)

@@ -1,5 +1,6 @@
 -- A number that is not in the state takes the next place.
-use Rattle.std.proofs.Common.{ℕ, List, not, sym, ap, ◌∙◌, arith}
+use Rattle.std.proofs.Common.{ℕ, List, not, refl, sym, ap, ◌∙◌, arith}
+use lib.Seq.{take_all}
 use Rattle.laws.specs.Lists.{keep}
 use Rattle.sets.proofs.Changing.{part_front}
 use Rattle.previews.specs.Represents.{numbers_kept}
@@ -40,5 +41,6 @@ loop-n-preserved c =
 
 pub returns : goal.returns
 returns c =
-    picked_all c.loop-n-test.false c.loop-n.invariant
-    ∙ ap (λ (ns : List ℕ). numbers_kept (keep (absent c.args.count c.args.state.now) ns)) (part_front c.args.facts.count c.args.facts.numbers)
+    picked_all _ refl c.loop-n.invariant
+    ∙ ap (λ (ns : List ℕ). numbers_kept (keep (absent c.args.count c.args.state.now) ns))
+    (take_all _ _ c.loop-n-test.false ∙ part_front c.args.facts.count c.args.facts.numbers)

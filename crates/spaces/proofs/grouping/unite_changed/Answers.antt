@@ -1,5 +1,6 @@
 -- Nothing is changed, or what is changed is brought together with the first of it.
-use Rattle.std.proofs.Common.{◌<◌, ◌*◌, arith}
+use Rattle.std.proofs.Common.{ℕ, ◌<◌, ◌*◌, Option, arith}
+use Rattle.std.specs.Option.{unwrap_or}
 use mathlib.Core.Path.{sym, ap, ◌∙◌}
 use mathlib.Core.Bool.{not}
 use mathlib.Core.List.{foldl}
@@ -27,7 +28,8 @@ loop-c-init c =
     let changed = changed_by (bag_at a.size a.deletes.now a.row) (bag_at a.size a.adds.now a.row) in
     pick_starts (unite first) (unite_all a.groups changed) a.size (differs a.deletes.now a.adds.now (60 * a.row)) a.groups
     (ap (foldl (unite first) a.groups) (sym (changed_kept c.requires.has_row.0 c.requires.has_row.1))
-    ∙ sym (unite_all_first a.groups changed (sym c.in-Some.ensures)))
+    ∙ ap (λ (n : Option ℕ). foldl (unite (unwrap_or n a.size)) a.groups changed) c.in-Some.ensures
+    ∙ sym (unite_all_first a.size a.groups changed))
 
 pub unite-next-requires : goal.unite-next-requires
 unite-next-requires c =

@@ -1,7 +1,7 @@
 -- Each atom leaves some of the candidates, or all.
 use Rattle.std.proofs.Common.{◌≡◌, ◌<◌, ◌∙◌, arith}
 use Rattle.card.specs.Represents.{blank_atom}
-use Rattle.open_actions.proofs.Choosing.{list_atom, all_atoms, front_atom, all_left, same_left, fewer_left}
+use Rattle.open_actions.proofs.Choosing.{list_atom, all_atoms, front_atom, all_left, left_at, same_left, fewer_left}
 use Rattle.open_actions.proofs.query.Query.candidates_for.Goals as goal
 use Rattle.open_actions.proofs.query.Query.candidates_for.Goals.{then-left-mask, else-left-mask}
 
@@ -26,7 +26,4 @@ loop-a-preserved c =
     ]
 
 pub returns : goal.returns
-returns c =
-    let all : c.loop-a.a-index ≡ c.args.list.count =
-    omega (arith, c.loop-a-test.false, c.loop-a.auto.a-index-end, all_atoms c.requires) in
-    rw all at c.loop-a.invariant
+returns c = left_at c.loop-a.invariant (omega (arith, c.loop-a.auto.a-index-end, all_atoms c.requires))
